@@ -45,7 +45,8 @@ static size_t read_ds(char *rest, uint8_t *data, size_t room) {
         if (!isxdigit((unsigned char)*at) || len == room) {
             return 0;
         }
-        unsigned digit = isdigit((unsigned char)*at) ? (unsigned)(*at - '0') : (unsigned)(tolower((unsigned char)*at) - 'a' + 10);
+        unsigned digit =
+            isdigit((unsigned char)*at) ? (unsigned)(*at - '0') : (unsigned)(tolower((unsigned char)*at) - 'a' + 10);
         data[len] = (uint8_t)(digits % 2 == 0 ? digit << 4 : data[len] | digit);
         len += digits++ % 2;
     }

@@ -97,8 +97,7 @@ void ask(struct asker *asker, const struct name *name, uint16_t rtype) {
     if (asker->in_second >= MOST_PER_SECOND || has_asked(asker, name, rtype)) {
         return;
     }
-    while (recv(asker->socket, unread, sizeof unread, 0) > 0) {
-    }
+    while (recv(asker->socket, unread, sizeof unread, 0) > 0) {}
     size_t len = write_query(name, rtype, query);
     if (send(asker->socket, query, len, 0) == (ssize_t)len) {
         table_put(asker->asked, name, rtype, (struct octets){NULL, 0}, (struct octets){NULL, 0}, now + PAUSE);

@@ -1,6 +1,6 @@
 /*
- * Asks the resolver for DS and DNSKEY sets that were not seen, where that is wanted: a resolver that logs nothing of its own traffic shows
- * them in its answers. The answers are seen in the stream alone.
+ * Asks the resolver for DS and DNSKEY sets that were not seen, where that is wanted: a resolver that logs nothing of its own
+ * traffic shows them in its answers. The answers are seen in the stream alone.
  */
 #ifndef ASKER_H
 #define ASKER_H

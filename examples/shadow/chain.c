@@ -5,7 +5,7 @@
 #include <stdlib.h>
 
 /* What is proved of a name. */
-enum cut { CUT_SIGNED = 1, CUT_UNSIGNED, CUT_NONE };
+enum cut { CUT_SIGNED = 1, CUT_UNSIGNED, CUT_UNCHECKED, CUT_NONE };
 
 struct chain {
     const struct anchors *anchors;
@@ -85,7 +85,10 @@ static void keep_cut(struct chain *chain, const struct name *at, enum cut cut, s
     table_put(chain->cuts, at, TYPE_DS, (struct octets){&mark, 1}, ds, until);
 }
 
-/* Keeps the records of a DS set that count. Where none is left of those that are there, the zone is insecure (RFC 4035, 5.2). */
+/*
+ * Keeps the records of a DS set that count. A zone of which none is left is insecure for a validator that knows no more
+ * (RFC 4035, 5.2); but a resolver may know more, and be right.
+ */
 static void keep_ds(struct chain *chain, const struct name *at, struct octets records, uint64_t until) {
     uint8_t ds[DS_ROOM];
     size_t len = 0;
@@ -99,10 +102,13 @@ static void keep_ds(struct chain *chain, const struct name *at, struct octets re
             len += size;
         }
     }
-    keep_cut(chain, at, len > 0 ? CUT_SIGNED : CUT_UNSIGNED, (struct octets){ds, len}, until);
+    keep_cut(chain, at, len > 0 ? CUT_SIGNED : CUT_UNCHECKED, (struct octets){ds, len}, until);
 }
 
-/* What NODATA for DS means: an unsigned zone where the record has type NS, else none (RFC 6840, 4.4). The question is made one for NS. */
+/*
+ * What NODATA for DS means: an unsigned zone where the record has type NS, else none (RFC 6840, 4.4). The question is made one
+ * for NS.
+ */
 static enum cut cut_of_nodata(struct chain *chain, struct trial *trial) {
     static uint8_t answer[MESSAGE_ROOM];
     memcpy(answer, trial->answer.data, trial->answer.len);
@@ -120,8 +126,16 @@ static enum cut cut_of_nodata(struct chain *chain, struct trial *trial) {
 }
 
 /* Judges an answer for DS by the keys of the zone above, and keeps what it proves. */
-static void prove(struct chain *chain, const struct place *place, const struct name *at, struct octets answer, uint64_t now, uint64_t until) {
-    struct trial trial = {.apex = place->apex, .qname = *at, .ds = {place->ds, place->ds_len}, .answer = answer, .qtype = TYPE_DS, .now = now};
+static void prove(struct chain *chain, const struct place *place, const struct name *at, struct octets answer, uint64_t now,
+                  uint64_t until) {
+    struct trial trial = {
+        .apex = place->apex,
+        .qname = *at,
+        .ds = {place->ds, place->ds_len},
+        .answer = answer,
+        .qtype = TYPE_DS,
+        .now = now,
+    };
     chain_keys(chain, &place->apex, now, &trial.dnskey);
     struct judgement judgement = judge(chain->judge, &trial);
     enum cut cut = 0;
@@ -172,7 +186,7 @@ static bool step(struct chain *chain, const struct name *at, uint64_t now, struc
     if (kept.data[0] == CUT_NONE) {
         return true;
     }
-    place->standing = kept.data[0] == CUT_SIGNED ? SIGNED : UNSIGNED;
+    place->standing = kept.data[0] == CUT_SIGNED ? SIGNED : kept.data[0] == CUT_UNSIGNED ? UNSIGNED : UNCHECKED;
     place->apex = *at;
     place->is_whole = true;
     place->ds_len = kept.len - 1;
@@ -186,6 +200,7 @@ void chain_descend(struct chain *chain, const struct name *name, uint16_t qtype,
     const struct anchor *anchor = anchor_above(chain->anchors, &target);
     place->standing = anchor != NULL ? SIGNED : NO_ANCHOR;
     place->is_whole = true;
+    place->unseen = last_labels(name, 0);
     if (anchor == NULL) {
         return;
     }

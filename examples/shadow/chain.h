@@ -1,7 +1,7 @@
 /*
- * The chain of trust: from the anchors down, by DS sets that were proved. A DS set counts where a message of the parent was judged by the
- * parent's keys, which themselves count by the parent's DS set, and as long as the TTLs of that message allow. Nothing is asked for, and
- * nothing is guessed: what no message proved is not known.
+ * The chain of trust: from the anchors down, by DS sets that were proved. A DS set counts where a message of the parent was
+ * judged by the parent's keys, which themselves count by the parent's DS set, and as long as the TTLs of that message allow.
+ * Nothing is asked for, and nothing is guessed: what no message proved is not known.
  */
 #ifndef CHAIN_H
 #define CHAIN_H
@@ -14,16 +14,17 @@ enum { DS_ROOM = 4096 };
 enum standing {
     NO_ANCHOR, /* no anchor is above the name */
     SIGNED,    /* the zone's DS set is proved */
-    UNSIGNED   /* it is proved that there is none, or none of a known algorithm */
+    UNSIGNED,  /* it is proved that there is none */
+    UNCHECKED  /* the zone's DS set is proved, and has no record of an algorithm and a digest that are checked here */
 };
 
 /* Where the way down to a name ends. */
 struct place {
     enum standing standing;
-    struct name apex; /* of the last zone on the way; of the unsigned one */
+    struct name apex; /* of the last zone on the way */
     size_t ds_len;
     uint8_t ds[DS_ROOM];
-    bool is_whole; /* it is proved of all names below the apex, up to the one that is sought, that no zone begins there */
+    bool is_whole;      /* it is proved of all names below the apex, up to the one that is sought, that no zone begins there */
     struct name unseen; /* where it is not: the first of which nothing is proved */
 };
 

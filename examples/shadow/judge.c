@@ -52,7 +52,7 @@ uint16_t judge_iterations(const struct judge *judge) {
 bool is_ds_known(struct octets data) {
     static const uint8_t algorithms[] = {8, 10, 13, 14, 15, 16}, digests[] = {2, 4};
     return data.len > 4 && memchr(algorithms, data.data[2], sizeof algorithms) != NULL
-        && memchr(digests, data.data[3], sizeof digests) != NULL;
+           && memchr(digests, data.data[3], sizeof digests) != NULL;
 }
 
 static bool make_room(struct room *room, size_t size) {
@@ -86,7 +86,10 @@ static struct zermuita_octets name_as_theirs(const struct name *name) {
     return (struct zermuita_octets){name->octets, name->len};
 }
 
-/* Checks the signatures that are asked for, and puts them at the end of those that were. Gives how many, 0 where memory runs out. */
+/*
+ * Checks the signatures that are asked for, and puts them at the end of those that were. Gives how many, 0 where memory runs
+ * out.
+ */
 static size_t check(struct judge *judge, size_t len, size_t most) {
     struct zermuita_ask ask;
     uint8_t *next = judge->out.data;
@@ -125,7 +128,10 @@ static enum zermuita_reply replied(struct judge *judge, struct zermuita_case *ha
     }
 }
 
-/* Keeps those entries of a zone that are over its keys: their signed octets begin with 0 and 48. Of many the old ones are dropped. */
+/*
+ * Keeps those entries of a zone that are over its keys: their signed octets begin with 0 and 48. Of many the old ones are
+ * dropped.
+ */
 static void keep_keys(struct judge *judge, const struct name *apex, size_t old) {
     struct room kept = {0};
     struct zermuita_ask ask;
@@ -174,16 +180,24 @@ static enum finding finding_of(enum zermuita_reply reply) {
 
 struct judgement judge(struct judge *judge, const struct trial *trial) {
     struct zermuita_case handed = {
-        .size = sizeof handed, .apex = name_as_theirs(&trial->apex), .ds = as_theirs(trial->ds), .dnskey = as_theirs(trial->dnskey),
-        .answer = as_theirs(trial->answer), .name = name_as_theirs(&trial->qname), .rtype = trial->qtype, .rclass = CLASS_IN,
-        .now = trial->now, .max_nsec3_iterations = judge->most_iterations,
+        .size = sizeof handed,
+        .apex = name_as_theirs(&trial->apex),
+        .ds = as_theirs(trial->ds),
+        .dnskey = as_theirs(trial->dnskey),
+        .answer = as_theirs(trial->answer),
+        .name = name_as_theirs(&trial->qname),
+        .rtype = trial->qtype,
+        .rclass = CLASS_IN,
+        .now = trial->now,
+        .max_nsec3_iterations = judge->most_iterations,
     };
     struct zermuita_report report = {0};
     struct octets kept = {NULL, 0};
     judge->checked.len = 0;
     /* No DS record is a proof that there is none, and gives a verdict: no case without one is handed over. */
-    if (trial->ds.len == 0 || (table_get(judge->keys, &trial->apex, TYPE_DNSKEY, 0, &kept, NULL)
-                               && !append(&judge->checked, kept.data, kept.len))) {
+    if (trial->ds.len == 0
+        || (table_get(judge->keys, &trial->apex, TYPE_DNSKEY, 0, &kept, NULL)
+            && !append(&judge->checked, kept.data, kept.len))) {
         return (struct judgement){.finding = FOUND_NOTHING, .reply = ""};
     }
     size_t known = judge->checked.len;
@@ -192,7 +206,8 @@ struct judgement judge(struct judge *judge, const struct trial *trial) {
         keep_keys(judge, &trial->apex, known);
     }
     return (struct judgement){
-        .finding = finding_of(reply), .reply = zermuita_strerror(reply),
+        .finding = finding_of(reply),
+        .reply = zermuita_strerror(reply),
         .records = {judge->out.data, zermuita_is_verdict(reply) ? report.len : 0},
     };
 }

@@ -1,6 +1,6 @@
 /*
- * A shadow of validating resolvers: reads what they say over dnstap, judges the messages that they had, and writes a line of JSON where
- * both disagree. docs/use/SHADOW.md says how it is used.
+ * A shadow of validating resolvers: reads what they say over dnstap, judges the messages that they had, and writes a line of
+ * JSON where both disagree. docs/use/SHADOW.md says how it is used.
  */
 #include "options.h"
 #include "report.h"
@@ -55,7 +55,10 @@ static uint64_t stream_moment(const struct run *run) {
     return run->newest + (steady_seconds() - run->last_event);
 }
 
-/* Compares those answers that have waited long enough, or at the end all. Where something is missing and asked for, one waits longer. */
+/*
+ * Compares those answers that have waited long enough, or at the end all. Where something is missing and asked for, one waits
+ * longer.
+ */
 static void compare_waiting(struct run *run, bool is_end) {
     struct waiting *waiting = run->waiting;
     uint64_t moment = stream_moment(run);
@@ -123,10 +126,12 @@ static void take_rest(struct run *run) {
 }
 
 static void open_shadow(struct shadow *shadow, const struct options *options, const struct anchors *anchors) {
-    shadow->judge = or_die(make_judge((uint16_t)options->iterations), "memory, or a library of another version than its header");
+    shadow->judge =
+        or_die(make_judge((uint16_t)options->iterations), "memory, or a library of another version than its header");
     shadow->chain = or_die(make_chain(anchors, shadow->judge, options->memory / 4), "memory");
     shadow->answers = or_die(make_table((struct bounds){MOST_ANSWERS, options->memory / 4}), "memory");
-    shadow->asker = options->ask != NULL ? or_die(make_asker(options->ask), "--ask: an address and a port, as 127.0.0.1@53") : NULL;
+    shadow->asker =
+        options->ask != NULL ? or_die(make_asker(options->ask), "--ask: an address and a port, as 127.0.0.1@53") : NULL;
     shadow->log = options->log != NULL ? fopen(options->log, "a") : stdout;
     if (shadow->log == NULL) {
         die(options->log);

@@ -1,9 +1,12 @@
 #include "message.h"
 
 #include <ctype.h>
-#include <stdio.h>
+enum { OPTION_EDE = 15 };
 
-/* Reads the name at a place. Gives the place behind it, or 0 where there is none. Pointers lead backwards alone, so reading ends. */
+/*
+ * Reads the name at a place. Gives the place behind it, or 0 where there is none. Pointers lead backwards alone, so reading
+ * ends.
+ */
 static size_t read_name(struct octets all, size_t at, struct name *name) {
     size_t end = 0, before = at;
     name->len = 0;
@@ -156,6 +159,19 @@ bool has_answer(const struct message *message, const struct name *owner, uint16_
 bool find_edns(const struct message *message, struct record *edns) {
     for (struct walk walk = walk_of(message); next_record(&walk, edns);) {
         if (edns->rtype == TYPE_OPT && edns->section == ADDITIONAL) {
+            return true;
+        }
+    }
+    return false;
+}
+
+bool next_extended_error(struct octets *rest, uint16_t *code) {
+    while (rest->len >= 4 && rest->len - 4 >= number16(rest->data + 2)) {
+        size_t len = number16(rest->data + 2);
+        bool is_error = number16(rest->data) == OPTION_EDE && len >= 2;
+        *code = is_error ? number16(rest->data + 4) : 0;
+        *rest = (struct octets){rest->data + 4 + len, rest->len - 4 - len};
+        if (is_error) {
             return true;
         }
     }

@@ -4,9 +4,26 @@
 
 #include "octets.h"
 
-enum { TYPE_NS = 2, TYPE_CNAME = 5, TYPE_SOA = 6, TYPE_DNAME = 39, TYPE_OPT = 41, TYPE_DS = 43, TYPE_RRSIG = 46, TYPE_NSEC = 47 };
+enum {
+    TYPE_NS = 2,
+    TYPE_CNAME = 5,
+    TYPE_SOA = 6,
+    TYPE_DNAME = 39,
+    TYPE_OPT = 41,
+    TYPE_DS = 43,
+    TYPE_RRSIG = 46,
+    TYPE_NSEC = 47
+};
 enum { TYPE_DNSKEY = 48, TYPE_NSEC3 = 50, CLASS_IN = 1 };
-enum { FLAG_QR = 0x8000, FLAG_AA = 0x0400, FLAG_TC = 0x0200, FLAG_AD = 0x0020, FLAG_CD = 0x0010, MASK_OPCODE = 0x7800, MASK_RCODE = 15 };
+enum {
+    FLAG_QR = 0x8000,
+    FLAG_AA = 0x0400,
+    FLAG_TC = 0x0200,
+    FLAG_AD = 0x0020,
+    FLAG_CD = 0x0010,
+    MASK_OPCODE = 0x7800,
+    MASK_RCODE = 15
+};
 enum { RCODE_NOERROR = 0, RCODE_SERVFAIL = 2, RCODE_NXDOMAIN = 3 };
 enum section { ANSWER, AUTHORITY, ADDITIONAL, SECTIONS };
 enum { NAME_ROOM = 255, TEXT_ROOM = 4 * NAME_ROOM + 1, HEADER = 12, MESSAGE_ROOM = 65535 };
@@ -61,11 +78,14 @@ uint32_t least_ttl(const struct message *message, uint64_t now);
 bool has_answer(const struct message *message, const struct name *owner, uint16_t rtype);
 /* The record of EDNS (RFC 6891). */
 bool find_edns(const struct message *message, struct record *edns);
+/* Takes options of EDNS off the front of `rest`, up to the next extended error (RFC 8914). Gives false where there is none. */
+bool next_extended_error(struct octets *rest, uint16_t *code);
 /* Whether a message is a referral: the owner of its NS set is the cut. */
 bool is_referral(const struct message *message, struct name *cut);
 /*
- * Writes what a message says of the DS set of a name as an answer to the question for it: the DS set, NSEC and NSEC3 records, and their
- * signatures. Gives how many octets were written, 0 where there is no room. No verdict rests on how records are put together.
+ * Writes what a message says of the DS set of a name as an answer to the question for it: the DS set, NSEC and NSEC3 records,
+ * and their signatures. Gives how many octets were written, 0 where there is no room. No verdict rests on how records are put
+ * together.
  */
 size_t write_ds_answer(const struct message *message, const struct name *cut, uint8_t *out, size_t room);
 

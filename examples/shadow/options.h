@@ -6,9 +6,9 @@
 
 struct options {
     const char *anchors, *socket, *file, *log, *ask;
-    unsigned mode;                       /* of the socket */
+    unsigned mode;                         /* of the socket */
     unsigned long every, hold, iterations; /* the first two in seconds */
-    size_t memory;                       /* in octets */
+    size_t memory;                         /* in octets */
 };
 
 /* Reads them. Where they can't be read, it prints how the program is called, and ends it with status 2. */

@@ -16,7 +16,8 @@ struct queue {
 struct queue *make_queue(size_t most_events, size_t most_octets, bool waits) {
     struct queue *queue = calloc(1, sizeof *queue);
     pthread_condattr_t by_steady_clock;
-    if (queue == NULL || (queue->ring = calloc(most_events, sizeof *queue->ring)) == NULL || pthread_condattr_init(&by_steady_clock) != 0) {
+    if (queue == NULL || (queue->ring = calloc(most_events, sizeof *queue->ring)) == NULL
+        || pthread_condattr_init(&by_steady_clock) != 0) {
         free(queue);
         return NULL;
     }
@@ -71,8 +72,7 @@ struct event *queue_take(struct queue *queue, long milliseconds, bool *is_over) 
         until.tv_nsec -= 1000000000;
     }
     pthread_mutex_lock(&queue->lock);
-    while (queue->count == 0 && !queue->has_ended && pthread_cond_timedwait(&queue->is_filled, &queue->lock, &until) == 0) {
-    }
+    while (queue->count == 0 && !queue->has_ended && pthread_cond_timedwait(&queue->is_filled, &queue->lock, &until) == 0) {}
     if (queue->count > 0) {
         event = queue->ring[queue->first];
         queue->first = (queue->first + 1) % queue->most_events;

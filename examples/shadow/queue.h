@@ -1,4 +1,7 @@
-/* A queue between the threads that read streams and the one that judges. It is bounded: what finds no room is dropped, and counted. */
+/*
+ * A queue between the threads that read streams and the one that judges. It is bounded: what finds no room is dropped, and
+ * counted.
+ */
 #ifndef QUEUE_H
 #define QUEUE_H
 
@@ -9,9 +12,9 @@ enum origin { FROM_SERVER, TO_CLIENT };
 /* A message of a stream. */
 struct event {
     enum origin origin;
-    uint64_t moment; /* in seconds since 1970 */
-    uint64_t due;    /* of an answer to a client: from which moment on it is compared */
-    unsigned tries;  /* how often that was tried */
+    uint64_t moment;  /* in seconds since 1970 */
+    uint64_t due;     /* of an answer to a client: from which moment on it is compared */
+    unsigned tries;   /* how often that was tried */
     struct name zone; /* which the resolver takes the asked server's zone for; `len` is 0 where the stream doesn't say */
     size_t len;
     uint8_t octets[];

@@ -9,10 +9,14 @@ struct shown {
 
 static struct shown shown_verdict(const struct verdict *verdict) {
     static const struct shown of[] = {
-        [FOUND_RECORDS] = {"secure", "answer"},     [FOUND_NODATA] = {"secure", "nodata"},
-        [FOUND_NXDOMAIN] = {"secure", "nxdomain"},  [FOUND_WILDCARD] = {"secure", "wildcard"},
-        [FOUND_WILDCARD_NODATA] = {"secure", "wildcard-nodata"}, [FOUND_DELEGATED] = {"insecure", "no-ds"},
-        [FOUND_OPTOUT] = {"insecure", "optout"},    [FOUND_BOGUS] = {"bogus", NULL},
+        [FOUND_RECORDS] = {"secure", "answer"},
+        [FOUND_NODATA] = {"secure", "nodata"},
+        [FOUND_NXDOMAIN] = {"secure", "nxdomain"},
+        [FOUND_WILDCARD] = {"secure", "wildcard"},
+        [FOUND_WILDCARD_NODATA] = {"secure", "wildcard-nodata"},
+        [FOUND_DELEGATED] = {"insecure", "no-ds"},
+        [FOUND_OPTOUT] = {"insecure", "optout"},
+        [FOUND_BOGUS] = {"bogus", NULL},
         [FOUND_BOGUS_KEYS] = {"bogus", NULL},
     };
     return of[verdict->finding];
@@ -67,18 +71,12 @@ static void put_question(FILE *log, const struct trial *trial) {
     fprintf(log, " TYPE%u\"}", trial->qtype);
 }
 
-/* The numbers of extended errors (RFC 8914). */
 static void put_extended_errors(FILE *log, const struct told *told) {
     struct octets rest = told->has_edns ? told->edns.data : (struct octets){NULL, 0};
     const char *before = "";
     fputs("\"ede\":[", log);
-    while (rest.len >= 4 && rest.len - 4 >= number16(rest.data + 2)) {
-        size_t len = number16(rest.data + 2);
-        if (number16(rest.data) == 15 && len >= 2) {
-            fprintf(log, "%s%u", before, number16(rest.data + 4));
-            before = ",";
-        }
-        rest = (struct octets){rest.data + 4 + len, rest.len - 4 - len};
+    for (uint16_t code; next_extended_error(&rest, &code); before = ",") {
+        fprintf(log, "%s%u", before, code);
     }
     fputc(']', log);
 }
@@ -103,7 +101,8 @@ static void put_case(struct shadow *shadow, const struct trial *trial, struct sh
     FILE *log = shadow->log;
     name_text(&trial->apex, zone);
     fprintf(log, "\"case\":{\"id\":\"shadow-%03u\",\"group\":\"shadow\",\"tries\":\"", (unsigned)(shadow->lines % 1000));
-    fputs("An answer of which a resolver and the judge say different things.\",\"rfc\":\"RFC 4035, 5\",\"kind\":\"acceptable\",\"zone\":\"", log);
+    fputs("An answer of which a resolver and the judge say different things.\",\"rfc\":\"RFC 4035, 5\",", log);
+    fputs("\"kind\":\"acceptable\",\"zone\":\"", log);
     for (const char *at = zone; *at != 0; at++) {
         fputs(*at == '\\' ? "\\\\" : (char[]){*at, 0}, log);
     }
@@ -111,7 +110,8 @@ static void put_case(struct shadow *shadow, const struct trial *trial, struct sh
     put_octets(log, "apex", octets_of(&trial->apex));
     fputc(',', log);
     put_question(log, trial);
-    fprintf(log, ",\"moment\":%llu,\"nsec3_limit\":%u,\"expected\":", (unsigned long long)trial->now, judge_iterations(shadow->judge));
+    fprintf(log, ",\"moment\":%llu,\"nsec3_limit\":%u,\"expected\":", (unsigned long long)trial->now,
+            judge_iterations(shadow->judge));
     put_result(log, expected);
     fputs(",\"also\":[", log);
     put_result(log, also);
@@ -124,7 +124,8 @@ static void put_case(struct shadow *shadow, const struct trial *trial, struct sh
     fputc('}', log);
 }
 
-void report_disagreement(struct shadow *shadow, const struct trial *trial, const struct told *told, const struct verdict *verdict) {
+void report_disagreement(struct shadow *shadow, const struct trial *trial, const struct told *told,
+                         const struct verdict *verdict) {
     FILE *log = shadow->log;
     struct shown judged = shown_verdict(verdict), said = shown_told(told);
     fprintf(log, "{\"moment\":%llu,", (unsigned long long)trial->now);
@@ -147,12 +148,26 @@ static void put_count(FILE *log, const char *name, uint64_t number) {
 
 void report_counts(const struct shadow *shadow, const struct stream_counts *stream, uint64_t dropped, uint64_t waiting) {
     static const char *const reasons[REASONS] = {
-        "alias", "type", "equal tags", "iterations", "checking disabled", "cut off", "response code", "no anchor",
-        "message not seen: DS", "message not seen: DNSKEY", "message not seen: answer", "message not seen: cut", "memory",
+        "alias",
+        "type",
+        "equal tags",
+        "iterations",
+        "algorithms",
+        "checking disabled",
+        "cut off",
+        "response code",
+        "other fault",
+        "no anchor",
+        "message not seen: DS",
+        "message not seen: DNSKEY",
+        "message not seen: answer",
+        "message not seen: cut",
+        "memory",
     };
     const struct counts *counts = &shadow->counts;
     FILE *log = shadow->log;
-    fprintf(log, "{\"moment\":%llu,\"counts\":{\"frames\":%llu", (unsigned long long)time(NULL), (unsigned long long)stream->frames);
+    fprintf(log, "{\"moment\":%llu,\"counts\":{\"frames\":%llu", (unsigned long long)time(NULL),
+            (unsigned long long)stream->frames);
     put_count(log, "unreadable frames", stream->unreadable_frames);
     put_count(log, "connections", stream->connections);
     put_count(log, "dropped", dropped);

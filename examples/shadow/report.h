@@ -6,7 +6,8 @@
 #include "stream.h"
 
 /* A disagreement: the question, both results, and the messages as a case of the corpus. */
-void report_disagreement(struct shadow *shadow, const struct trial *trial, const struct told *told, const struct verdict *verdict);
+void report_disagreement(struct shadow *shadow, const struct trial *trial, const struct told *told,
+                         const struct verdict *verdict);
 void report_counts(const struct shadow *shadow, const struct stream_counts *stream, uint64_t dropped, uint64_t waiting);
 
 #endif

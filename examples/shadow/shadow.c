@@ -16,7 +16,8 @@ static void keep_answer(struct shadow *shadow, const struct event *event, const 
     uint8_t zone[1 + NAME_ROOM] = {(uint8_t)event->zone.len};
     memcpy(zone + 1, event->zone.octets, event->zone.len);
     uint64_t until = event->moment + GRACE + least_ttl(message, event->moment);
-    table_put(shadow->answers, &message->qname, message->qtype, (struct octets){zone, 1 + event->zone.len}, message->octets, until);
+    table_put(shadow->answers, &message->qname, message->qtype, (struct octets){zone, 1 + event->zone.len}, message->octets,
+              until);
 }
 
 void shadow_learn(struct shadow *shadow, const struct event *event) {
@@ -35,6 +36,20 @@ void shadow_learn(struct shadow *shadow, const struct event *event) {
     }
 }
 
+/* Whether all that a resolver says of its SERVFAIL is of the network or of policy (RFC 8914, 4). */
+static bool is_other_fault(const struct told *told) {
+    static const uint8_t others[] = {14, 15, 16, 17, 18, 20, 22, 23};
+    struct octets rest = told->has_edns ? told->edns.data : (struct octets){NULL, 0};
+    bool is_other = false;
+    for (uint16_t code; next_extended_error(&rest, &code);) {
+        if (code > UINT8_MAX || memchr(others, code, sizeof others) == NULL) {
+            return false;
+        }
+        is_other = true;
+    }
+    return is_other;
+}
+
 /* What the resolver said. Gives false where it says nothing of a proof. */
 static bool is_told(const struct message *message, struct told *told, enum reason *reason) {
     uint16_t flags = message->flags;
@@ -51,7 +66,14 @@ static bool is_told(const struct message *message, struct told *told, enum reaso
         *reason = (flags & FLAG_CD) != 0 ? REASON_CHECKING_DISABLED : REASON_CUT_OFF;
         return false;
     }
-    told->result = told->rcode == RCODE_SERVFAIL ? BOGUS : (flags & FLAG_AD) != 0 ? SECURE : told->wants_proof ? INSECURE : UNTOLD;
+    if (told->rcode == RCODE_SERVFAIL && is_other_fault(told)) {
+        *reason = REASON_OTHER_FAULT;
+        return false;
+    }
+    told->result = told->rcode == RCODE_SERVFAIL ? BOGUS
+                   : (flags & FLAG_AD) != 0      ? SECURE
+                   : told->wants_proof           ? INSECURE
+                                                 : UNTOLD;
     return true;
 }
 
@@ -78,8 +100,9 @@ static enum result result_of(enum finding finding) {
 }
 
 /*
- * Whether a refusal of an answer says that it is bogus. It does where the answer is one of this zone: no other zone can begin on the way to
- * the name, or the zone signed some of it. Else a zone of which nothing was seen may have answered. Without trusted keys all is bogus.
+ * Whether a refusal of an answer says that it is bogus. It does where the answer is one of this zone: no other zone can begin
+ * on the way to the name, or the zone signed some of it. Else a zone of which nothing was seen may have answered. Without
+ * trusted keys all is bogus.
  */
 static bool is_of_zone(const struct place *place, const struct message *answer, const struct name *zone, enum reason *reason) {
     if (place->is_whole) {
@@ -157,10 +180,11 @@ static void count(struct shadow *shadow, const struct trial *trial, const struct
 }
 
 /*
- * Asks for what is missing, where that is wanted: keys; or DS sets of the names of which nothing is proved, down to the zone that signed
- * the answer, or all the way where none did. Gives false where nothing is asked for.
+ * Asks for what is missing, where that is wanted: keys; or DS sets of the names of which nothing is proved, down to the zone
+ * that signed the answer, or all the way where none did. Gives false where nothing is asked for.
  */
-static bool asks_for_missing(struct shadow *shadow, const struct message *client, const struct place *place, enum reason reason) {
+static bool asks_for_missing(struct shadow *shadow, const struct message *client, const struct place *place,
+                             enum reason reason) {
     struct name signer;
     if (shadow->asker == NULL || (reason != REASON_NO_DNSKEY && reason != REASON_NO_DS && reason != REASON_NO_CUT)) {
         return false;
@@ -185,8 +209,8 @@ static bool find_verdict(struct shadow *shadow, const struct message *client, co
     struct message answer;
     struct name zone;
     chain_descend(shadow->chain, &client->qname, client->qtype, trial->now, place);
-    if (place->standing == NO_ANCHOR) {
-        *reason = REASON_NO_ANCHOR;
+    if (place->standing == NO_ANCHOR || place->standing == UNCHECKED) {
+        *reason = place->standing == NO_ANCHOR ? REASON_NO_ANCHOR : REASON_ALGORITHMS;
         return false;
     }
     bool is_seen = find_answer(shadow, client, told, trial->now, &answer, &zone);
@@ -198,7 +222,8 @@ static bool find_verdict(struct shadow *shadow, const struct message *client, co
         return false;
     }
     if (place->standing == UNSIGNED && (is_seen || !is_servfail)) {
-        *verdict = (struct verdict){INSECURE, FOUND_DELEGATED, "the zone is insecure: it has no DS record of a known algorithm"};
+        *verdict =
+            (struct verdict){INSECURE, FOUND_DELEGATED, "the zone is insecure: its parent proves that it has no DS record"};
         return true;
     }
     if (!is_seen) {

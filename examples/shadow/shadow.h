@@ -13,19 +13,21 @@ enum result { SECURE, INSECURE, BOGUS, UNTOLD }; /* UNTOLD: neither secure nor b
 
 /* Why an answer was not judged. */
 enum reason {
-    REASON_ALIAS,            /* the answer gives an alias, which this version of the library does not judge */
-    REASON_TYPE,             /* the library does not judge the type */
-    REASON_EQUAL_TAGS,       /* two keys have one tag, which the library does not judge */
-    REASON_ITERATIONS,       /* the iterations are over the limit, which is a matter of policy */
+    REASON_ALIAS,             /* the answer gives an alias, which this version of the library does not judge */
+    REASON_TYPE,              /* the library does not judge the type */
+    REASON_EQUAL_TAGS,        /* two keys have one tag, which the library does not judge */
+    REASON_ITERATIONS,        /* the iterations are over the limit, which is a matter of policy */
+    REASON_ALGORITHMS,        /* the zone's DS set has no record of an algorithm and a digest that are checked here */
     REASON_CHECKING_DISABLED, /* the client asked with the bit CD */
-    REASON_CUT_OFF,          /* the answer to the client has the bit TC */
-    REASON_CODE,             /* another response code, class or operation */
-    REASON_NO_ANCHOR,        /* no trust anchor is above the name */
-    REASON_NO_DS,            /* message not seen: of a name on the way no answer for DS was seen, and it is needed */
-    REASON_NO_DNSKEY,        /* message not seen: the zone's answer for its keys */
-    REASON_NO_ANSWER,        /* message not seen: the answer itself */
-    REASON_NO_CUT,           /* message not seen: an unsigned answer in a signed zone, and whether another zone begins below it */
-    REASON_MEMORY,           /* memory ran out */
+    REASON_CUT_OFF,           /* the answer to the client has the bit TC */
+    REASON_CODE,              /* another response code, class or operation */
+    REASON_OTHER_FAULT,       /* SERVFAIL whose extended errors are of the network or of policy */
+    REASON_NO_ANCHOR,         /* no trust anchor is above the name */
+    REASON_NO_DS,             /* message not seen: of a name on the way no answer for DS was seen, and it is needed */
+    REASON_NO_DNSKEY,         /* message not seen: the zone's answer for its keys */
+    REASON_NO_ANSWER,         /* message not seen: the answer itself */
+    REASON_NO_CUT, /* message not seen: an unsigned answer in a signed zone, and whether another zone begins below it */
+    REASON_MEMORY, /* memory ran out */
     REASONS
 };
 
@@ -61,8 +63,8 @@ struct shadow {
 /* Takes what a message tells: of keys and DS sets any, of answers one of a server. */
 void shadow_learn(struct shadow *shadow, const struct event *event);
 /*
- * Compares what the resolver said to a client. Gives false where something is missing that was asked for, and the answer may wait for it:
- * it is to be compared once more.
+ * Compares what the resolver said to a client. Gives false where something is missing that was asked for, and the answer may
+ * wait for it: it is to be compared once more.
  */
 bool shadow_compare(struct shadow *shadow, const struct event *event, bool may_wait);
 

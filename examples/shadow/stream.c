@@ -27,8 +27,8 @@ struct stream_counts read_stream_counts(void) {
 
 /* The event of a message of dnstap; null where it is of another kind. */
 static struct event *event_of(const Dnstap__Message *message, struct queue *queue) {
-    bool is_of_server = message->type == DNSTAP__MESSAGE__TYPE__RESOLVER_RESPONSE
-        || message->type == DNSTAP__MESSAGE__TYPE__FORWARDER_RESPONSE;
+    bool is_of_server =
+        message->type == DNSTAP__MESSAGE__TYPE__RESOLVER_RESPONSE || message->type == DNSTAP__MESSAGE__TYPE__FORWARDER_RESPONSE;
     if ((!is_of_server && message->type != DNSTAP__MESSAGE__TYPE__CLIENT_RESPONSE) || !message->has_response_message
         || message->response_message.len > MESSAGE_ROOM) {
         return NULL;
@@ -40,7 +40,7 @@ static struct event *event_of(const Dnstap__Message *message, struct queue *queu
     }
     *event = (struct event){.origin = is_of_server ? FROM_SERVER : TO_CLIENT};
     event->moment = message->has_response_time_sec ? message->response_time_sec
-        : message->has_query_time_sec              ? message->query_time_sec
+                    : message->has_query_time_sec  ? message->query_time_sec
                                                    : (uint64_t)time(NULL);
     struct octets zone = {message->query_zone.data, message->has_query_zone ? message->query_zone.len : 0};
     if (!name_of_octets(zone, &event->zone)) {
@@ -203,7 +203,7 @@ bool start_listening(const char *path, unsigned mode, struct queue *queue) {
         unlink(path); /* that of an earlier run */
     }
     return listening.socket >= 0 && bind(listening.socket, (struct sockaddr *)&at, sizeof at) == 0 && chmod(path, mode) == 0
-        && listen(listening.socket, 16) == 0 && start_thread(accept_connections, &listening);
+           && listen(listening.socket, 16) == 0 && start_thread(accept_connections, &listening);
 }
 
 /* A file that is read. */
@@ -228,5 +228,6 @@ bool start_reading(const char *path, struct queue *queue) {
     reading = (struct reading){.reader = fstrm_file_reader_init(file, options), .queue = queue};
     fstrm_reader_options_destroy(&options);
     fstrm_file_options_destroy(&file);
-    return reading.reader != NULL && fstrm_reader_open(reading.reader) == fstrm_res_success && start_thread(run_reading, &reading);
+    return reading.reader != NULL && fstrm_reader_open(reading.reader) == fstrm_res_success
+           && start_thread(run_reading, &reading);
 }

@@ -12,8 +12,8 @@ struct stream_counts {
 /* Reads a file in a thread of its own, and ends the queue behind its last frame. Gives false where it can't be opened. */
 bool start_reading(const char *path, struct queue *queue);
 /*
- * Listens on a unix socket, which is made anew with a mode, in a thread of its own; each resolver that connects is read in one, too.
- * Gives false where that is not possible.
+ * Listens on a unix socket, which is made anew with a mode, in a thread of its own; each resolver that connects is read in one,
+ * too. Gives false where that is not possible.
  */
 bool start_listening(const char *path, unsigned mode, struct queue *queue);
 struct stream_counts read_stream_counts(void);

@@ -54,7 +54,8 @@ struct table *make_table(struct bounds bounds) {
 
 static struct entry **find(struct table *table, const struct key *key) {
     struct entry **at = &table->buckets[key->hash & table->mask];
-    while (*at != NULL && ((*at)->hash != key->hash || (*at)->key_len != key->len || memcmp((*at)->octets, key->octets, key->len) != 0)) {
+    while (*at != NULL
+           && ((*at)->hash != key->hash || (*at)->key_len != key->len || memcmp((*at)->octets, key->octets, key->len) != 0)) {
         at = &(*at)->next;
     }
     return at;
@@ -100,7 +101,8 @@ void free_table(struct table *table) {
     free(table);
 }
 
-void table_put(struct table *table, const struct name *name, uint16_t rtype, struct octets first, struct octets second, uint64_t until) {
+void table_put(struct table *table, const struct name *name, uint16_t rtype, struct octets first, struct octets second,
+               uint64_t until) {
     table_remove(table, name, rtype);
     struct key key = key_of(table, name, rtype);
     size_t len = first.len + second.len, all = sizeof(struct entry) + key.len + len;
@@ -127,7 +129,8 @@ void table_put(struct table *table, const struct name *name, uint16_t rtype, str
     table->octets += all;
 }
 
-bool table_get(struct table *table, const struct name *name, uint16_t rtype, uint64_t now, struct octets *value, uint64_t *until) {
+bool table_get(struct table *table, const struct name *name, uint16_t rtype, uint64_t now, struct octets *value,
+               uint64_t *until) {
     struct key key = key_of(table, name, rtype);
     struct entry **at = find(table, &key), *entry = *at;
     if (entry == NULL) {

@@ -1,6 +1,7 @@
 /*
- * A library that lies by one rule: LIE has two replies as numbers, and wherever the library gives the first, the second is handed on. With
- * SLOW each call takes so many milliseconds more. The linker puts it in front of the library: -Wl,--wrap=zermuita_judge_case.
+ * A library that lies by one rule: LIE has two replies as numbers, and wherever the library gives the first, the second is
+ * handed on. With SLOW each call takes so many milliseconds more. The linker puts it in front of the library:
+ * -Wl,--wrap=zermuita_judge_case.
  */
 #include <stdlib.h>
 #include <time.h>
@@ -9,7 +10,8 @@
 uint32_t __real_zermuita_judge_case(const struct zermuita_case *, uint8_t *, size_t, struct zermuita_report *);
 uint32_t __wrap_zermuita_judge_case(const struct zermuita_case *, uint8_t *, size_t, struct zermuita_report *);
 
-uint32_t __wrap_zermuita_judge_case(const struct zermuita_case *handed, uint8_t *out, size_t out_len, struct zermuita_report *report) {
+uint32_t __wrap_zermuita_judge_case(const struct zermuita_case *handed, uint8_t *out, size_t out_len,
+                                    struct zermuita_report *report) {
     const char *rule = getenv("LIE"), *slowness = getenv("SLOW");
     char *rest;
     if (slowness != NULL) {

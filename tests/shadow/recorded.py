@@ -1,4 +1,4 @@
-"""A stream in a file: what resolvers said, kept by fstrm_capture; the same with octets changed; and how the shadow takes both."""
+"""A stream in a file: what a resolver said, kept by fstrm_capture; the same with octets changed; and how the shadow takes it."""
 
 import asyncio
 import json
@@ -81,7 +81,8 @@ def rename(file, times, seed):
     drawn = random.Random(seed)
     before, frames, behind = frames_of(file)
     names = [bytes(drawn.choices(b"abcdefghijklmnopqrstuvwxyz", k=6)) for _ in range(times)]
-    renamed = [re.sub(rb"\x04test|\x06hashed|\x06optout", lambda it: it[0][:1] + name[: it[0][0]], frame) for name in names for frame in frames]
+    top = re.compile(rb"\x04test|\x06hashed|\x06optout")
+    renamed = [top.sub(lambda it: it[0][:1] + name[: it[0][0]], frame) for name in names for frame in frames]
     return write(file, "renamed", renamed, before, behind)
 
 

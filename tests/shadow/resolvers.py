@@ -1,4 +1,4 @@
-"""The four resolvers of tests/validators, each with dnstap switched on as docs/use/SHADOW.md prints it, and a shadow beside it."""
+"""The four resolvers of tests/validators, each with dnstap switched on as docs/use/SHADOW.md prints it, and a shadow."""
 
 import asyncio
 import json
@@ -65,7 +65,8 @@ class Shadow:
         """Waits until so many answers were seen, and none waits for messages."""
         for _ in range(240):
             counts = self.counts()
-            if not counts["waiting"] and counts["answers to clients"] + counts["answers to own questions"] >= answers + counts["asked"]:
+            seen = counts["answers to clients"] + counts["answers to own questions"]
+            if not counts["waiting"] and seen >= answers + counts["asked"]:
                 break
             await asyncio.sleep(0.5)
 
@@ -190,8 +191,8 @@ ALL = {"unbound": Unbound, "named": Named, "knot": Knot, "powerdns": PowerDns}
 
 
 async def asked(kind, folder, address, key, questions, program, anchor, is_validating=True, environment=None):
-    """A shadow and a resolver in a folder: what the shadow wrote once the questions were asked, and how many had no answer. A resolver
-    that doesn't validate asks for no keys, so that the shadow does."""
+    """A shadow and a resolver in a folder: what the shadow wrote once the questions were asked, and how many had no answer.
+    A resolver that doesn't validate asks for no keys, so that the shadow does."""
     folder.mkdir(parents=True)
     resolver = kind(folder, address, key)
     resolver.is_validating = is_validating
