@@ -105,3 +105,23 @@ def replay(program, folder, anchor, file, slowness):
         return shadow.end()[1]
     finally:
         shadow.process.kill()
+
+
+def refused(program, anchor, file, folder):
+    """Calls that can't be read, or whose files can't: those that end otherwise than they should."""
+    folder.mkdir()
+    texts = {"empty": "", "words": "not a record\n", "odd": ". IN DS 1 13 2 ABC\n", "old": ". IN DS 1 5 1 ABCD\n", "tag": ". IN DS 70000 13 2 AB\n"}
+    for name, text in texts.items():
+        (folder / name).write_text(text)
+    a, f = f"--anchors={anchor}", f"--file={file}"
+    calls = [
+        (2, []), (2, [a]), (2, [f]), (2, [a, f, "--socket=x"]), (2, [a, f, "more"]), (2, [a, f, "--mode=888"]), (2, [a, f, "--mode=1777"]),
+        (2, [a, f, "--memory=7"]), (2, [a, f, "--memory=-1"]), (2, [a, f, "--hold=61"]), (2, [a, f, "--iterations=65536"]), (2, [a, f, "--other"]),
+        (1, ["--anchors=none", f]), (1, [a, "--file=none"]), (1, [a, f"--file={anchor}"]), (1, [a, f"--socket={folder}/no/socket"]),
+        (1, [a, f"--socket={'x' * 200}"]), (1, [a, f, "--ask=localhost@53"]), (1, [a, f, f"--log={folder}/no/log"]),
+        *((1, [f"--anchors={folder / it}", f]) for it in texts), (0, [a, f, "--ask=::1@53"]), (0, [a, f, "--hold=0", "--memory=8"]),
+    ]
+    for status, words in calls:
+        ran = subprocess.run([program, *words], cwd=folder, stdin=subprocess.DEVNULL, capture_output=True, text=True, timeout=60)
+        if ran.returncode != status or (status != 0) != bool(ran.stderr):
+            yield f"{words}: status {ran.returncode}: {ran.stderr[-500:]}"
