@@ -58,12 +58,13 @@ class Tree:
     """The root, the parent, and the zones under test with what is below them.
 
     A zone under test has `apex`, `ds()`, `servers()`, `below()` (zones by their apexes) and `answer(name, rtype)`, a message that
-    is packed, or none; it may raise `Missing`.
+    is packed, or none; it may raise `Missing`. The servers at some addresses may be so many seconds late.
     """
 
     def __init__(self, keys, ttl=3600):
         self.keys, self.ttl, self.cases, self.children = keys, ttl, {}, {}
         self.refused = collections.Counter()
+        self.late = {}
 
     def add(self, case):
         self.cases[case.apex] = case
@@ -152,6 +153,8 @@ class Server:
     async def answered(self, octets, limit=None):
         """The answer to a question in octets, cut off behind a limit."""
         question = Question(octets)
+        if self.address in self.tree.late:
+            await asyncio.sleep(self.tree.late[self.address])
         answer = await self.found(question)
         flags = question.flags & (wire.RD | wire.CD) | (wire.RA if self.address == FORWARD else 0)
         edns = b"\0" + struct.pack(">HHIH", OPT, LIMIT, 0x8000, 0) if question.has_edns else b""

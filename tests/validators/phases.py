@@ -16,7 +16,8 @@ LEAD, PAUSE = 8, 5
 
 
 class Told(typing.NamedTuple):
-    """What a validator said of a question, beside what the zone says."""
+    """What a validator said of a question, beside what the zone says; of a difference against the clock the validator's limit that
+    it comes from, if it is known."""
 
     case: object
     question: tuple
@@ -24,6 +25,7 @@ class Told(typing.NamedTuple):
     says: object
     heard: Heard
     agrees: bool
+    limit: str = ""
 
 
 def data_of(says, apex):
@@ -77,6 +79,8 @@ class Phase:
         for case in cases:
             self.tree.add(case)
         self.cases = cases
+        # How many answers agreed when they were asked for anew.
+        self.late = 0
         self.tree.close()
         root = keys.by_name["root"]
         self.validators = [kind(folder, address_of(at), root) for at, kind in enumerate(kinds)]
@@ -107,33 +111,39 @@ class Phase:
         """Asks a validator."""
         name, rtype = question
         says = case.zone.says(name, rtype)
-        heard = await validator.hear(case.zone.owner(name, case.apex), rtype)
+        heard = await validator.ask(case.zone.owner(name, case.apex), rtype)
         return Told(case, question, validator.NAME, says, heard, agrees(validator, says, heard, case.apex))
 
-    async def tell_all(self, questions):
-        """Asks each validator about all zones; `questions` gives those for a validator and a zone."""
-        told = []
+    async def tell_all(self, cases, questions, is_control=False):
+        """Asks each validator about zones; `questions` gives those for a validator and a zone. What differs is asked anew, twice:
+        an answer may have come late."""
 
-        async def work(validator, asks):
-            for case, question in asks:
-                told.append(await self.tell(validator, case, question))
+        def asks(validator):
+            return ((case, question) for case in cases for question in questions(validator, case))
 
-        def works(validator):
-            asks = ((case, question) for case in self.cases for question in questions(validator, case))
-            return [work(validator, asks) for _ in range(validator.width)]
-
-        await asyncio.gather(*(it for validator in self.validators for it in works(validator)))
-        return await self.told_anew(told)
-
-    async def told_anew(self, told):
-        """Has what differs asked anew, some at a time: an answer may have come late."""
-        by_name = {it.NAME: it for it in self.validators}
+        told = await self.told_of({it.NAME: asks(it) for it in self.validators}, is_control)
         for _ in range(2):
             await asyncio.sleep(PAUSE)
-            places = [at for at, it in enumerate(told) if not it.agrees]
-            asks = [self.tell(by_name[told[at].validator], told[at].case, told[at].question) for at in places]
-            for at, it in zip(places, await asyncio.gather(*asks)):
-                told[at] = it
+            differing = [it for it in told if not it.agrees]
+            asks_anew = {name: iter([(it.case, it.question) for it in differing if it.validator == name]) for name in self.names()}
+            anew = await self.told_of(asks_anew, is_control)
+            self.late += sum(it.agrees for it in anew)
+            told = [*(it for it in told if it.agrees), *anew]
+        return told
+
+    def names(self):
+        return [it.NAME for it in self.validators]
+
+    async def told_of(self, asks, is_control):
+        """What validators say, of zones and questions by the name of the validator."""
+        told = []
+
+        async def work(validator):
+            for case, question in asks[validator.NAME]:
+                told.append(await self.tell(validator, case, question))
+
+        widths = ((it, it.wide if is_control else it.width) for it in self.validators)
+        await asyncio.gather(*(work(it) for it, width in widths for _ in range(width)))
         return told
 
 

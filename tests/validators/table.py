@@ -48,13 +48,14 @@ def outcome(heard):
 
 def differences(all_told, of_bind):
     """A row for each validator, chain, kind of answer and outcome that is not the zone's: how many, and what the validator says
-    of BIND's answer to the same question."""
+    of BIND's answer to the same question, or the limit that they come from."""
     bind = {(it.case.zone.shape.name, it.question, it.validator): it for it in of_bind}
     found = collections.defaultdict(collections.Counter)
     for it in all_told:
         if not it.agrees:
             beside = bind.get((it.case.zone.shape.name, it.question, it.validator))
             said = "not asked" if beside is None else "as the zone" if beside.agrees else outcome(beside.heard)
+            said = it.limit or said
             found[it.validator, chain(it), it.says.kind, outcome(it.heard)][said] += 1
     rows = []
     for (validator, of, kind, heard), counts in sorted(found.items()):
@@ -68,12 +69,13 @@ def is_limit(told, of_bind):
     return outcome(told.heard) == outcome(of_bind.heard)
 
 
-def publishers(all_told, of_bind):
-    """Differences that are the publisher's: of BIND's answer the validator says something else."""
+def publishers(all_told, of_bind, limits):
+    """Differences that are the publisher's: of BIND's answer the validator says something else, and they do not come from a limit
+    that was shown."""
     bind = {(it.case.zone.shape.name, it.question, it.validator): it for it in of_bind}
     for it in all_told:
         beside = bind.get((it.case.zone.shape.name, it.question, it.validator))
-        if not it.agrees and (beside is None or not is_limit(it, beside)):
+        if not it.agrees and it.limit not in limits and (beside is None or not is_limit(it, beside)):
             yield it
 
 
@@ -101,3 +103,9 @@ def wholes(told):
 def tells_apart(told):
     """Whether the programs take the whole zones, and refuse the broken ones."""
     return all(is_broken != (said == "well") for _program, _zone, is_broken, said in told)
+
+
+def limits(told):
+    """A row for each limit that was shown of BIND's answers."""
+    rows = [[it.limit, zones.title(it.question, it.case.apex), it.says.kind, outcome(it.heard)] for it in told if it.limit]
+    return of_lines(["limit of named", "question", "answer", "it says of BIND's answer"], rows) if rows else "none"

@@ -5,6 +5,7 @@ import ipaddress
 import pathlib
 import re
 import secrets
+import shutil
 import struct
 import subprocess
 import typing
@@ -82,9 +83,10 @@ class Client(asyncio.DatagramProtocol):
 
 
 class Validator:
-    """A validator: `width` questions are open at a time. It is told of the root's key by its DNSKEY data."""
+    """A validator: `width` questions are open at a time, where it refuses answers `wide`. It is told of the root's key by its
+    DNSKEY data."""
 
-    width = 30
+    width = wide = 30
     package = ""
 
     def __init__(self, folder, address, root_key):
@@ -92,10 +94,9 @@ class Validator:
         self.folder.mkdir()
         self.address, self.key = address, root_key
         self.process = None
-        self.gate = None
 
     async def start(self):
-        self.gate = asyncio.Semaphore(self.width)
+        pass
 
     def end(self):
         pass
@@ -107,10 +108,6 @@ class Validator:
     def anchor(self):
         return f". 3600 IN DNSKEY 257 3 {self.key.algorithm} {self.key.base64}\n"
 
-    async def hear(self, name, rtype):
-        async with self.gate:
-            return await self.ask(name, rtype)
-
     def version(self):
         ran = subprocess.run(["dpkg-query", "-W", "-f", "${Version}", self.package], capture_output=True, text=True)
         return f"{self.NAME} {re.sub('^[0-9]+:', '', ran.stdout)}"
@@ -118,7 +115,6 @@ class Validator:
 
 class Resolver(Validator):
     async def start(self):
-        await super().start()
         self.write("hints", f". 3600 NS a.root.\na.root. 3600 A {dotted(ROOT)}\n")
         self.write("anchor", self.anchor())
         self.write(self.FILE, self.configuration())
@@ -221,6 +217,10 @@ zone "." {{ type hint; file "{self.folder}/hints"; }};
 class Knot(Resolver):
     NAME, FILE, package = "Knot Resolver", "kresd.conf", "knot-resolver"
 
+    def end(self):
+        super().end()
+        shutil.rmtree(self.folder / "cache", ignore_errors=True)
+
     def command(self):
         return ["kresd", "-n", "-q", "-c", self.folder / self.FILE, self.folder]
 
@@ -275,9 +275,10 @@ security-poll-suffix=
 
 
 class Program(Validator):
-    """A program that is run for each question; it asks the server that answers for all zones."""
+    """A program that is run for each question; it asks the server that answers for all zones. delv waits for seconds where it
+    refuses an answer."""
 
-    width = 4
+    width, wide = 4, 32
 
     async def ask(self, name, rtype):
         return self.said(await self.output(self.words(wire.text(name), wire.NAMES[rtype])), rtype)
@@ -296,7 +297,6 @@ class Delv(Program):
     NAME, package = "delv", "bind9-dnsutils"
 
     async def start(self):
-        await super().start()
         self.write("anchor", f'trust-anchors {{ . static-key 257 3 {self.key.algorithm} "{self.key.base64}"; }};\n')
 
     def words(self, name, rtype):
@@ -329,7 +329,6 @@ class Drill(Program):
     NAME, package = "drill", "ldnsutils"
 
     async def start(self):
-        await super().start()
         self.write("anchor", self.anchor())
         self.write("hints", f". 3600 IN NS a.root.\na.root. 3600 IN A {dotted(ROOT)}\n")
 

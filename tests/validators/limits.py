@@ -1,0 +1,93 @@
+"""What named gets wrong against the clock, whoever publishes, shown of BIND's own answers in a zone of a few names.
+
+- An answer made of a referral's NSEC record: where a zone without DS is asked for, the referral has an NSEC record. named makes
+  other answers of it before it has validated it, and so without AD (`synth-from-dnssec`).
+- A loop at the address of a zone's server: named has the NS set, but not this address, and would have to ask the server for it
+  (`loop detected` in its log).
+"""
+
+import asyncio
+import time
+
+import bind
+import wire
+from authority import BELOW
+from phases import Phase
+from validators import Named
+from wire import A, SOA, TXT
+from zones import Shape, Zone
+
+REFERRAL = "an answer made of a referral's NSEC record"
+LOOP = "a loop at the address of a zone's server"
+# In seconds: how late the server below the delegation is, and when each question is asked. The first finds empty caches. An answer
+# for the name in `e` comes from the referral to `d`, while the server below that is waited for.
+LATE = 0.6
+TTL = 5
+ASKS = [(0, ("ns",), A), (1, (), SOA), (1.2, (), TXT), (3, ("host", "d"), A), (3.3, ("e",), A)]
+
+
+class Few(Zone):
+    """A delegation without DS, and a name below an empty non-terminal, over which the delegation's NSEC record passes."""
+
+    def add_hosts(self):
+        self.add(("b", "e"), A, lambda _apex: bytes([192, 0, 2, 1]))
+
+    def add_wildcards(self):
+        pass
+
+    def add_cuts(self):
+        self.cut(("d",), False)
+
+
+async def shown(world, folder):
+    """What named says of BIND's answers, of each question in turn."""
+    folder.mkdir()
+    zone = Few(Shape("few names"), world.seed, TTL)
+    case = bind.BindCase(zone, wire.wire("few-names.parent"), world.below, folder)
+    case.sign()
+    served = bind.Named(folder, [case])
+    try:
+        served.start()
+        case.find()
+        phase = Phase(folder / "asked", world.keys, [case], [Named], TTL)
+        phase.tree.late[BELOW] = LATE
+        async with phase:
+            begin = time.time()
+            return marked(phase, await asyncio.gather(*(ask(phase, case, begin, *it) for it in ASKS)))
+    finally:
+        served.end()
+
+
+async def ask(phase, case, begin, moment, name, rtype):
+    await asyncio.sleep(max(0.0, begin + moment - time.time()))
+    return await phase.tell(phase.validators[0], case, (name, rtype))
+
+
+def passes_over(zone, name):
+    """The owner of the NSEC record that matches or covers a name."""
+
+    def place(it):
+        return wire.canonical_order(zone.owner(it, b"\0"))
+
+    owners = {owner for owner, _rtype in zone.sets if zone.cut_above(owner) in (None, owner)}
+    return max((it for it in owners if place(it) <= place(name)), key=place)
+
+
+def marked(phase, told):
+    """With the limit that each difference of named comes from, if it is one of these."""
+    log = next(it.folder / "log" for it in phase.validators if isinstance(it, Named)).read_text(errors="replace")
+    is_named = [not it.agrees and it.validator == Named.NAME for it in told]
+    return [it._replace(limit=limit_of(it, log)) if is_its else it for it, is_its in zip(told, is_named)]
+
+
+def limit_of(told, log):
+    """The limit of named that a difference comes from, by the log of named; or none."""
+    (name, rtype), zone = told.question, told.case.zone
+    asked = f"'{wire.text(zone.owner(name, told.case.apex)).rstrip('.')}/{wire.NAMES[rtype]}'"
+    if f"loop detected resolving {asked}" in log:
+        return LOOP
+    lacks_proof = told.says.is_secure and told.heard.status != "bogus" and not told.heard.is_secure
+    is_denied = told.says.exists == (told.heard.status == "NOERROR") and not told.heard.data and not told.says.data
+    if lacks_proof and is_denied and zone.shape.chain == "nsec" and zone.cuts.get(passes_over(zone, name)) is False:
+        return REFERRAL
+    return ""
