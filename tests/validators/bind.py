@@ -1,5 +1,6 @@
 """The same zones signed by dnssec-signzone of BIND and served by named, so that the same questions can be asked of both."""
 
+import contextlib
 import socket
 import subprocess
 import threading
@@ -82,8 +83,6 @@ class BindCase(Zoned):
         return self.answers[name, rtype]
 
 
-
-
 def ask(name, rtype):
     """What named answers, over TCP."""
     octets = query(name, rtype)
@@ -141,3 +140,18 @@ controls {{ }};
         if self.process:
             self.process.terminate()
             self.process.wait(timeout=30)
+
+
+@contextlib.contextmanager
+def served(folder, cases):
+    """Has zones signed, and served while this lasts."""
+    for case in cases:
+        case.sign()
+    named = Named(folder, cases)
+    try:
+        named.start()
+        for case in cases:
+            case.find()
+        yield
+    finally:
+        named.end()

@@ -1,7 +1,7 @@
 """What named gets wrong against the clock, whoever publishes, shown of BIND's own answers in a zone of a few names.
 
-- An answer made of a referral's NSEC record: where a zone without DS is asked for, the referral has an NSEC record. named makes
-  other answers of it before it has validated it, and so without AD (`synth-from-dnssec`).
+- An answer made of a referral's NSEC record. named makes other answers of this record before it has validated it, and so without
+  AD (`synth-from-dnssec`). BIND's referrals have one where there is no DS, the publisher's always.
 - A loop at the address of a zone's server: named has the NS set, but not this address, and would have to ask the server for it
   (`loop detected` in its log).
 """
@@ -12,7 +12,7 @@ import time
 import bind
 import wire
 from authority import BELOW
-from phases import Phase
+from phases import Phase, agrees
 from validators import Named
 from wire import A, SOA, TXT
 from zones import Shape, Zone
@@ -27,7 +27,7 @@ ASKS = [(0, ("ns",), A), (1, (), SOA), (1.2, (), TXT), (3, ("host", "d"), A), (3
 
 
 class Few(Zone):
-    """A delegation without DS, and a name below an empty non-terminal, over which the delegation's NSEC record passes."""
+    """A delegation without DS, and behind it a name below an empty non-terminal, over which the delegation's NSEC record passes."""
 
     def add_hosts(self):
         self.add(("b", "e"), A, lambda _apex: bytes([192, 0, 2, 1]))
@@ -44,18 +44,12 @@ async def shown(world, folder):
     folder.mkdir()
     zone = Few(Shape("few names"), world.seed, TTL)
     case = bind.BindCase(zone, wire.wire("few-names.parent"), world.below, folder)
-    case.sign()
-    served = bind.Named(folder, [case])
-    try:
-        served.start()
-        case.find()
+    with bind.served(folder, [case]):
         phase = Phase(folder / "asked", world.keys, [case], [Named], TTL)
         phase.tree.late[BELOW] = LATE
         async with phase:
             begin = time.time()
             return marked(phase, await asyncio.gather(*(ask(phase, case, begin, *it) for it in ASKS)))
-    finally:
-        served.end()
 
 
 async def ask(phase, case, begin, moment, name, rtype):
@@ -86,8 +80,8 @@ def limit_of(told, log):
     asked = f"'{wire.text(zone.owner(name, told.case.apex)).rstrip('.')}/{wire.NAMES[rtype]}'"
     if f"loop detected resolving {asked}" in log:
         return LOOP
-    lacks_proof = told.says.is_secure and told.heard.status != "bogus" and not told.heard.is_secure
-    is_denied = told.says.exists == (told.heard.status == "NOERROR") and not told.heard.data and not told.says.data
-    if lacks_proof and is_denied and zone.shape.chain == "nsec" and zone.cuts.get(passes_over(zone, name)) is False:
+    with_proof = told.heard._replace(is_secure=True)
+    lacks_proof_alone = told.says.is_secure and agrees(None, told.says, with_proof, told.case.apex)
+    if lacks_proof_alone and zone.shape.chain == "nsec" and passes_over(zone, name) in zone.cuts:
         return REFERRAL
     return ""

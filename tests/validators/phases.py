@@ -1,6 +1,7 @@
 """Runs of the validators over a tree of zones: name servers as processes, validators, questions, what was heard."""
 
 import asyncio
+import itertools
 import multiprocessing
 import os
 import time
@@ -79,8 +80,8 @@ class Phase:
         for case in cases:
             self.tree.add(case)
         self.cases = cases
-        # How many answers agreed when they were asked for anew.
-        self.late = 0
+        # What was said first where it agreed when it was asked for anew.
+        self.late = []
         self.tree.close()
         root = keys.by_name["root"]
         self.validators = [kind(folder, address_of(at), root) for at, kind in enumerate(kinds)]
@@ -127,8 +128,17 @@ class Phase:
             differing = [it for it in told if not it.agrees]
             asks_anew = {name: iter([(it.case, it.question) for it in differing if it.validator == name]) for name in self.names()}
             anew = await self.told_of(asks_anew, is_control)
-            self.late += sum(it.agrees for it in anew)
+            agreeing = {(it.case.apex, it.question, it.validator) for it in anew if it.agrees}
+            self.late += (it for it in differing if (it.case.apex, it.question, it.validator) in agreeing)
             told = [*(it for it in told if it.agrees), *anew]
+        return told
+
+    async def tell_apart(self, pause):
+        """Asks each validator about all zones, one question of a zone at a time, with a pause in which caches forget."""
+        told = []
+        for asks in itertools.zip_longest(*([(case, it) for it in case.questions] for case in self.cases)):
+            told += await asyncio.gather(*(self.tell(it, *ask) for it in self.validators for ask in asks if ask))
+            await asyncio.sleep(pause)
         return told
 
     def names(self):

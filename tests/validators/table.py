@@ -46,17 +46,23 @@ def outcome(heard):
     return f"{heard.status}{', secure' if heard.is_secure else ''}{', with data' if heard.data else ''}"
 
 
+def by_question(of_bind):
+    """What each validator said of BIND's answer to each question, perhaps more than once."""
+    found = collections.defaultdict(list)
+    for it in of_bind:
+        found[it.case.zone.shape.name, it.question, it.validator].append(it)
+    return lambda told: found[told.case.zone.shape.name, told.question, told.validator]
+
+
 def differences(all_told, of_bind):
     """A row for each validator, chain, kind of answer and outcome that is not the zone's: how many, and what the validator says
     of BIND's answer to the same question, or the limit that they come from."""
-    bind = {(it.case.zone.shape.name, it.question, it.validator): it for it in of_bind}
+    beside = by_question(of_bind)
     found = collections.defaultdict(collections.Counter)
     for it in all_told:
         if not it.agrees:
-            beside = bind.get((it.case.zone.shape.name, it.question, it.validator))
-            said = "not asked" if beside is None else "as the zone" if beside.agrees else outcome(beside.heard)
-            said = it.limit or said
-            found[it.validator, chain(it), it.says.kind, outcome(it.heard)][said] += 1
+            said = dict.fromkeys("as the zone" if of.agrees else outcome(of.heard) for of in beside(it))
+            found[it.validator, chain(it), it.says.kind, outcome(it.heard)][it.limit or " or ".join(said) or "not asked"] += 1
     rows = []
     for (validator, of, kind, heard), counts in sorted(found.items()):
         texts = ", ".join(f"{said} ({count:,})" for said, count in sorted(counts.items()))
@@ -64,18 +70,13 @@ def differences(all_told, of_bind):
     return of_lines(["validator", "chain", "answer", "it says", "answers", "of BIND's answer it says"], rows) if rows else "none"
 
 
-def is_limit(told, of_bind):
-    """Whether the validator says the same of BIND's answer to the same question."""
-    return outcome(told.heard) == outcome(of_bind.heard)
-
-
 def publishers(all_told, of_bind, limits):
-    """Differences that are the publisher's: of BIND's answer the validator says something else, and they do not come from a limit
-    that was shown."""
-    bind = {(it.case.zone.shape.name, it.question, it.validator): it for it in of_bind}
+    """Differences that are the publisher's: the validator never says the same of BIND's answer to the same question, and they do
+    not come from a limit that was shown."""
+    beside = by_question(of_bind)
     for it in all_told:
-        beside = bind.get((it.case.zone.shape.name, it.question, it.validator))
-        if not it.agrees and it.limit not in limits and (beside is None or not is_limit(it, beside)):
+        is_limit = it.limit in limits or any(outcome(it.heard) == outcome(of.heard) for of in beside(it))
+        if not it.agrees and not is_limit:
             yield it
 
 
