@@ -1,7 +1,7 @@
-"""What named gets wrong against the clock, whoever publishes, shown of BIND's own answers in a zone of a few names.
+"""What named gets wrong, whoever publishes, shown of BIND's own answers in a zone of a few names.
 
-- An answer made of a referral's NSEC record. named makes other answers of this record before it has validated it, and so without
-  AD (`synth-from-dnssec`). BIND's referrals have one where there is no DS, the publisher's always.
+- An answer made of a referral's NSEC record. named makes other answers of this record before it has validated it, and so
+  without AD (`synth-from-dnssec`). BIND's referrals have one where there is no DS, the publisher's always.
 - A loop at the address of a zone's server: named has the NS set, but not this address, and would have to ask the server for it
   (`loop detected` in its log).
 """
@@ -19,15 +19,15 @@ from zones import Shape, Zone
 
 REFERRAL = "an answer made of a referral's NSEC record"
 LOOP = "a loop at the address of a zone's server"
-# In seconds: how late the server below the delegation is, and when each question is asked. The first finds empty caches. An answer
-# for the name in `e` comes from the referral to `d`, while the server below that is waited for.
+# In seconds: how late the server below the delegation is, and when each question is asked. The first finds empty caches. The
+# answer for `e` is made of the referral to `d`, while the server below `d` is waited for.
 LATE = 0.6
 TTL = 5
 ASKS = [(0, ("ns",), A), (1, (), SOA), (1.2, (), TXT), (3, ("host", "d"), A), (3.3, ("e",), A)]
 
 
 class Few(Zone):
-    """A delegation without DS, and behind it a name below an empty non-terminal, over which the delegation's NSEC record passes."""
+    """A delegation without DS, and an empty non-terminal, over which the delegation's NSEC record passes."""
 
     def add_hosts(self):
         self.add(("b", "e"), A, lambda _apex: bytes([192, 0, 2, 1]))

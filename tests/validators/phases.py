@@ -17,8 +17,8 @@ LEAD, PAUSE = 8, 5
 
 
 class Told(typing.NamedTuple):
-    """What a validator said of a question, beside what the zone says; of a difference against the clock the validator's limit that
-    it comes from, if it is known."""
+    """What a validator said of a question, beside what the zone says; of a difference the validator's limit that it comes
+    from, if that is known."""
 
     case: object
     question: tuple
@@ -27,6 +27,10 @@ class Told(typing.NamedTuple):
     heard: Heard
     agrees: bool
     limit: str = ""
+
+
+def asked(told):
+    return told.case.apex, told.question, told.validator
 
 
 def data_of(says, apex):
@@ -116,8 +120,8 @@ class Phase:
         return Told(case, question, validator.NAME, says, heard, agrees(validator, says, heard, case.apex))
 
     async def tell_all(self, cases, questions, is_control=False):
-        """Asks each validator about zones; `questions` gives those for a validator and a zone. What differs is asked anew, twice:
-        an answer may have come late."""
+        """Asks each validator about zones; `questions` gives those for a validator and a zone. What differs is asked anew,
+        twice: an answer may have come late."""
 
         def asks(validator):
             return ((case, question) for case in cases for question in questions(validator, case))
@@ -125,13 +129,19 @@ class Phase:
         told = await self.told_of({it.NAME: asks(it) for it in self.validators}, is_control)
         for _ in range(2):
             await asyncio.sleep(PAUSE)
-            differing = [it for it in told if not it.agrees]
-            asks_anew = {name: iter([(it.case, it.question) for it in differing if it.validator == name]) for name in self.names()}
-            anew = await self.told_of(asks_anew, is_control)
-            agreeing = {(it.case.apex, it.question, it.validator) for it in anew if it.agrees}
-            self.late += (it for it in differing if (it.case.apex, it.question, it.validator) in agreeing)
-            told = [*(it for it in told if it.agrees), *anew]
+            told = await self.told_anew(told, is_control)
         return told
+
+    async def told_anew(self, told, is_control):
+        """The same, once what differs was asked anew."""
+        asks = {it.NAME: [] for it in self.validators}
+        for it in told:
+            if not it.agrees:
+                asks[it.validator].append((it.case, it.question))
+        anew = await self.told_of({name: iter(of) for name, of in asks.items()}, is_control)
+        agreeing = {asked(it) for it in anew if it.agrees}
+        self.late += (it for it in told if not it.agrees and asked(it) in agreeing)
+        return [*(it for it in told if it.agrees), *anew]
 
     async def tell_apart(self, pause):
         """Asks each validator about all zones, one question of a zone at a time, with a pause in which caches forget."""
@@ -140,9 +150,6 @@ class Phase:
             told += await asyncio.gather(*(self.tell(it, *ask) for it in self.validators for ask in asks if ask))
             await asyncio.sleep(pause)
         return told
-
-    def names(self):
-        return [it.NAME for it in self.validators]
 
     async def told_of(self, asks, is_control):
         """What validators say, of zones and questions by the name of the validator."""

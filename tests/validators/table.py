@@ -55,8 +55,8 @@ def by_question(of_bind):
 
 
 def differences(all_told, of_bind):
-    """A row for each validator, chain, kind of answer and outcome that is not the zone's: how many, and what the validator says
-    of BIND's answer to the same question, or the limit that they come from."""
+    """A row for each validator, chain, kind of answer and outcome that is not the zone's: how many, and what the validator
+    says of BIND's answer to the same question, or the limit that they come from."""
     beside = by_question(of_bind)
     found = collections.defaultdict(collections.Counter)
     for it in all_told:
@@ -67,12 +67,13 @@ def differences(all_told, of_bind):
     for (validator, of, kind, heard), counts in sorted(found.items()):
         texts = ", ".join(f"{said} ({count:,})" for said, count in sorted(counts.items()))
         rows.append([validator, of, kind, heard, f"{sum(counts.values()):,}", texts])
-    return of_lines(["validator", "chain", "answer", "it says", "answers", "of BIND's answer it says"], rows) if rows else "none"
+    head = ["validator", "chain", "answer", "it says", "answers", "of BIND's answer it says"]
+    return of_lines(head, rows) if rows else "none"
 
 
 def publishers(all_told, of_bind, limits):
-    """Differences that are the publisher's: the validator never says the same of BIND's answer to the same question, and they do
-    not come from a limit that was shown."""
+    """Differences that are the publisher's: the validator never says the same of BIND's answer to the same question, and they
+    do not come from a limit that was shown."""
     beside = by_question(of_bind)
     for it in all_told:
         is_limit = it.limit in limits or any(outcome(it.heard) == outcome(of.heard) for of in beside(it))
