@@ -1,0 +1,5 @@
+pub mod DelegationErrors
+pub mod GroupErrors
+pub mod OverGroups
+pub mod RefusalErrors
+pub mod Untimely
