@@ -1,8 +1,8 @@
 -- Groups that were gathered of a message prove no verdict for the reason for which its RRsets prove none.
-use Rattle.std.proofs.Common.{◌≡◌, ℕ, Bool, true, false, not, ◌&&◌, ◌||◌, ◌==◌, List, [], ◌∷◌, length, refl, sym, ap, ◌∙◌, ⊎_elim, inl}
+use Rattle.std.proofs.Common.{◌≡◌, ℕ, suc, Bool, true, false, not, ◌&&◌, ◌||◌, ◌==◌, List, [], ◌∷◌, length, refl, sym, ap, ◌∙◌, ⊎_elim, inl, arith}
 use Rattle.std.specs.Prelude.{Option, Some, None, is_some, if◌then◌else◌}
 use Rattle.std.specs.List.{AllByRecursion, list_any}
-use Rattle.std.proofs.lemmas.Bool.{and_from, and_parts, eq-eqb, eqb-true, false≢true}
+use Rattle.std.proofs.lemmas.Bool.{and_from, and_parts, eq-eqb, eqb-true, false_from_ne_true, false≢true}
 use Rattle.definitions.specs.Limits.{pointer_limit}
 use Rattle.definitions.specs.Name.{Name, at_or_above, low, same}
 use Rattle.messages.specs.Message.{Asked, Spelled}
@@ -100,15 +100,19 @@ module _ (w : Trusting) (m : List ℕ) (rs : List Spelled) (is : RrsetTest) (gs 
   some_there : (g : Group) → Has gs g → list_any (is_of_rrset is) rs ≡ true
   some_there g i = let r = record_of g i in any_from (is_of_rrset is) rs r.0 r.1 r.2
 
+no_less : (n : ℕ) → (suc n == 0) ≡ false
+no_less n = false_from_ne_true (suc n == 0) (λ t. let e = eqb-true (suc n) 0 t in absurd (omega (arith, e)))
+
 none_there : (m : List ℕ) (rs : List Spelled) (is : RrsetTest) (gs : List Group) → Trusting → AreThose m rs is gs → (length gs == 0) ≡ not (list_any (is_of_rrset is) rs)
 none_there m rs is [] w those = sym (ap not (none_passes is rs those.are))
-none_there m rs is (g ∷ gs) w those = sym (ap not (some_there w m rs is (g ∷ gs) those g (inl refl)))
+none_there m rs is (g ∷ gs) w those = no_less (length gs) ∙ sym (ap not (some_there w m rs is (g ∷ gs) those g (inl refl)))
 
 pub groups_rest : (w : Trusting) (m : List ℕ) (rs : List Spelled) (is : RrsetTest) (gs : List Group) → AreThose m rs is gs → groups_error w m gs rs ≡ resting_on w pointer_limit m rs is
 groups_rest w m rs is gs those =
     let none = none_there m rs is gs w those in
     let verified = both_ways (list_any (is_marked w m rs) gs) (list_any (is_of_verified w pointer_limit m rs is) rs) (to_record w m rs is gs those) (to_group w m rs is gs those) in
-    let late = λ i. untimely w.now (signatures_of pointer_limit m w.apex (λ o t. sym (those.are o t) i) rs) in
+    let late : untimely w.now (signatures_of pointer_limit m w.apex (is_among gs) rs) ≡ untimely w.now (signatures_of pointer_limit m w.apex is rs) =
+    λ i. untimely w.now (signatures_of pointer_limit m w.apex (λ o t. sym (those.are o t) i) rs) in
     λ i. error_by (none i) (late i) (verified i)
 
 -- ---- the RRset that was asked for
