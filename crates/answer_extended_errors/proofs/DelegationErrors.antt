@@ -1,6 +1,6 @@
 -- Why no key is trusted, by what is found out of DS records, keys and their signatures.
-use Rattle.std.proofs.Common.{◌≡◌, ℕ, Bool, true, false, not, ◌&&◌, ◌||◌, ◌==◌, List, [], ◌∷◌, filter, length, sym, ap, ◌∙◌}
-use Rattle.std.specs.Prelude.{Option, Some, None, if◌then◌else◌}
+use Rattle.std.proofs.Common.{◌≡◌, ℕ, Bool, true, false, not, ◌&&◌, ◌||◌, ◌==◌, List, [], ◌∷◌, filter, length, refl, sym, ap, ◌∙◌}
+use Rattle.std.specs.Prelude.{Option, Some, None, unwrap_or, if◌then◌else◌}
 use Rattle.std.specs.List.{list_any}
 use Rattle.definitions.specs.Dnskey.{Dnskey, Ds}
 use Rattle.definitions.specs.Limits.{pointer_limit}
@@ -24,6 +24,11 @@ untrusted_by made lacking late =
     if not made then e.UnsupportedDsDigestType
     else if lacking then e.DnskeyMissing
     else elim late [ Some error ↦ error | None ↦ e.DnssecBogus ]
+
+-- what is said where none was found before
+pub late_or_bogus : (late : Option ExtendedError) → unwrap_or late e.DnssecBogus ≡ untrusted_by true false late
+late_or_bogus None = refl
+late_or_bogus (Some error) = refl
 
 module _ (a : Answers) (apex : Name) (ds : List Ds) (m : List ℕ) (rs : List Spelled) (now : ℕ) where
   abbrev keys : List Dnskey

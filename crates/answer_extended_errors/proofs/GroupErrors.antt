@@ -1,15 +1,15 @@
 -- Groups that were gathered of a message prove no verdict for the reason for which its RRsets prove none.
-use Rattle.std.proofs.Common.{◌≡◌, ℕ, suc, Bool, true, false, not, ◌&&◌, ◌||◌, ◌==◌, List, [], ◌∷◌, length, refl, sym, ap, ◌∙◌, ⊎_elim, inl, arith}
+use Rattle.std.proofs.Common.{◌≡◌, ℕ, suc, Bool, true, false, not, ◌&&◌, ◌||◌, ◌==◌, List, [], ◌∷◌, length, map, refl, sym, ap, ◌∙◌, ⊎_elim, inl, arith}
 use Rattle.std.specs.Prelude.{Option, Some, None, is_some, if◌then◌else◌}
 use Rattle.std.specs.List.{AllByRecursion, list_any}
 use Rattle.std.proofs.lemmas.Bool.{and_from, and_parts, eq-eqb, eqb-true, false_from_ne_true, false≢true}
 use Rattle.definitions.specs.Limits.{pointer_limit}
 use Rattle.definitions.specs.Name.{Name, at_or_above, low, same}
 use Rattle.messages.specs.Message.{Asked, Spelled}
-use Rattle.messages.proofs.Lists.{Has, all_at, any_from, both_ways, found}
+use Rattle.messages.proofs.Lists.{Has, all_at, any_from, both_ways, found, list_any-map}
 use Rattle.messages.proofs.ZoneNames.{labels_eq-same, same_labels}
 use Rattle.answer_hash_owners.specs.HashOwner.{spells_hash}
-use Rattle.answer_judge_facts.specs.Marked.{AreGathered, IsAlone, IsGathered, data_in, is_chain, is_chain_type, is_of, stands_alone}
+use Rattle.answer_judge_facts.specs.Marked.{AreGathered, IsAlone, IsGathered, data_in, is_chain, is_chain_type, is_of, marked, stands_alone}
 use Rattle.answer_judge_facts.specs.Sought.{is_alone}
 use Rattle.answer_judge_facts.specs.Verified.{Trusting, is_hash_alone, is_verified, one_known, rrset_in}
 use Rattle.answer_judge_facts.specs.declared.groups.Group.{Group}
@@ -50,7 +50,7 @@ alike_verified w m rs a b t u h k =
     ∙ ap (is_verified w pointer_limit m rs a u) (rrset_in-owner pointer_limit m rs a b u h)
     ∙ is_verified-owner w pointer_limit m rs a b u (rrset_in pointer_limit m rs b u) h
 
-abbrev error_by : Bool → Option ExtendedError → Bool → ExtendedError
+abbrev pub error_by : Bool → Option ExtendedError → Bool → ExtendedError
 error_by none late verified =
     if none then e.NsecMissing
     else elim late [
@@ -114,6 +114,24 @@ groups_rest w m rs is gs those =
     let late : untimely w.now (signatures_of pointer_limit m w.apex (is_among gs) rs) ≡ untimely w.now (signatures_of pointer_limit m w.apex is rs) =
     λ i. untimely w.now (signatures_of pointer_limit m w.apex (λ o t. sym (those.are o t) i) rs) in
     λ i. error_by (none i) (late i) (verified i)
+
+-- ---- what is found out of groups
+
+module _ (w : Trusting) (m : List ℕ) (gs : List Group) (rs : List Spelled) where
+  abbrev late : Option ExtendedError
+  late = untimely w.now (signatures_of pointer_limit m w.apex (is_among gs) rs)
+
+  pub none_gathered : (length gs == 0) ≡ true → e.NsecMissing ≡ groups_error w m gs rs
+  none_gathered none = sym (ap (λ b. error_by b late (list_any (is_marked w m rs) gs)) none)
+
+  pub all_late : (error : ExtendedError) → (length gs == 0) ≡ false → Some error ≡ late → error ≡ groups_error w m gs rs
+  all_late error some is = λ i. error_by (sym some i) (is i) (list_any (is_marked w m rs) gs)
+
+  pub in_use : (new : List Group) (verified : Bool) → (length gs == 0) ≡ false → None ≡ late → new ≡ map (marked w m rs) gs → list_any (λ g. is_some g.verified) new ≡ verified
+      → error_by false None verified ≡ groups_error w m gs rs
+  in_use new verified some is marks found =
+      let one = sym found ∙ ap (list_any (λ (g : Group). is_some g.verified)) marks ∙ list_any-map (λ (g : Group). is_some g.verified) (marked w m rs) gs in
+      λ i. error_by (sym some i) (is i) (one i)
 
 -- ---- the RRset that was asked for
 
