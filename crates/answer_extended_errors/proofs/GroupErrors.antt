@@ -2,6 +2,8 @@
 use Rattle.std.proofs.Common.{◌≡◌, ℕ, suc, Bool, true, false, not, ◌&&◌, ◌||◌, ◌==◌, List, [], ◌∷◌, length, map, refl, sym, ap, ◌∙◌, ⊎_elim, inl, arith}
 use Rattle.std.specs.Prelude.{Option, Some, None, is_some, if◌then◌else◌}
 use Rattle.std.specs.List.{AllByRecursion, list_any}
+use Rattle.std.specs.Cow.{cow_slice_items}
+use Rattle.std.proofs.lemmas.List.{length-map}
 use Rattle.std.proofs.lemmas.Bool.{and_from, and_parts, eq-eqb, eqb-true, false_from_ne_true, false≢true}
 use Rattle.definitions.specs.Limits.{pointer_limit}
 use Rattle.definitions.specs.Name.{Name, at_or_above, low, same}
@@ -134,6 +136,10 @@ module _ (w : Trusting) (m : List ℕ) (gs : List Group) (rs : List Spelled) whe
       λ i. error_by (sym some i) (is i) (one i)
 
 -- ---- the RRset that was asked for
+
+-- a group without data
+pub data_empty : (g : Group) (empty is : Bool) → empty ≡ (length g.items.items == 0) → empty ≡ is → (length (data_in g) == 0) ≡ is
+data_empty g empty is e h = ap (λ n. n == 0) (length-map g.items.items cow_slice_items) ∙ sym e ∙ h
 
 pub asked_is : (m : List ℕ) (rs : List Spelled) (q : Asked) (g : Group) → g.owner ≡ q.name → g.rtype ≡ q.rtype → data_in g ≡ rrset_in pointer_limit m rs q.name q.rtype → g.verified ≡ None → (length (data_in g) == 0) ≡ false → AreThose m rs (is_rrset_asked q) (g ∷ [])
 asked_is m rs q g o t d v some = record {

@@ -1,10 +1,11 @@
 -- The error of each refusal, by what was read of the messages that were handed in.
-use Rattle.std.proofs.Common.{◌≡◌, ℕ, List, refl, sym, ap, ◌∙◌}
+use Rattle.std.proofs.Common.{◌≡◌, ℕ, List, filter, length, refl, sym, ap, ◌∙◌}
 use Rattle.std.specs.Prelude.{Option, Some, None, Result, Ok, Err}
 use Rattle.messages.specs.Message.{Message, Spelled, message}
 use Rattle.messages.specs.declared.error.MessageError.{MessageError}
 use Rattle.answer_scheme.specs.Answers.{Answers}
-use Rattle.answer_judge_keys.specs.Judging.{Handing}
+use Rattle.answer_judge_keys.specs.Judging.{Handing, signatures_in}
+use Rattle.answer_judge_keys.specs.Trusted.{is_signature}
 use Rattle.answer_judge_keys.specs.declared.verdict.Refusal.{Refusal}
 use Rattle.answer_judge_keys.specs.declared.verdict.Refusal.TheVariants as r
 use Rattle.answer_extended_errors.specs.Extended.{extended_error_of, plain_error, records_in, unproven, unproven_beside, untrusted, untrusted_keys}
@@ -37,6 +38,21 @@ unread k m error is = sym (ap records_from is)
 
 pub are_read : (k : ℕ) (m : List ℕ) (view : Message) (rs : List Spelled) → message k m ≡ Ok view → rs ≡ view.records → Some rs ≡ records_in k m
 are_read k m view rs is all = ap (λ (ss : List Spelled). Some ss) all ∙ sym (ap records_from is)
+
+abbrev counted : Option (List Spelled) → ℕ
+counted None = 0
+counted (Some rs) = length (filter is_signature rs)
+
+signatures_are : (k : ℕ) (m : List ℕ) → signatures_in k m ≡ counted (records_in k m)
+signatures_are k m = go (message k m)
+  where
+    go : (read : Result Message MessageError) → elim read as (λ _. ℕ) [ Err e ↦ 0 | Ok view ↦ length (filter is_signature view.records) ] ≡ counted (records_from read)
+    go (Err e) = refl
+    go (Ok view) = refl
+
+-- as many signatures as the records have that were read
+pub signatures_read : (k : ℕ) (m : List ℕ) (rs : List Spelled) → Some rs ≡ records_in k m → signatures_in k m ≡ length (filter is_signature rs)
+signatures_read k m rs some = signatures_are k m ∙ ap counted (sym some)
 
 -- ---- no trusted key
 
