@@ -41,8 +41,8 @@ returns-then-is_empty-clause-exact g c = λ test fits.
     let rs = map spelled c.args.records.now in
     let q = asked_of c.args.question.now in
     let x = c.in_ok-group.group in
-    let data : data_in x ≡ rrset_in pointer_limit m rs q.name q.rtype = c.in_ok-group.ensures.items ∙ ap (λ n. rrset_in pointer_limit m rs n q.rtype) c.in_ok-owner.ensures in
-    let none : (length (rrset_in pointer_limit m rs q.name q.rtype) == 0) ≡ true = ap (λ ds. length ds == 0) (sym data) ∙ data_empty x c.is_empty.result true (c.is_empty.ensures ∙ ap (λ n. n == 0) x.items.ok.0) c.if-is_empty.true in
+    let items : data_in x ≡ rrset_in pointer_limit m rs q.name q.rtype = c.in_ok-group.ensures.items ∙ ap (λ n. rrset_in pointer_limit m rs n q.rtype) c.in_ok-owner.ensures in
+    let none : (length (rrset_in pointer_limit m rs q.name q.rtype) == 0) ≡ true = ap (λ ds. length ds == 0) (sym items) ∙ data_empty x c.is_empty.result true (c.is_empty.ensures ∙ ap (λ n. n == 0) x.items.ok.0) c.if-is_empty.true in
     let ys = map spelled c.deref.result.now in
     let moved = subst (λ vs. IsPermutation (filter is_chain rs) (map spelled vs)) (sym c.deref.ensures.value) c.in_ok-chained.ensures.moved in
     let chains = c.in_ok-chain.chain.items in
@@ -58,10 +58,10 @@ returns-clause-exact g c = λ test fits.
     let q = asked_of c.args.question.now in
     let x = c.in_ok-group.group in
     let owner = c.in_ok-group.ensures.owner ∙ c.in_ok-owner.ensures in
-    let data : data_in x ≡ rrset_in pointer_limit m rs q.name q.rtype = c.in_ok-group.ensures.items ∙ ap (λ n. rrset_in pointer_limit m rs n q.rtype) c.in_ok-owner.ensures in
+    let items : data_in x ≡ rrset_in pointer_limit m rs q.name q.rtype = c.in_ok-group.ensures.items ∙ ap (λ n. rrset_in pointer_limit m rs n q.rtype) c.in_ok-owner.ensures in
     let some : (length (data_in x) == 0) ≡ false = data_empty x c.is_empty.result false (c.is_empty.ensures ∙ ap (λ n. n == 0) x.items.ok.0) c.if-is_empty.false in
-    let filled : (length (rrset_in pointer_limit m rs q.name q.rtype) == 0) ≡ false = ap (λ ds. length ds == 0) (sym data) ∙ some in
+    let filled : (length (rrset_in pointer_limit m rs q.name q.rtype) == 0) ≡ false = ap (λ ds. length ds == 0) (sym items) ∙ some in
     let all : c.deref_mut.result.now ≡ x ∷ [] = c.deref_mut.ensures.value ∙ c.in_ok-push.ensures.items ∙ ap (λ gs. gs ++ x ∷ []) c.in_ok-asked.ensures.items in
-    let those = asked_is m rs q x owner c.in_ok-group.ensures.rtype data c.in_ok-group.ensures.unverified some in
+    let those = asked_is m rs q x owner c.in_ok-group.ensures.rtype items c.in_ok-group.ensures.unverified some in
     let path = ap (λ gs. groups_error w m gs rs) all ∙ unproven_is w m rs q false (x ∷ []) filled those in
     subst (λ x. IfOk c.error_of_groups.result (λ e. e ≡ x)) path (c.error_of_groups.ensures.exact test fits)
