@@ -28,10 +28,10 @@ read_chain_groups-requires g c =
 pub error_of_groups-requires-clause-ranked : goal.error_of_groups-requires-clause-ranked
 error_of_groups-requires-clause-ranked g c = subst AreRanked (sym c.deref_mut.ensures.value) c.in_ok-chain.ensures.ranked
 
-pub error_of_groups-2-requires-clause-ranked : goal.error_of_groups-2-requires-clause-ranked
-error_of_groups-2-requires-clause-ranked g c =
+pub error_of_groups-requires-2-clause-ranked : goal.error_of_groups-requires-2-clause-ranked
+error_of_groups-requires-2-clause-ranked g c =
     let x = c.in_ok-group.group in
-    let all : c.deref_mut.result.now ≡ x ∷ [] = c.deref_mut.ensures.value ∙ c.in_ok-push.ensures.items ∙ ap (λ gs. gs ++ x ∷ []) c.in_ok-asked.ensures.items in
+    let all : c.deref_mut-2.result.now ≡ x ∷ [] = c.deref_mut-2.ensures.value ∙ c.in_ok-push.ensures.items ∙ ap (λ gs. gs ++ x ∷ []) c.in_ok-asked.ensures.items in
     subst AreRanked (sym all) (one_ranked x)
 
 pub returns-then-is_empty-clause-exact : goal.returns-then-is_empty-clause-exact
@@ -61,7 +61,7 @@ returns-clause-exact g c = λ test fits.
     let items : data_in x ≡ rrset_in pointer_limit m rs q.name q.rtype = c.in_ok-group.ensures.items ∙ ap (λ n. rrset_in pointer_limit m rs n q.rtype) c.in_ok-owner.ensures in
     let some : (length (data_in x) == 0) ≡ false = data_empty x c.is_empty.result false (c.is_empty.ensures ∙ ap (λ n. n == 0) x.items.ok.0) c.if-is_empty.false in
     let filled : (length (rrset_in pointer_limit m rs q.name q.rtype) == 0) ≡ false = ap (λ ds. length ds == 0) (sym items) ∙ some in
-    let all : c.deref_mut.result.now ≡ x ∷ [] = c.deref_mut.ensures.value ∙ c.in_ok-push.ensures.items ∙ ap (λ gs. gs ++ x ∷ []) c.in_ok-asked.ensures.items in
+    let all : c.deref_mut-2.result.now ≡ x ∷ [] = c.deref_mut-2.ensures.value ∙ c.in_ok-push.ensures.items ∙ ap (λ gs. gs ++ x ∷ []) c.in_ok-asked.ensures.items in
     let those = asked_is m rs q x owner c.in_ok-group.ensures.rtype items c.in_ok-group.ensures.unverified some in
     let path = ap (λ gs. groups_error w m gs rs) all ∙ unproven_is w m rs q false (x ∷ []) filled those in
-    subst (λ x. IfOk c.error_of_groups.result (λ e. e ≡ x)) path (c.error_of_groups.ensures.exact test fits)
+    subst (λ x. IfOk c.error_of_groups-2.result (λ e. e ≡ x)) path (c.error_of_groups-2.ensures.exact test fits)

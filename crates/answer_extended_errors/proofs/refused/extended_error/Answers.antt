@@ -22,7 +22,7 @@ returns-in-NotProven-clause-exact g c = λ test fits.
     let path = ap (λ v. unproven (with_test v test) pointer_limit h) same ∙ ap (extended_error_of (with_test own test) pointer_limit h) (sym c.in-NotProven.is) in
     subst (λ x. IfOk c.unproven.result (λ e. e ≡ x)) path (c.unproven.ensures.exact test (agreed_by own _ test _ same fits))
 
-pub returns-in_default-clause-exact : goal.returns-in_default-clause-exact
-returns-in_default-clause-exact g c = λ test fits.
+pub returns-clause-exact : goal.returns-clause-exact
+returns-clause-exact g c = λ test fits.
     let a = with_test (g.C.Checks.answers c.args.checks.now) test in
     c.plain_error.ensures ∙ plain_is a pointer_limit c.args.case.now c.args.refusal c.in_default.not-NoTrustedKey c.in_default.not-NotProven

@@ -19,14 +19,14 @@ returns-in_default-clause-exact g c = λ test fits.
     let none : None ≡ records_in pointer_limit h.dnskey_bytes = rw c.in_default.is at c.in_ok-key_records.ensures.exact ∙ ap (λ (h : Handing). records_in pointer_limit h.dnskey_bytes) is in
     no_keys a pointer_limit h none
 
-pub returns-in_default-records-clause-exact : goal.returns-in_default-records-clause-exact
-returns-in_default-records-clause-exact g c = λ test fits.
+pub returns-in_default-2-clause-exact : goal.returns-in_default-2-clause-exact
+returns-in_default-2-clause-exact g c = λ test fits.
     let a = with_test (g.C.Checks.answers c.args.verifier.now.checks.now) test in
     let h = c.args.case.now in
     let is = c.case.view_is in
     let keys = map spelled c.in-Some.key_records.items in
     let first : Some keys ≡ records_in pointer_limit h.dnskey_bytes = rw c.in-Some.is at c.in_ok-key_records.ensures.exact ∙ ap (λ (h : Handing). records_in pointer_limit h.dnskey_bytes) is in
-    let none : None ≡ records_in pointer_limit h.answer_bytes = rw c.in_default-records.is at c.in_ok-records.ensures.exact ∙ ap (λ (h : Handing). records_in pointer_limit h.answer_bytes) is in
+    let none : None ≡ records_in pointer_limit h.answer_bytes = rw c.in_default-2.is at c.in_ok-records.ensures.exact ∙ ap (λ (h : Handing). records_in pointer_limit h.answer_bytes) is in
     no_answer a pointer_limit h keys first none
 
 pub unproven_under-requires-clause-index : goal.unproven_under-requires-clause-index
@@ -36,7 +36,7 @@ unproven_under-requires-clause-index g c =
 
 pub unproven_under-requires-clause-room : goal.unproven_under-requires-clause-room
 unproven_under-requires-clause-room g c =
-    let few = rw c.in-Some-records.is at c.in_ok-records.ensures.few in
+    let few = rw c.in-Some-2.is at c.in_ok-records.ensures.few in
     omega (arith, c.requires, few, ap length c.deref-5.ensures.value)
 
 pub returns-clause-exact : goal.returns-clause-exact
@@ -46,9 +46,9 @@ returns-clause-exact g c = λ test fits.
     let is = c.case.view_is in
     let moment = c.timestamp.ensures ∙ ap (λ (h : Handing). h.now) is in
     let keys = map spelled c.in-Some.key_records.items in
-    let rs = map spelled c.in-Some-records.records.items in
+    let rs = map spelled c.in-Some-2.records.items in
     let first : Some keys ≡ records_in pointer_limit h.dnskey_bytes = rw c.in-Some.is at c.in_ok-key_records.ensures.exact ∙ ap (λ (h : Handing). records_in pointer_limit h.dnskey_bytes) is in
-    let second : Some rs ≡ records_in pointer_limit h.answer_bytes = rw c.in-Some-records.is at c.in_ok-records.ensures.exact ∙ ap (λ (h : Handing). records_in pointer_limit h.answer_bytes) is in
+    let second : Some rs ≡ records_in pointer_limit h.answer_bytes = rw c.in-Some-2.is at c.in_ok-records.ensures.exact ∙ ap (λ (h : Handing). records_in pointer_limit h.answer_bytes) is in
     let spelled_keys : c.in_ok-read_keys.field-0.items ≡ keys_in h.dnskey_bytes h.apex keys = c.in_ok-read_keys.ensures ∙ (λ i. keys_in (is i).dnskey_bytes (is i).apex (map spelled (c.deref.ensures.value i))) in
     let usable = c.deref-3.ensures.value ∙ c.usable_keys-keys.ensures ∙ ap (filter is_usable) spelled_keys in
     let whole = ap (map spelled) c.deref-5.ensures.value in
@@ -59,8 +59,8 @@ pub returns-clause-bound : goal.returns-clause-bound
 returns-clause-bound g c =
     let h = c.args.case.now in
     let is = c.case.view_is in
-    let rs = map spelled c.in-Some-records.records.items in
-    let second : Some rs ≡ records_in pointer_limit h.answer_bytes = rw c.in-Some-records.is at c.in_ok-records.ensures.exact ∙ ap (λ (h : Handing). records_in pointer_limit h.answer_bytes) is in
+    let rs = map spelled c.in-Some-2.records.items in
+    let second : Some rs ≡ records_in pointer_limit h.answer_bytes = rw c.in-Some-2.is at c.in_ok-records.ensures.exact ∙ ap (λ (h : Handing). records_in pointer_limit h.answer_bytes) is in
     omega (
       arith,
       c.requires,
