@@ -1,7 +1,8 @@
-use Rattle.std.proofs.Common.{◌≡◌, sym, ap, subst, ◌∙◌}
+use Rattle.std.proofs.Common.{rules, ◌≡◌, ◌⊎◌, inl, inr, ⊎_elim, sym, ap, subst, ◌∙◌}
 use Rattle.std.specs.Prelude.{IfOk}
 use Rattle.definitions.specs.Limits.{pointer_limit}
 use Rattle.answer_scheme.specs.Answers.{with_test}
+use Rattle.answer_judge.proofs.JudgedWholly.{agrees_too}
 use Rattle.answer_judge_facts.proofs.JudgeAsked.{agreed_by}
 use Rattle.answer_extended_errors.specs.Extended.{extended_error_of, unproven, untrusted}
 use Rattle.answer_extended_errors.proofs.RefusalErrors.{plain_is}
@@ -18,9 +19,11 @@ pub returns-in-NotProven-clause-exact : goal.returns-in-NotProven-clause-exact
 returns-in-NotProven-clause-exact g c = λ test fits.
     let h = c.args.case.now in
     let own = g.C.Checks.answers c.args.checks.now in
+    let now = c.unproven.new.verifier.checks.now in
+    let fit : (test ≡ own.verifies) ⊎ g.C.Checks.agrees now test = ⊎_elim (λ e. inl e) (λ agrees. inr (agrees_too g.C.Checks.agrees _ now test agrees (search rules))) fits in
     let same = ap g.C.Checks.answers c.new-verifier.ensures.checks in
     let path = ap (λ v. unproven (with_test v test) pointer_limit h) same ∙ ap (extended_error_of (with_test own test) pointer_limit h) (sym c.in-NotProven.is) in
-    subst (λ x. IfOk c.unproven.result (λ e. e ≡ x)) path (c.unproven.ensures.exact test (agreed_by own _ test _ same fits))
+    subst (λ x. IfOk c.unproven.result (λ e. e ≡ x)) path (c.unproven.ensures.exact test (agreed_by own _ test _ same fit))
 
 pub returns-clause-exact : goal.returns-clause-exact
 returns-clause-exact g c = λ test fits.
