@@ -1,7 +1,7 @@
 //! Signatures that are copies of what they are made over.
 
-use answer_scheme::scheme::Scheme;
 use answer_scheme::SchemeError;
+use answer_scheme::scheme::Scheme;
 use denial_data::Dnskey;
 use numbers::algorithm::DigestAlgorithm;
 use std::alloc::Global;

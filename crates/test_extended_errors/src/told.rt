@@ -38,8 +38,7 @@ fn refused_as<L: Ledger, M: Ledger>(
     requires second_some { 0 < M.parts }
 {
     let (scheme, hasher) = (&Copying, &Sha1Hasher);
-    let mut checks =
-        SchemeChecks::<Copying, Sha1Hasher, L, M>::new(scheme, hasher, first, second);
+    let mut checks = SchemeChecks::<Copying, Sha1Hasher, L, M>::new(scheme, hasher, first, second);
     let error = extended_error(alloc, case, refusal, &mut checks).ok()?;
     let code = error.code();
     format!(in alloc; "{refusal}; {code} {error}").ok()
