@@ -192,12 +192,12 @@ static bool asks_for_missing(struct shadow *shadow, const struct message *client
     if (reason == REASON_NO_DNSKEY) {
         ask(shadow->asker, &place->apex, TYPE_DNSKEY);
     }
-    size_t most = label_count(&client->qname) - (client->qtype == TYPE_DS);
+    size_t labels = label_count(&client->qname), most = client->qtype == TYPE_DS && labels > 0 ? labels - 1 : labels;
     if (find_signer(client, &client->qname, &signer)) {
         most = label_count(&signer);
     }
-    for (size_t count = label_count(&place->unseen); !place->is_whole && count <= most; count++) {
-        struct name at = last_labels(&client->qname, count);
+    for (size_t next = label_count(&place->unseen); !place->is_whole && next <= most; next++) {
+        struct name at = last_labels(&client->qname, next);
         ask(shadow->asker, &at, TYPE_DS);
     }
     return true;
@@ -243,7 +243,7 @@ bool shadow_compare(struct shadow *shadow, const struct event *event, bool may_w
     if (!read_message((struct octets){event->octets, event->len}, &client)) {
         return true; /* it was counted when it came */
     }
-    if (shadow->asker != NULL && has_asked(shadow->asker, &client.qname, client.qtype)) {
+    if (shadow->asker != NULL && event->tries == 0 && has_asked(shadow->asker, &client.qname, client.qtype)) {
         shadow->counts.own_answers++;
         return true;
     }
