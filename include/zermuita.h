@@ -15,9 +15,9 @@
 #include <string.h>
 
 #define ZERMUITA_VERSION_MAJOR 0
-#define ZERMUITA_VERSION_MINOR 1
+#define ZERMUITA_VERSION_MINOR 2
 #define ZERMUITA_VERSION_PATCH 0
-#define ZERMUITA_VERSION "0.1.0"
+#define ZERMUITA_VERSION "0.2.0"
 /* As zermuita_version() gives it. */
 #define ZERMUITA_VERSION_NUMBER (ZERMUITA_VERSION_MAJOR << 16 | ZERMUITA_VERSION_MINOR << 8 | ZERMUITA_VERSION_PATCH)
 
@@ -39,7 +39,7 @@ enum zermuita_reply {
     ZERMUITA_WILDCARD_NODATA = 4, /* a wildcard stands for the name and has no records of the type */
     ZERMUITA_DELEGATED = 5,       /* the name is at or below a delegation */
     ZERMUITA_OPTOUT = 6,          /* an opt-out chain leaves open what is there */
-    ZERMUITA_INSECURE = 7,        /* the DS set is empty, so nothing vouches for the zone's keys */
+    ZERMUITA_INSECURE = 7,        /* no DS record can be checked, so nothing vouches for the zone's keys */
 
     /* Refusals: why there is no verdict. An alias that is not proved, and all that is reached through it, is bogus. */
     ZERMUITA_QUESTION_NOT_ALLOWED = 16,   /* the name is not in the zone, the class is not IN, or the type is not judged */
@@ -55,6 +55,7 @@ enum zermuita_reply {
     ZERMUITA_OUT_OF_MEMORY = 26,          /* memory ran out */
     ZERMUITA_MIXED_VERSIONS = 27,         /* signatures have different times, and one moment is demanded */
     ZERMUITA_MESSAGE_TOO_LONG = 28,       /* a message is too long in canonical form */
+    ZERMUITA_TOO_MANY_SIGNATURES = 29,    /* more signatures are to be checked than the case allows */
 
     /* What the library needs. */
     ZERMUITA_ASK = 32,              /* signatures are to be checked */
@@ -65,7 +66,7 @@ enum zermuita_reply {
     ZERMUITA_BAD_DS_SET = 36,     /* the DS set is not DS records behind their lengths */
     ZERMUITA_BAD_NAME = 37,       /* the name that was asked for is not a name in wire form */
     ZERMUITA_BAD_SIGNATURES = 38, /* the checked signatures are not entries */
-    ZERMUITA_BAD_CASE = 39        /* the case has an unknown size, a flag is not 0 or 1, or octets are null */
+    ZERMUITA_BAD_CASE = 39        /* a size is unknown, a flag is not 0 or 1, octets are null, or ds and no_ds do not agree */
 };
 
 /* Octets. Where `data` is null there are none, and `len` is 0. */
@@ -75,50 +76,54 @@ struct zermuita_octets {
 };
 
 /*
- * What is judged. Names are in wire form, without pointers (RFC 1035, 3.1). A case of an older header, which ends in front of
- * `one_moment`, is read as if what it lacks were 0.
+ * What is judged: set it to zero, then its size, then what the question needs. Names are in wire form, without pointers (RFC 1035,
+ * 3.1).
  *
- * No octets of `ds` mean that the parent proved that there is no DS record: a `ds` that was forgotten gives ZERMUITA_INSECURE,
- * whatever the messages say.
+ * Of `ds` those records count that have one of the `algorithms` and a digest of SHA-256 or SHA-384. Where there are others alone the
+ * zone is insecure (RFC 4035, 5.2). That there is no DS record is said by `no_ds`: no octets without it are refused, and so are
+ * octets beside it.
  */
 struct zermuita_case {
-    size_t size;                    /* sizeof(struct zermuita_case) */
-    struct zermuita_octets apex;    /* the name of the zone */
-    struct zermuita_octets ds;      /* the parent's DS set: each record's data behind its length in two octets; none: insecure */
-    struct zermuita_octets dnskey;  /* the zone's answer for its DNSKEY records, a whole message */
-    struct zermuita_octets answer;  /* its answer to the question, a whole message */
-    struct zermuita_octets name;    /* the name that was asked for */
-    struct zermuita_octets checked; /* the signatures that were checked so far, as entries back to back, in any order */
-    uint64_t now;                   /* the moment at which signatures must hold, in seconds since 1970 */
-    uint16_t rtype;                 /* the type that was asked for */
-    uint16_t rclass;                /* the class that was asked for: 1 */
-    uint16_t max_nsec3_iterations;  /* how many iterations of a name's hash are allowed (RFC 9276, 3.2) */
-    uint32_t one_moment;            /* 1: the answer's signatures must have one inception and one expiration; 0: any */
-    uint32_t as_received;           /* 1: messages are judged as their octets stand; 0: names in data in canonical form first */
+    size_t size;                       /* sizeof(struct zermuita_case) */
+    struct zermuita_octets apex;       /* the name of the zone */
+    struct zermuita_octets ds;         /* the parent's DS set: each record's data behind its length in two octets */
+    struct zermuita_octets dnskey;     /* the zone's answer for its DNSKEY records, a whole message */
+    struct zermuita_octets answer;     /* its answer to the question, a whole message */
+    struct zermuita_octets name;       /* the name that was asked for */
+    struct zermuita_octets checked;    /* the signatures that were checked so far, as entries back to back, in any order */
+    uint64_t now;                      /* the moment at which signatures must hold, in seconds since 1970 */
+    uint16_t rtype;                    /* the type that was asked for */
+    uint16_t rclass;                   /* the class that was asked for: 1 */
+    uint16_t max_nsec3_iterations;     /* how many iterations of a name's hash are allowed (RFC 9276, 3.2) */
+    uint32_t one_moment;               /* 1: the answer's signatures must have one inception and one expiration; 0: any */
+    uint32_t as_received;              /* 1: messages are judged as their octets stand; 0: names in data in canonical form first */
+    struct zermuita_octets algorithms; /* the algorithms that the caller checks, an octet each; none: all */
+    uint32_t max_signatures;           /* how many signatures of both messages are to be checked at most; 0: 16 */
+    uint32_t other_question;           /* 1: the answer may be one to another question of the zone; 0: to this one alone */
+    uint32_t no_ds;                    /* 1: the parent proved that there is no DS record; 0: `ds` has some */
 };
 
+/* What is said beside a reply. */
 struct zermuita_report {
+    size_t size;            /* sizeof(struct zermuita_report), set before the call */
     size_t len;             /* how many octets the reply has */
-    uint32_t verifications; /* with a verdict or a refusal: how many signatures were looked up in `checked` */
-    uint32_t hashes;        /* with a verdict or a refusal: how many names were hashed */
+    uint64_t until;         /* with a secure verdict or ZERMUITA_OPTOUT: the last second, since 1970, in which it stands; else 0 */
+    uint64_t verifications; /* with a verdict or a refusal: how many signatures were looked up in `checked` */
+    uint64_t hashes;        /* with a verdict or a refusal: how many names were hashed */
+    uint32_t ttl;           /* with a secure verdict or ZERMUITA_OPTOUT: for how many seconds it may be kept; else 0 */
+    uint16_t ede;           /* the code of an extended error (RFC 8914), or 0: code 0, which says nothing, is never meant */
 };
 
 /* The library's own functions. They take no null pointer: call zermuita_judge and zermuita_strerror below in their place. */
 uint32_t zermuita_judge_case(const struct zermuita_case *handed, uint8_t *out, size_t out_len, struct zermuita_report *report);
 void zermuita_reply_text(uint32_t reply, struct zermuita_octets *text);
 
+/* Whether a reply is a verdict, and whether it says why there is none: 1 or 0. */
+uint32_t zermuita_is_verdict(uint32_t reply);
+uint32_t zermuita_is_refusal(uint32_t reply);
+
 /* The version of the library that runs: 65,536 times major and 256 times minor and patch. */
 uint32_t zermuita_version(void);
-
-/* Whether a reply is a verdict. */
-static inline int zermuita_is_verdict(enum zermuita_reply reply) {
-    return reply <= ZERMUITA_INSECURE;
-}
-
-/* Whether a reply says why there is no verdict. */
-static inline int zermuita_is_refusal(enum zermuita_reply reply) {
-    return ZERMUITA_QUESTION_NOT_ALLOWED <= reply && reply <= ZERMUITA_MESSAGE_TOO_LONG;
-}
 
 /* A reply's name and a sentence. The text is valid as long as the program runs. */
 static inline const char *zermuita_strerror(enum zermuita_reply reply) {
@@ -137,8 +142,9 @@ static inline int zermuita_octets_are(struct zermuita_octets *octets) {
     return octets->data != NULL;
 }
 
-/* How many octets of a case the library may read, whatever the size of the caller's. */
+/* How many octets of a case the library may read, and of a report it may write, whatever the size of the caller's. */
 #define ZERMUITA_CASE_ROOM 256
+#define ZERMUITA_REPORT_ROOM 128
 
 /*
  * Judges a case. Where the reply's `report->len` octets are at most `out_len`, they are written to the front of `out`; else nothing
@@ -146,8 +152,8 @@ static inline int zermuita_octets_are(struct zermuita_octets *octets) {
  * Nothing that the library reads may overlap `out` or `report`.
  *
  * On ZERMUITA_ASK `out` has signatures that are to be checked: check each (zermuita_next_ask), put the octets of `out` at the end
- * of `checked`, and call again. Stop at 16 signatures: a reply that is still ZERMUITA_ASK is bogus then. Put no entry there that
- * was not checked: it stands for a signature that fails.
+ * of `checked`, and call again. Put no entry there that was not checked: it stands for a signature that fails. Nobody needs to count
+ * them: where more are to be checked than `max_signatures`, the reply is ZERMUITA_TOO_MANY_SIGNATURES.
  */
 static inline enum zermuita_reply zermuita_judge(const struct zermuita_case *handed, uint8_t *out, size_t out_len,
                                                  struct zermuita_report *report) {
@@ -155,22 +161,30 @@ static inline enum zermuita_reply zermuita_judge(const struct zermuita_case *han
         struct zermuita_case handed;
         uint8_t octets[ZERMUITA_CASE_ROOM];
     } room;
-    struct zermuita_report unread;
+    union {
+        struct zermuita_report report;
+        uint8_t octets[ZERMUITA_REPORT_ROOM];
+    } said;
     uint8_t nowhere[1];
-    report = report != NULL ? report : &unread;
-    memset(report, 0, sizeof *report);
+    enum zermuita_reply reply = ZERMUITA_BAD_CASE;
+    memset(&said, 0, sizeof said);
+    said.report.size = report != NULL ? report->size : sizeof said.report;
     memset(&room, 0, sizeof room);
     memcpy(&room, handed, handed->size < sizeof *handed ? handed->size : sizeof *handed);
-    if (!zermuita_octets_are(&room.handed.apex) || !zermuita_octets_are(&room.handed.ds)
-        || !zermuita_octets_are(&room.handed.dnskey) || !zermuita_octets_are(&room.handed.answer)
-        || !zermuita_octets_are(&room.handed.name) || !zermuita_octets_are(&room.handed.checked)) {
-        return ZERMUITA_BAD_CASE;
-    }
     if (out == NULL) {
         out = nowhere;
         out_len = 0;
     }
-    return (enum zermuita_reply)zermuita_judge_case(&room.handed, out, out_len, report);
+    if (zermuita_octets_are(&room.handed.apex) && zermuita_octets_are(&room.handed.ds)
+        && zermuita_octets_are(&room.handed.dnskey) && zermuita_octets_are(&room.handed.answer)
+        && zermuita_octets_are(&room.handed.name) && zermuita_octets_are(&room.handed.checked)
+        && zermuita_octets_are(&room.handed.algorithms)) {
+        reply = (enum zermuita_reply)zermuita_judge_case(&room.handed, out, out_len, &said.report);
+    }
+    if (report != NULL) {
+        memcpy(report, &said, report->size < sizeof *report ? report->size : sizeof *report);
+    }
+    return reply;
 }
 
 /* The number that `width` octets spell, the highest first. */

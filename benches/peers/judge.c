@@ -17,6 +17,7 @@ static struct zermuita_case case_of(const struct asked *asked) {
         .rtype = asked->rtype,
         .rclass = 1,
         .max_nsec3_iterations = asked->limit,
+        .no_ds = asked->ds.len == 0,
     };
 }
 

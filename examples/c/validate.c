@@ -1,16 +1,17 @@
 /*
- * Prints what a signed zone says of a name, from files with the octets of two messages and of a DS set, each record's data behind
- * its length in two octets. The type is a number; the moment, else now, is in seconds since 1970. OpenSSL checks the signatures.
- * The status is 0 for a verdict, 1 for a refusal or where too many signatures are asked for, else 2. To build it:
- * cc validate.c $(pkg-config --cflags --libs zermuita) -lcrypto
+ * Prints what a signed zone says of a name, and how long that lasts, from files with the octets of two messages and of a DS set,
+ * each record's data behind its length in two octets; a file without octets means that the parent proved that there is no DS
+ * record. The type is a number; the moment, else now, is in seconds since 1970. OpenSSL checks the signatures. The status is 0 for a
+ * verdict, 1 for a refusal, else 2. To build it: cc validate.c $(pkg-config --cflags --libs zermuita) -lcrypto
  */
 #include "signature.h"
 
+#include <inttypes.h>
 #include <stdio.h>
 #include <stdlib.h>
 #include <time.h>
 
-enum { MOST_SIGNATURES = 16 }; /* each is work: an answer that wants more is given up */
+static const uint8_t algorithms[] = {8, 10, 13, 14, 15, 16}; /* those of signature.h */
 
 static void *or_exit(void *that, const char *what) {
     if (that == NULL) {
@@ -50,33 +51,38 @@ int main(int argc, char **argv) {
         .size = sizeof handed, .apex = name_of_text(argv[1], apex), .ds = octets_of_file(argv[2]),
         .dnskey = octets_of_file(argv[3]), .name = name_of_text(argv[4], name), .rtype = (uint16_t)atoi(argv[5]), .rclass = 1,
         .answer = octets_of_file(argv[6]), .now = argc > 7 ? strtoull(argv[7], NULL, 10) : (uint64_t)time(NULL),
-        .max_nsec3_iterations = 100,
+        .max_nsec3_iterations = 100, .algorithms = {algorithms, sizeof algorithms},
     };
-    struct zermuita_report report = {0};
+    handed.no_ds = handed.ds.len == 0;
+    struct zermuita_report report = {.size = sizeof report};
     enum zermuita_reply reply;
-    size_t room = 0, seen = 0;
-    while ((reply = zermuita_judge(&handed, out, room, &report)) == ZERMUITA_BUFFER_TOO_SMALL
-           || (reply == ZERMUITA_ASK && seen < MOST_SIGNATURES)) {
+    size_t room = 0;
+    while ((reply = zermuita_judge(&handed, out, room, &report)) == ZERMUITA_BUFFER_TOO_SMALL || reply == ZERMUITA_ASK) {
         struct zermuita_ask ask;
         uint8_t *next = out;
         if (reply == ZERMUITA_BUFFER_TOO_SMALL) {
             out = or_exit(realloc(out, room = report.len), "memory");
             continue;
         }
-        for (size_t len = report.len; seen < MOST_SIGNATURES && zermuita_next_ask(&next, &len, &ask); seen++) {
+        for (size_t len = report.len; zermuita_next_ask(&next, &len, &ask);) {
             zermuita_answer(&ask, signature_passes(&ask));
         }
-        size_t answered = (size_t)(next - out); /* not those behind the last one that was checked */
-        checked = or_exit(realloc(checked, handed.checked.len + answered), "memory");
-        memcpy(checked + handed.checked.len, out, answered);
-        handed.checked = (struct zermuita_octets){checked, handed.checked.len + answered};
+        checked = or_exit(realloc(checked, handed.checked.len + report.len), "memory");
+        memcpy(checked + handed.checked.len, out, report.len);
+        handed.checked = (struct zermuita_octets){checked, handed.checked.len + report.len};
     }
     puts(zermuita_strerror(reply));
+    if (report.until > 0) {
+        printf("TTL %" PRIu32 ", until %" PRIu64 "\n", report.ttl, report.until);
+    }
+    if (report.ede > 0) {
+        printf("EDE %u\n", (unsigned)report.ede);
+    }
     struct zermuita_octets rest = {out, report.len}, rdata;
     while ((reply == ZERMUITA_RECORDS || reply == ZERMUITA_WILDCARD) && zermuita_next_record(&rest, &rdata)) {
         for (size_t i = 0; i < rdata.len; i++) {
             printf("%02x%s", rdata.data[i], i + 1 < rdata.len ? "" : "\n");
         }
     }
-    return zermuita_is_verdict(reply) ? 0 : zermuita_is_refusal(reply) || reply == ZERMUITA_ASK ? 1 : 2;
+    return zermuita_is_verdict(reply) ? 0 : zermuita_is_refusal(reply) ? 1 : 2;
 }

@@ -11,14 +11,14 @@
 #include <unistd.h>
 
 enum { PROVEN = 0, NOT_PROVEN = 1, FAILED = 2 };
-/* Each signature is work for whoever checks it, and a message may have hundreds (CVE-2023-50387). */
-enum { MOST_SIGNATURES = 16 };
 
-/* The DS set of the parent, each record's data behind their length, without those of which nothing here knows algorithm or digest. */
+/* The algorithms of signature_passes. */
+static const uint8_t algorithms[] = {8, 10, 13, 14, 15, 16};
+
+/* The DS set of the parent, each record's data behind their length. */
 struct ds_set {
     uint8_t octets[65536];
     size_t len;
-    unsigned unsupported;
 };
 
 /* A judgement, with the signatures that were checked for it. */
@@ -54,16 +54,6 @@ static int usage(void) {
     return FAILED;
 }
 
-/* Whether algorithm and type of digest of a DS record are known: the first by signature_passes, the other by the library. */
-static bool is_supported(unsigned algorithm, unsigned digest_type) {
-    static const unsigned algorithms[] = {8, 10, 13, 14, 15, 16};
-    bool is_known = false;
-    for (size_t i = 0; i < sizeof algorithms / sizeof algorithms[0]; i++) {
-        is_known |= algorithm == algorithms[i];
-    }
-    return is_known && (digest_type == 2 || digest_type == 4);
-}
-
 /* Adds a DS record of its text, of which only what stands behind a word DS counts. */
 static bool add_ds(struct ds_set *ds, const char *text) {
     const char *word = strstr(text, " DS ");
@@ -78,10 +68,6 @@ static bool add_ds(struct ds_set *ds, const char *text) {
     long digest_len = octets_of_hex(text + read, record + 6, 255);
     if (digest_len <= 0) {
         return false;
-    }
-    if (!is_supported(algorithm, digest_type)) {
-        ds->unsupported++;
-        return true;
     }
     const uint8_t head[] = {0, (uint8_t)(4 + digest_len), (uint8_t)(tag >> 8), (uint8_t)tag, (uint8_t)algorithm, (uint8_t)digest_type};
     memcpy(record, head, sizeof head);
@@ -110,19 +96,16 @@ static bool read_ds_set(struct ds_set *ds, char *text) {
     return is_read && !ferror(file);
 }
 
-/* Checks the signatures that are asked for, and adds them to those that were. False where they are too many. */
+/* Checks the signatures that are asked for, and adds them to those that were. False where there is no room for them. */
 static bool check(struct judgement *judgement) {
     struct zermuita_ask ask;
     uint8_t *next = judgement->out;
-    for (size_t len = judgement->report.len; zermuita_next_ask(&next, &len, &ask);) {
-        if (judgement->signatures == MOST_SIGNATURES) {
-            return false;
-        }
-        judgement->signatures++;
-        zermuita_answer(&ask, signature_passes(&ask));
-    }
     if (judgement->report.len > sizeof judgement->checked - judgement->checked_len) {
         return false;
+    }
+    for (size_t len = judgement->report.len; zermuita_next_ask(&next, &len, &ask);) {
+        judgement->signatures++;
+        zermuita_answer(&ask, signature_passes(&ask));
     }
     memcpy(judgement->checked + judgement->checked_len, judgement->out, judgement->report.len);
     judgement->checked_len += judgement->report.len;
@@ -130,6 +113,7 @@ static bool check(struct judgement *judgement) {
 }
 
 static void judge(struct zermuita_case handed, struct judgement *judgement) {
+    judgement->report.size = sizeof judgement->report;
     do {
         handed.checked = (struct zermuita_octets){judgement->checked, judgement->checked_len};
         judgement->reply = zermuita_judge(&handed, judgement->out, sizeof judgement->out, &judgement->report);
@@ -137,7 +121,7 @@ static void judge(struct zermuita_case handed, struct judgement *judgement) {
 }
 
 /* Prints what is said, and gives the status. */
-static int tell(const struct judgement *judgement, const struct ds_set *ds, uint16_t rtype) {
+static int tell(const struct judgement *judgement, uint16_t rtype) {
     static const char *const verdicts[] = {
         "records", "NODATA", "NXDOMAIN", "wildcard", "wildcard NODATA", "delegated", "opt-out", "insecure",
     };
@@ -147,8 +131,9 @@ static int tell(const struct judgement *judgement, const struct ds_set *ds, uint
         fprintf(stderr, "probe: not judged: %s\n", zermuita_strerror(judgement->reply));
         return FAILED;
     }
-    /* What is asked for has more octets than there is room for where it is more signatures than are checked, and over much. */
-    if (judgement->reply == ZERMUITA_ASK || judgement->reply == ZERMUITA_BUFFER_TOO_SMALL) {
+    /* Each signature is work for whoever checks it, and a message may have hundreds (CVE-2023-50387), or long ones. */
+    if (judgement->reply == ZERMUITA_TOO_MANY_SIGNATURES || judgement->reply == ZERMUITA_ASK
+        || judgement->reply == ZERMUITA_BUFFER_TOO_SMALL) {
         printf("bogus: more signatures than are checked; %u signatures checked\n", judgement->signatures);
         return NOT_PROVEN;
     }
@@ -163,11 +148,15 @@ static int tell(const struct judgement *judgement, const struct ds_set *ds, uint
         print_data(stdout, rtype, data, 0, data.len);
         separator = ", ";
     }
-    if (judgement->reply == ZERMUITA_INSECURE && ds->unsupported > 0) {
-        fputs(": no DS record has an algorithm and a digest that are known here", stdout);
+    if (judgement->report.ede != 0) {
+        printf(": no DS record has an algorithm and a digest that are known here (EDE %u)", judgement->report.ede);
     }
-    printf("; %u signatures checked, %u looked up, %u names hashed\n", judgement->signatures, judgement->report.verifications,
-           judgement->report.hashes);
+    printf("; %u signatures checked, %llu looked up, %llu names hashed", judgement->signatures,
+           (unsigned long long)judgement->report.verifications, (unsigned long long)judgement->report.hashes);
+    if (judgement->report.until > 0) {
+        printf("; TTL %lu, until %llu", (unsigned long)judgement->report.ttl, (unsigned long long)judgement->report.until);
+    }
+    puts("");
     return is_proven ? PROVEN : NOT_PROVEN;
 }
 
@@ -177,8 +166,8 @@ static void show_answer(const char *what, const struct answer *answer, const str
 }
 
 /* Asks both questions, and judges the answers. */
-static int probe(const struct options *options, const struct addrinfo *server, struct zermuita_case handed, const struct ds_set *ds,
-                 const struct name *zone, const struct name *name) {
+static int probe(const struct options *options, const struct addrinfo *server, struct zermuita_case handed, const struct name *zone,
+                 const struct name *name) {
     static struct answer dnskey, answer;
     static struct judgement judgement;
     if (!ask(server, zone, 48, &dnskey) || !ask(server, name, handed.rtype, &answer)) {
@@ -192,7 +181,7 @@ static int probe(const struct options *options, const struct addrinfo *server, s
         show_answer("the keys", &dnskey, &judgement);
         show_answer("the name", &answer, &judgement);
     }
-    return tell(&judgement, ds, handed.rtype);
+    return tell(&judgement, handed.rtype);
 }
 
 static bool read_options(int argc, char **argv, struct options *options) {
@@ -240,6 +229,8 @@ int main(int argc, char **argv) {
     }
     handed.apex = (struct zermuita_octets){zone.octets, zone.len};
     handed.ds = (struct zermuita_octets){ds.octets, ds.len};
+    handed.no_ds = ds.len == 0;
+    handed.algorithms = (struct zermuita_octets){algorithms, sizeof algorithms};
     handed.name = (struct zermuita_octets){name.octets, name.len};
     struct addrinfo *server, hints = {.ai_socktype = SOCK_DGRAM};
     int failure = getaddrinfo(words[0], options.port, &hints, &server);
@@ -247,7 +238,7 @@ int main(int argc, char **argv) {
         fprintf(stderr, "probe: %s: %s\n", words[0], gai_strerror(failure));
         return FAILED;
     }
-    int status = probe(&options, server, handed, &ds, &zone, &name);
+    int status = probe(&options, server, handed, &zone, &name);
     freeaddrinfo(server);
     return status;
 }

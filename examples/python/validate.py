@@ -20,6 +20,8 @@ from cryptography.hazmat.primitives.asymmetric.utils import encode_dss_signature
 
 RSA = {8: hashes.SHA256(), 10: hashes.SHA512()}
 ECDSA = {13: (ec.SECP256R1(), 32, hashes.SHA256()), 14: (ec.SECP384R1(), 48, hashes.SHA384())}
+ED25519, ED448 = 15, 16
+ALGORITHMS = [*RSA, *ECDSA, ED25519, ED448]
 
 
 def verify(ask: zermuita.Ask) -> None:
@@ -37,9 +39,9 @@ def verify(ask: zermuita.Ask) -> None:
             raise InvalidSignature
         pair = encode_dss_signature(int.from_bytes(ask.signature[:width], "big"), int.from_bytes(ask.signature[width:], "big"))
         ec.EllipticCurvePublicKey.from_encoded_point(curve, b"\4" + ask.key).verify(pair, ask.octets, ec.ECDSA(digest))
-    elif ask.algorithm == 15:
+    elif ask.algorithm == ED25519:
         ed25519.Ed25519PublicKey.from_public_bytes(ask.key).verify(ask.signature, ask.octets)
-    elif ask.algorithm == 16:
+    elif ask.algorithm == ED448:
         ed448.Ed448PublicKey.from_public_bytes(ask.key).verify(ask.signature, ask.octets)
     else:
         raise UnsupportedAlgorithm(f"algorithm {ask.algorithm}")
@@ -53,6 +55,15 @@ def signature_passes(ask: zermuita.Ask) -> bool:
     return True
 
 
+def lasting(judgement: zermuita.Judgement) -> list[str]:
+    """How long a verdict lasts, if that is said."""
+    return [f"TTL {judgement.ttl}, until {judgement.until}"] if judgement.until else []
+
+
+def extended_error(ede: int) -> list[str]:
+    return [f"EDE {ede}"] if ede else []
+
+
 def wire(name: str) -> bytes:
     return b"".join(zermuita.behind_length(label.encode(), 1) for label in name.split(".") if label) + b"\0"
 
@@ -64,14 +75,18 @@ def main(apex: str, ds: str, dnskey: str, name: str, rtype: str, answer: str, mo
         records.append(rest[2:end])
         rest = rest[end:]
     messages = pathlib.Path(dnskey).read_bytes(), pathlib.Path(answer).read_bytes()
-    case = zermuita.Case(wire(apex), records, *messages, wire(name), int(rtype), now=int(moment) if moment else None)
+    now = int(moment) if moment else None
+    handed = wire(apex), records, *messages, wire(name), int(rtype)
+    case = zermuita.Case(*handed, now=now, algorithms=ALGORITHMS, no_ds=not records)
     library = zermuita.Library()
     try:
         judgement = library.judge(case, signature_passes)
     except zermuita.Refused as refused:
-        print(refused)
+        print(refused, *extended_error(refused.ede), sep="\n")
         return 1
-    print(library.strerror(judgement.verdict), *(record.hex() for record in judgement.records), sep="\n")
+    print(library.strerror(judgement.verdict), *lasting(judgement), *extended_error(judgement.ede), sep="\n")
+    for record in judgement.records:
+        print(record.hex())
     return 0
 
 

@@ -1,9 +1,11 @@
-/* Judges answers of name servers, their signatures checked by OpenSSL, and prints a line for each: reply, counts, octets. */
+/* Judges answers of name servers, their signatures checked by OpenSSL, and prints a line for each: reply, counts, calls,
+ * TTL, until, extended error, octets. */
 #include "cases.h"
 #include "text.h"
 
 #include "../../examples/c/signature.h"
 
+#include <inttypes.h>
 #include <stdio.h>
 
 static bool passes(const struct zermuita_ask *ask) {
@@ -15,7 +17,9 @@ int main(void) {
     struct judgement judgement = {0};
     for (size_t i = 0; i < cases.len; i++) {
         judge(case_of(&cases.all[i]), passes, &judgement);
-        printf("%d %u %u %u ", (int)judgement.reply, judgement.report.verifications, judgement.report.hashes, judgement.calls);
+        const struct zermuita_report *report = &judgement.report;
+        printf("%d %" PRIu64 " %" PRIu64 " %u ", (int)judgement.reply, report->verifications, report->hashes, judgement.calls);
+        printf("%" PRIu32 " %" PRIu64 " %u ", report->ttl, report->until, (unsigned)report->ede);
         print_hex(judgement.octets.data, judgement.octets.len);
         puts("");
     }

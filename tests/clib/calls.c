@@ -24,6 +24,20 @@ static struct zermuita_octets of(const uint8_t *data, size_t len) {
     return octets;
 }
 
+/* A report of which each field has something that no call writes. */
+static struct zermuita_report report_of_nines(void) {
+    struct zermuita_report report;
+    memset(&report, 9, sizeof report);
+    report.size = sizeof report;
+    return report;
+}
+
+/* Whether a report says nothing. */
+static int is_empty(const struct zermuita_report *report) {
+    return report->len == 0 && report->until == 0 && report->verifications == 0 && report->hashes == 0 && report->ttl == 0
+        && report->ede == 0;
+}
+
 /* A question for the address of a name, beside no DS record and no messages. */
 static struct zermuita_case without_messages(void) {
     struct zermuita_case handed;
@@ -33,6 +47,7 @@ static struct zermuita_case without_messages(void) {
     handed.name = of(name, sizeof name);
     handed.rtype = 1;
     handed.rclass = 1;
+    handed.no_ds = 1;
     return handed;
 }
 
@@ -47,10 +62,11 @@ static void call_with_null(void) {
     handed.ds = handed.dnskey = handed.answer = handed.checked = of(root, 0);
     expect(reply_to(handed) == ZERMUITA_INSECURE, "no octets, by a pointer");
     handed.ds = of(NULL, 1);
-    struct zermuita_report report = {9, 9, 9};
-    expect(zermuita_judge(&handed, NULL, 0, &report) == ZERMUITA_BAD_CASE && report.len == 0, "null with a length");
-    handed.ds = of(name, sizeof name);
-    expect(reply_to(handed) == ZERMUITA_BAD_DS_SET, "no DS set");
+    struct zermuita_report report = report_of_nines();
+    expect(zermuita_judge(&handed, NULL, 0, &report) == ZERMUITA_BAD_CASE && is_empty(&report), "null with a length");
+    handed = without_messages();
+    handed.algorithms = of(NULL, 1);
+    expect(reply_to(handed) == ZERMUITA_BAD_CASE, "algorithms, null with a length");
     handed = without_messages();
     handed.apex = of(NULL, 0);
     expect(reply_to(handed) == ZERMUITA_BAD_APEX, "no octets are no name");
@@ -62,28 +78,100 @@ static void call_with_null(void) {
     expect(reply_to(handed) == ZERMUITA_BAD_SIGNATURES, "octets that are no entries");
 }
 
-/* Sizes of other headers, and flags. */
+/* Sizes of other headers: those of 0.1 were 120 and 128. */
 static void call_with_sizes(void) {
     struct zermuita_case handed = without_messages();
-    for (size_t size = 0; size < offsetof(struct zermuita_case, one_moment); size++) {
+    for (size_t size = 0; size < sizeof handed + 32; size++) {
         handed.size = size;
-        expect(reply_to(handed) == ZERMUITA_BAD_CASE, "a size below that of the smallest case");
+        expect((reply_to(handed) == ZERMUITA_INSECURE) == (size == sizeof handed), "the size of the case, and no other");
+        expect(size == sizeof handed || reply_to(handed) == ZERMUITA_BAD_CASE, "another size");
     }
-    handed.size = offsetof(struct zermuita_case, one_moment);
-    handed.one_moment = handed.as_received = 7;
-    expect(reply_to(handed) == ZERMUITA_INSECURE, "an older case, whose flags are not read");
-    for (size_t size = handed.size + 1; size < sizeof handed; size++) {
-        handed.size = size;
-        expect(reply_to(handed) == ZERMUITA_BAD_CASE, "a size with a part of the flags");
-    }
-    handed.size = sizeof handed;
-    expect(reply_to(handed) == ZERMUITA_BAD_CASE, "a flag that is neither 0 nor 1");
-    handed.one_moment = handed.as_received = 1;
-    expect(reply_to(handed) == ZERMUITA_INSECURE, "both flags");
-    handed.size = sizeof handed + 1;
-    expect(reply_to(handed) == ZERMUITA_BAD_CASE, "a size above that of the case");
     handed.size = (size_t)-1;
     expect(reply_to(handed) == ZERMUITA_BAD_CASE, "the greatest size");
+}
+
+/* Sizes of reports: of an unknown one nothing but its size is written. */
+static void call_with_reports(void) {
+    struct zermuita_case handed = without_messages();
+    uint8_t out[1] = {9};
+    for (size_t size = 0; size < sizeof(struct zermuita_report) + 32; size++) {
+        struct zermuita_report report = report_of_nines();
+        report.size = size;
+        enum zermuita_reply reply = zermuita_judge(&handed, out, sizeof out, &report);
+        expect(reply == (size == sizeof report ? ZERMUITA_INSECURE : ZERMUITA_BAD_CASE), "the size of a report");
+        expect(out[0] == 9, "no octets of a reply that has none");
+    }
+    struct zermuita_report report = report_of_nines();
+    expect(zermuita_judge(&handed, out, sizeof out, &report) == ZERMUITA_INSECURE && is_empty(&report), "an empty report");
+    expect(report.size == sizeof report, "a report's size stays");
+}
+
+/* Each flag is 0 or 1. */
+static void call_with_flags(void) {
+    for (uint32_t flag = 0; flag < 4; flag++) {
+        struct zermuita_case handed = without_messages();
+        uint32_t *const flags[] = {&handed.one_moment, &handed.as_received, &handed.other_question, &handed.no_ds};
+        for (uint32_t value = 0; value < 3; value++) {
+            handed = without_messages();
+            *flags[flag] = value;
+            int fits = value < 2 && (flags[flag] != &handed.no_ds || value == 1);
+            expect(reply_to(handed) == (fits ? ZERMUITA_INSECURE : ZERMUITA_BAD_CASE), "a flag");
+        }
+        handed = without_messages();
+        *flags[flag] = (uint32_t)-1;
+        expect(reply_to(handed) == ZERMUITA_BAD_CASE, "the greatest flag");
+    }
+    struct zermuita_case handed = without_messages();
+    handed.rtype = 5;
+    expect(reply_to(handed) == ZERMUITA_QUESTION_NOT_ALLOWED, "a question for CNAME");
+    handed.other_question = 1;
+    expect(reply_to(handed) == ZERMUITA_INSECURE, "a question for CNAME that another answer may answer");
+}
+
+/* The data of a DS record behind their length, with a digest of so many octets. */
+static size_t put_ds(uint8_t *at, uint8_t algorithm, uint8_t digest_type, size_t digest_len) {
+    memset(at, 0, 6 + digest_len);
+    at[1] = (uint8_t)(4 + digest_len);
+    at[4] = algorithm;
+    at[5] = digest_type;
+    return 6 + digest_len;
+}
+
+/* What is said beside a set of two DS records, of empty messages: insecure with an extended error, or that these are none. */
+static void expect_beside(const uint8_t kinds[4], struct zermuita_octets algorithms, unsigned ede, const char *what) {
+    uint8_t ds[256];
+    size_t len = put_ds(ds, kinds[0], kinds[1], kinds[1] == 1 ? 20 : 32);
+    len += put_ds(ds + len, kinds[2], kinds[3], kinds[3] == 1 ? 20 : 32);
+    struct zermuita_case handed = without_messages();
+    struct zermuita_report report = report_of_nines();
+    handed.no_ds = 0;
+    handed.ds = of(ds, len);
+    handed.algorithms = algorithms;
+    enum zermuita_reply reply = zermuita_judge(&handed, NULL, 0, &report);
+    expect(reply == (ede != 0 ? ZERMUITA_INSECURE : ZERMUITA_BAD_DNSKEY_MESSAGE) && report.ede == ede, what);
+    report.ede = 0;
+    expect(is_empty(&report), what);
+    handed.no_ds = 1;
+    expect(reply_to(handed) == ZERMUITA_BAD_CASE, "DS records beside the flag that there is none");
+}
+
+/* DS sets: records of algorithms that are checked and of digests that are made count (RFC 4035, 5.2; RFC 8914, 4.2 and 4.3). */
+static void call_with_ds(void) {
+    static const uint8_t eight[] = {8}, both[] = {13, 8}, none[] = {0};
+    static const uint8_t sha1[4] = {8, 1, 13, 1}, made[4] = {8, 2, 13, 4}, mixed[4] = {8, 1, 13, 2}, gost[4] = {8, 3, 13, 5};
+    expect_beside(sha1, of(NULL, 0), 2, "digests that are not made");
+    expect_beside(gost, of(both, 2), 2, "digests that are not made, of algorithms that are checked");
+    expect_beside(made, of(NULL, 0), 0, "digests that are made");
+    expect_beside(made, of(eight, 1), 0, "one record of an algorithm that is checked");
+    expect_beside(made, of(none, 1), 1, "no record of an algorithm that is checked");
+    expect_beside(mixed, of(NULL, 0), 0, "one record of a digest that is made");
+    expect_beside(mixed, of(both, 2), 0, "that record, of an algorithm that is checked");
+    expect_beside(mixed, of(eight, 1), 1, "one record of either kind alone");
+    struct zermuita_case handed = without_messages();
+    handed.no_ds = 0;
+    expect(reply_to(handed) == ZERMUITA_BAD_CASE, "a DS set that was forgotten");
+    handed.ds = of(name, sizeof name);
+    expect(reply_to(handed) == ZERMUITA_BAD_DS_SET, "octets that are no DS set");
 }
 
 /* What walks over replies, on octets made by hand. */
@@ -118,12 +206,17 @@ static void walk_over_replies(void) {
 int main(void) {
     call_with_null();
     call_with_sizes();
+    call_with_reports();
+    call_with_flags();
+    call_with_ds();
     walk_over_replies();
     expect(zermuita_version() == ZERMUITA_VERSION_NUMBER, "the version");
-    expect(zermuita_is_verdict(ZERMUITA_INSECURE) && !zermuita_is_verdict(ZERMUITA_QUESTION_NOT_ALLOWED), "verdicts");
-    expect(zermuita_is_refusal(ZERMUITA_QUESTION_NOT_ALLOWED) && !zermuita_is_refusal(ZERMUITA_ASK), "refusals");
     for (int reply = 0; reply < 64; reply++) {
+        uint32_t number = (uint32_t)reply;
+        expect(zermuita_is_verdict(number) == (number <= ZERMUITA_INSECURE), "verdicts");
+        expect(zermuita_is_refusal(number) == (16 <= number && number <= ZERMUITA_TOO_MANY_SIGNATURES), "refusals");
         printf("%d %s\n", reply, zermuita_strerror((enum zermuita_reply)reply));
     }
+    expect(!zermuita_is_verdict((uint32_t)-1) && !zermuita_is_refusal((uint32_t)-1), "a number that no reply has");
     return failed;
 }

@@ -130,6 +130,7 @@ struct zermuita_case case_of(const struct answered *answered) {
         .rtype = answered->rtype,
         .rclass = 1,
         .max_nsec3_iterations = answered->limit,
+        .no_ds = answered->ds.len == 0,
     };
 }
 

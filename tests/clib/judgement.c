@@ -11,6 +11,7 @@ void judge(struct zermuita_case handed, passing *passes, struct judgement *judge
     checked->len = 0;
     buffer_reserve(octets, 512);
     handed.size = sizeof handed;
+    report->size = sizeof *report;
     for (judgement->calls = 1;; judgement->calls++) {
         handed.checked = octets_of(checked);
         judgement->reply = zermuita_judge(&handed, octets->data, octets->room, report);

@@ -128,6 +128,7 @@ static void call(const struct zermuita_case *handed, struct judgement *judgement
 static void judge_measured(struct zermuita_case handed, struct judgement *judgement, double bound) {
     struct zermuita_ask ask;
     judgement->checked.len = 0;
+    judgement->report.size = sizeof judgement->report;
     do {
         handed.checked = octets_of(&judgement->checked);
         call(&handed, judgement, bound);

@@ -18,6 +18,7 @@ static bool is_same(const struct judgement *one, const struct judgement *other) 
 
 /* One call, with a request refused or none. */
 static struct heap called(const struct zermuita_case *handed, size_t request, struct judgement *judgement) {
+    judgement->report.size = sizeof judgement->report;
     heap_begin(request);
     judgement->reply = zermuita_judge(handed, judgement->octets.data, judgement->octets.room, &judgement->report);
     return heap_end();

@@ -194,6 +194,7 @@ static int wrong;
 static size_t measured(struct zermuita_case handed, struct judgement *judgement) {
     size_t most = 0;
     struct zermuita_ask ask;
+    judgement->report.size = sizeof judgement->report;
     judgement->checked.len = 0;
     for (;;) {
         handed.checked = octets_of(&judgement->checked);
@@ -237,7 +238,7 @@ static void print_row(const char *shape, void (*make)(struct buffer *, size_t), 
         struct zermuita_case handed = {
             .size = sizeof handed, .apex = is_keys ? whole : last, .ds = octets_of(&ds), .dnskey = octets_of(&keys),
             .answer = octets_of(&answer), .name = name, .now = NOW, .rtype = rtype, .rclass = 1, .max_nsec3_iterations = 100,
-            .as_received = as_received,
+            .as_received = as_received, .max_signatures = UINT32_MAX,
         };
         size_t most = measured(handed, &judgement);
         printf(" %zu", most);

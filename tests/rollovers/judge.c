@@ -82,7 +82,7 @@ static bool passes(const uint8_t *octets, const struct zermuita_ask *ask) {
 /* Judges what is handed in, `checked` aside, and says how many octets the reply has in `out`. */
 static enum zermuita_reply judge(struct zermuita_case handed, uint8_t out[ROOM], size_t *out_len) {
     static uint8_t checked[ROOM];
-    struct zermuita_report report;
+    struct zermuita_report report = {.size = sizeof report};
     handed.checked = (struct zermuita_octets){checked, 0};
     for (;;) {
         enum zermuita_reply reply = zermuita_judge(&handed, out, ROOM, &report);
@@ -115,6 +115,7 @@ static void judge_line(const struct kept *kept, const char *line) {
         }
         *octets[i] = kept->at[at[i]];
     }
+    handed.no_ds = handed.ds.len == 0;
     printf("%d ", (int)judge(handed, out, &len));
     for (size_t i = 0; i < len; i++) {
         printf("%02x", out[i]);

@@ -4,3 +4,4 @@ pub mod EntriesSplit
 pub mod EntriesGrow
 pub mod SpelledCases
 pub mod ToldInForm
+pub mod Standing

@@ -17,7 +17,7 @@ use Rattle.answer_judge_keys.specs.Judging.{Handing}
 use Rattle.answer_judge_octets.specs.declared.octets.OctetCase.{OctetCase}
 use Rattle.answer_judge_octets.specs.EntryLaws.{once_checked, once_ds, some_checked, some_ds}
 use Rattle.answer_judge_octets.specs.Laws.{ListsGrow, OctetsSpellOneCase, answered_entry}
-use Rattle.answer_judge_octets.specs.Replying.{IsJudged, Spells, flag_in, stand_as_received}
+use Rattle.answer_judge_octets.specs.Replying.{IsJudged, Spells, flag_in, judged_ds, stand_as_received}
 use Rattle.answer_judge_table.specs.Table.{Checked, Tried, checked}
 use Rattle.answer_judge_octets.specs.Written.{FitsChecked, FitsDs, checked_octets, ds_octets, passes_octets, with_long_length}
 use Rattle.answer_judge_octets.proofs.ListsRead.{spelled_once}
@@ -63,8 +63,10 @@ one_judged m x y a b e p q = one_of m x y b (subst (λ f. IsJudged f m x) e p) q
 one_handing : (case : OctetCase) (h j : Handing) (table others : List Checked) → Spells case h table → Spells case j others → h ≡ j
 one_handing case h j table others p q =
     let apex = one_some h.apex j.apex _ p.apex q.apex in
-    let ds = spelled_once FitsDs ds_octets once_ds some_ds h.ds j.ds p.ds.fit q.ds.fit (sym p.ds.octets_are ∙ q.ds.octets_are) in
-    let received = ap (stand_as_received case) (one_flag p.as_received q.as_received (flag_in case case.as_received) p.flag q.flag) in
+    let ds_set = spelled_once FitsDs ds_octets once_ds some_ds p.ds_set q.ds_set p.ds.fit q.ds.fit (sym p.ds.octets_are ∙ q.ds.octets_are) in
+    let ds = p.ds_judged ∙ ap (judged_ds case.algorithms.now) ds_set ∙ sym q.ds_judged in
+    let flag = one_flag p.as_received q.as_received (flag_in case case.as_received) p.flag q.flag in
+    let received : stand_as_received h.ds p.as_received ≡ stand_as_received j.ds q.as_received = λ i. stand_as_received (ds i) (flag i) in
     let dnskey_bytes = one_judged case.dnskey.now h.dnskey_bytes j.dnskey_bytes _ _ received p.dnskey_bytes q.dnskey_bytes in
     let answer_bytes = one_judged case.answer.now h.answer_bytes j.answer_bytes _ _ received p.answer_bytes q.answer_bytes in
     let one_moment = one_flag h.one_moment j.one_moment (flag_in case case.one_moment) p.one_moment q.one_moment in
@@ -73,7 +75,7 @@ one_handing case h j table others p q =
     let class = p.class ∙ sym q.class in
     let now = p.now ∙ sym q.now in
     let limit = p.limit ∙ sym q.limit in
-    let other_question = p.other_question ∙ sym q.other_question in
+    let other_question = one_flag h.other_question j.other_question (flag_in case case.other_question) p.other_question q.other_question in
     λ i. record {
       apex = apex i;
       ds = ds i;

@@ -1,14 +1,17 @@
 -- What is replied to a case in octets.
-use Rattle.std.specs.Prelude.{◌≡◌, ℕ, ◌%◌, ◌≤◌, ◌<◌, ◌==◌, ◌⊎◌, Bool, true, false, ◌||◌, List, [], ◌++◌, drop, length, map, Option, Some, None, Ok, Err, if◌then◌else◌, ⊤}
-use Rattle.std.specs.List.{AllByRecursion, flat_map}
+use Rattle.std.specs.Prelude.{◌≡◌, ℕ, ◌+◌, ◌%◌, ◌≤◌, ◌<◌, ◌==◌, ◌⊎◌, min, Bool, true, false, ◌&&◌, ◌||◌, List, [], ◌∷◌, ◌++◌, drop, filter, length, map, Option, Some, None, Result, Ok, Err, nat_eq, nat_lt, if◌then◌else◌}
+use Rattle.std.specs.List.{AllByRecursion, flat_map, list_any, starts_with}
 use Rattle.definitions.specs.Dnskey.{Ds}
 use Rattle.messages_canonical.specs.InForm.{GrowsTooLong, IsInForm}
 use Rattle.names_rdata.specs.Composing.{with_length}
 use Rattle.messages.specs.NameOctets.{name_of_octets}
 use Rattle.answer_judge_rules.specs.declared.verdict.Verdict.{Verdict}
 use Rattle.answer_judge_rules.specs.declared.verdict.Verdict.TheVariants as v
+use Rattle.answer_judge_keys.specs.declared.verdict.Judgement.{Judgement}
+use Rattle.answer_judge_keys.specs.declared.verdict.Lasting.{Lasting}
 use Rattle.answer_judge_keys.specs.declared.verdict.Refusal.{Refusal}
 use Rattle.answer_judge_keys.specs.declared.verdict.Refusal.TheVariants as r
+use Rattle.answer_judge_keys.specs.declared.verdict.Refused.{Refused}
 use Rattle.answer_judge_keys.specs.Judging.{Handing}
 use Rattle.answer_judge_table.specs.declared.outcome.Outcome.{Outcome}
 use Rattle.answer_judge_table.specs.declared.outcome.Outcome.TheVariants as o
@@ -28,20 +31,33 @@ use Rattle.answer_judge_octets.specs.Written.{FitsChecked, FitsDs, IsList, check
 abbrev pub flag_of : ℕ → Option Bool
 flag_of n = if n == 0 then Some false else if n == 1 then Some true else None
 
--- The size of a case, and of one that ends in front of its flags: there each of them is 0.
-abbrev pub whole_size : ℕ
-whole_size = 128
+-- The size of a case. No other is known: fields that a caller doesn't know would be read as none.
+abbrev pub case_size : ℕ
+case_size = 160
 
-abbrev pub smallest_size : ℕ
-smallest_size = 120
-
--- what a flag of a case says, if anything: no other size is known, and a part of the flags would be read as none
+-- what a flag of a case says, if anything
 abbrev pub flag_in : OctetCase → ℕ → Option Bool
-flag_in case flag = if case.size == whole_size then flag_of flag else if case.size == smallest_size then Some false else None
+flag_in case flag = if case.size == case_size then flag_of flag else None
+
+-- an algorithm that the caller checks: each, where it names none
+abbrev pub is_checked : List ℕ → ℕ → Bool
+is_checked algorithms n = (length algorithms == 0) || list_any (λ a. nat_eq a n) algorithms
+
+-- a digest type of which digests are made, those of SHA-256 and SHA-384 (RFC 4509; RFC 6605, 2)
+abbrev pub is_made : ℕ → Bool
+is_made t = nat_eq t 2 || nat_eq t 4
+
+-- a DS record of an algorithm that the caller checks and of a digest that is made
+abbrev pub counts_for : List ℕ → Ds → Bool
+counts_for algorithms d = is_checked algorithms d.algorithm && is_made d.digest_type
+
+-- the DS records that are judged by: others lead to no key that can be checked (RFC 4035, 5.2)
+abbrev pub judged_ds : List ℕ → List Ds → List Ds
+judged_ds algorithms ds = filter (counts_for algorithms) ds
 
 -- Messages stand as they were received where that is asked for, and beside an empty DS set, where nothing that they hold counts.
-abbrev pub stand_as_received : OctetCase → Bool → Bool
-stand_as_received case flag = (length case.ds.now == 0) || flag
+abbrev pub stand_as_received : List Ds → Bool → Bool
+stand_as_received ds flag = (length ds == 0) || flag
 
 -- The octets that are judged of a message: those that were received; or, where names in data are to be taken in full and in lower
 -- case, these too where its data are so, and else its canonical form. What doesn't read is refused as it was received.
@@ -49,22 +65,38 @@ abbrev pub IsJudged : Bool → List ℕ → List ℕ → Type 0
 IsJudged true m judged = judged ≡ m
 IsJudged false m judged = IsInForm m judged
 
--- What the octets of a case spell: what a judge is handed, and a table.
+-- What the octets of a case spell: what a judge is handed, and a table. That there is no DS record is said by a flag, so that a DS
+-- set which was forgotten is none.
 pub record Spells (case : OctetCase) (h : Handing) (table : List Checked) : Type 0 where
   pub as_received : Bool
   pub flag : flag_in case case.as_received ≡ Some as_received
   pub apex : name_of_octets case.apex.now ≡ Some h.apex
-  pub ds : IsList FitsDs ds_octets case.ds.now h.ds
-  pub dnskey_bytes : IsJudged (stand_as_received case as_received) case.dnskey.now h.dnskey_bytes
-  pub answer_bytes : IsJudged (stand_as_received case as_received) case.answer.now h.answer_bytes
+  pub no_ds : flag_in case case.no_ds ≡ Some (length case.ds.now == 0)
+  pub ds_set : List Ds
+  pub ds : IsList FitsDs ds_octets case.ds.now ds_set
+  pub ds_judged : h.ds ≡ judged_ds case.algorithms.now ds_set
+  pub dnskey_bytes : IsJudged (stand_as_received h.ds as_received) case.dnskey.now h.dnskey_bytes
+  pub answer_bytes : IsJudged (stand_as_received h.ds as_received) case.answer.now h.answer_bytes
   pub name : name_of_octets case.name.now ≡ Some h.asked.name
   pub rtype : h.asked.rtype ≡ case.rtype
   pub class : h.asked.class ≡ case.class
   pub now : h.now ≡ case.moment % 4294967296
   pub limit : h.limit ≡ case.limit
   pub one_moment : flag_in case case.one_moment ≡ Some h.one_moment
-  pub other_question : h.other_question ≡ false
+  pub other_question : flag_in case case.other_question ≡ Some h.other_question
   pub entries : IsList FitsChecked checked_octets case.checked.now table
+
+-- a DS set of which some record is judged by
+pub record HasDs (case : OctetCase) : Type 0 where
+  pub ds_set : List Ds
+  pub ds : IsList FitsDs ds_octets case.ds.now ds_set
+  pub some : (length (judged_ds case.algorithms.now ds_set) == 0) ≡ false
+
+-- a case of another size, a flag that is none, or one that says of no DS octets that there are some, or of some that there are none
+abbrev pub IsBadCase : OctetCase → Type 0
+IsBadCase case =
+    (flag_in case case.one_moment ≡ None)
+    ⊎ ((flag_in case case.as_received ≡ None) ⊎ ((flag_in case case.other_question ≡ None) ⊎ (flag_in case case.no_ds ≡ Some (length case.ds.now == 0) → ⊥)))
 
 -- which octets of a case spell nothing
 abbrev pub Unread : OctetCase → ReplyCode → Type 0
@@ -72,9 +104,8 @@ Unread case c.BadApex = name_of_octets case.apex.now ≡ None
 Unread case c.BadDsSet = (ds : List Ds) → IsList FitsDs ds_octets case.ds.now ds → ⊥
 Unread case c.BadName = name_of_octets case.name.now ≡ None
 Unread case c.BadSignatures = (table : List Checked) → IsList FitsChecked checked_octets case.checked.now table → ⊥
-Unread case c.BadCase = (flag_in case case.one_moment ≡ None) ⊎ (flag_in case case.as_received ≡ None)
-Unread case c.MessageTooLong =
-    (flag_in case case.as_received ≡ Some false) × ((length case.ds.now == 0) ≡ false) × (GrowsTooLong case.dnskey.now ⊎ GrowsTooLong case.answer.now)
+Unread case c.BadCase = IsBadCase case
+Unread case c.MessageTooLong = (flag_in case case.as_received ≡ Some false) × HasDs case × (GrowsTooLong case.dnskey.now ⊎ GrowsTooLong case.answer.now)
 Unread case _ = ⊥
 
 -- ---- what is replied
@@ -102,6 +133,7 @@ number_of c.NotProven = 25
 number_of c.OutOfMemory = 26
 number_of c.MixedVersions = 27
 number_of c.MessageTooLong = 28
+number_of c.TooManySignatures = 29
 number_of c.Ask = 32
 number_of c.BufferTooSmall = 34
 number_of c.BadApex = 35
@@ -134,79 +166,191 @@ code_of_refusal r.NotProven = c.NotProven
 code_of_refusal r.MixedVersions = c.MixedVersions
 code_of_refusal r.Memory = c.OutOfMemory
 
+-- a code of a verdict
+abbrev pub is_verdict : ReplyCode → Bool
+is_verdict c.Records = true
+is_verdict c.NoType = true
+is_verdict c.NoName = true
+is_verdict c.StarRecords = true
+is_verdict c.StarNoType = true
+is_verdict c.Delegated = true
+is_verdict c.Open = true
+is_verdict c.Unsigned = true
+is_verdict _ = false
+
+-- a code that says why there is no verdict
+abbrev pub is_refusal : ReplyCode → Bool
+is_refusal c.QuestionNotAllowed = true
+is_refusal c.BadDnskeyMessage = true
+is_refusal c.BadAnswerMessage = true
+is_refusal c.QuestionMismatch = true
+is_refusal c.EqualTags = true
+is_refusal c.NoTrustedKey = true
+is_refusal c.MixedNsec3Parameters = true
+is_refusal c.IterationsOverLimit = true
+is_refusal c.HashFailed = true
+is_refusal c.NotProven = true
+is_refusal c.OutOfMemory = true
+is_refusal c.MixedVersions = true
+is_refusal c.MessageTooLong = true
+is_refusal c.TooManySignatures = true
+is_refusal _ = false
+
+-- what is replied
+pub record Replied : Type 0 where
+  pub code : ReplyCode
+  pub octets : List ℕ
+  pub verifications : ℕ
+  pub hashes : ℕ
+  pub ttl : ℕ
+  pub until : ℕ
+  pub ede : ℕ
+
+-- a code alone
+abbrev pub only : ReplyCode → Replied
+only code = record { code = code; octets = []; verifications = 0; hashes = 0; ttl = 0; until = 0; ede = 0 }
+
+-- a reply as contracts see it
+abbrev pub reply_seen : Reply → Replied
+reply_seen r = record { code = r.code; octets = r.octets.items; verifications = r.verifications; hashes = r.hashes; ttl = r.ttl; until = r.until; ede = r.ede }
+
+-- ---- a judgement
+
 -- the data of records, each behind its length
 abbrev pub octets_of_verdict : Verdict → List ℕ
 octets_of_verdict (v.Records d) = flat_map with_length d
 octets_of_verdict (v.StarRecords d) = flat_map with_length d
 octets_of_verdict _ = []
 
+-- for how many seconds a verdict may be kept; 0 where nothing says it
+abbrev pub ttl_of : Option Lasting → ℕ
+ttl_of None = 0
+ttl_of (Some l) = l.ttl
+
+-- The last second in which a verdict stands that was given in one, of numbers of 64 bits; 0 where nothing says it.
+abbrev pub until_of : ℕ → Option Lasting → ℕ
+until_of second None = 0
+until_of second (Some l) = min (second + l.seconds) 18446744073709551615
+
+-- Why no DS record is judged by, as an extended error (RFC 8914, 4.2 and 4.3): 2 where none has a digest that is made; else 1, since
+-- those that have one are of algorithms that are not checked; and 0 where there is no record.
+abbrev pub unsupported : List Ds → ℕ
+unsupported ds = if length ds == 0 then 0 else if list_any (λ d. is_made d.digest_type) ds then 1 else 2
+
+-- it is said beside the verdict that the zone is not signed
+abbrev pub error_beside : ℕ → Verdict → ℕ
+error_beside error v.Unsigned = error
+error_beside error _ = 0
+
+-- What is replied to a judgement of a moment in seconds, beside a DS set with that error.
+abbrev pub judged_reply : ℕ → ℕ → Result Judgement Refused → Replied
+judged_reply second error (Ok j) = record {
+  code = code_of_verdict j.verdict;
+  octets = octets_of_verdict j.verdict;
+  verifications = j.verifications;
+  hashes = j.hashes;
+  ttl = ttl_of j.lasting;
+  until = until_of second j.lasting;
+  ede = error_beside error j.verdict;
+}
+judged_reply second error (Err e) = record (only (code_of_refusal e.refusal)) { verifications = e.verifications; hashes = e.hashes }
+
+-- ---- signatures that are asked for
+
+-- the ends of octets, from the whole to none
+abbrev pub ends : List ℕ → List (List ℕ)
+ends [] = [] ∷ []
+ends (x ∷ octets) = (x ∷ octets) ∷ ends octets
+
+abbrev pub begins_with : List ℕ → List ℕ → Bool
+begins_with part octets = starts_with nat_eq octets part
+
+-- octets stand somewhere in others
+abbrev pub stands_in : List ℕ → List ℕ → Bool
+stands_in octets part = list_any (begins_with part) (ends octets)
+
+-- an entry whose signature stands in one of two messages
+abbrev pub is_carried : List ℕ → List ℕ → Checked → Bool
+is_carried m n c = stands_in m c.tried.signature || stands_in n c.tried.signature
+
+-- how many signatures may be checked, 16 where no number is said
+abbrev pub most_of : ℕ → ℕ
+most_of number = if number == 0 then 16 else number
+
+-- So many more are asked for that there are too many: with the entries of the table whose signatures stand in the messages, so with
+-- all that was asked for of them before (CVE-2023-50387).
+abbrev pub are_too_many : ℕ → Handing → List Checked → ℕ → Bool
+are_too_many most h table more = nat_lt (most_of most) (length (filter (is_carried h.dnskey_bytes h.answer_bytes) table) + more)
+
 -- entries of signatures that are to be checked, one behind another
 abbrev pub entries_of : List Tried → List ℕ
 entries_of asks = flat_map checked_octets (map unchecked asks)
 
--- what an outcome is replied as
-pub record Replied : Type 0 where
-  pub code : ReplyCode
-  pub octets : List ℕ
-  pub verifications : ℕ
-  pub hashes : ℕ
+-- what is asked for, as entries that fit; or that it is too much
+abbrev pub AsksOrStops : Bool → List Tried → Replied → Type 0
+AsksOrStops true asks said = said ≡ only c.TooManySignatures
+AsksOrStops false asks said = (said ≡ record (only c.Ask) { octets = entries_of asks }) × AllByRecursion FitsChecked (map unchecked asks)
 
-abbrev pub replied : Outcome → Replied
-replied (o.Judged (Ok j)) = record { code = code_of_verdict j.verdict; octets = octets_of_verdict j.verdict; verifications = j.verifications; hashes = j.hashes }
-replied (o.Judged (Err e)) = record { code = code_of_refusal e.refusal; octets = []; verifications = e.verifications; hashes = e.hashes }
-replied (o.Asks asks) = record { code = c.Ask; octets = entries_of asks.items; verifications = 0; hashes = 0 }
+-- ---- an outcome
 
--- what is asked for fits entries
-abbrev pub EntriesFit : Outcome → Type 0
-EntriesFit (o.Asks asks) = AllByRecursion FitsChecked (map unchecked asks.items)
-EntriesFit (o.Judged said) = ⊤
-
--- a reply as contracts see it
-abbrev pub reply_seen : Reply → Replied
-reply_seen r = record { code = r.code; octets = r.octets.items; verifications = r.verifications; hashes = r.hashes }
+abbrev pub IsRepliedTo : OctetCase → ℕ → Handing → List Checked → Outcome → Replied → Type 0
+IsRepliedTo case error h table (o.Judged judged) said = said ≡ judged_reply case.moment error judged
+IsRepliedTo case error h table (o.Asks asks) said = AsksOrStops (are_too_many case.max_signatures h table (length asks.items)) asks.items said
 
 -- an outcome of a judgement by a table, and what it is replied as
-pub record SaysOutcome (h : Handing) (table : List Checked) (said : Replied) : Type 0 where
+pub record SaysOutcome (case : OctetCase) (error : ℕ) (h : Handing) (table : List Checked) (said : Replied) : Type 0 where
   pub outcome : Outcome
   pub is_outcome : IsOutcome table h outcome
-  pub entries_fit : EntriesFit outcome
-  pub reply : said ≡ replied outcome
+  pub replied : IsRepliedTo case error h table outcome said
 
 -- what the octets spell, and the outcome that is replied
 pub record IsReply (case : OctetCase) (said : Replied) : Type 0 where
   pub handing : Handing
   pub table : List Checked
   pub spelled : Spells case handing table
-  pub says : SaysOutcome handing table said
+  pub says : SaysOutcome case (unsupported spelled.ds_set) handing table said
 
--- a code alone: no octets, and nothing was verified or hashed
-pub record IsBare (said : Replied) : Type 0 where
-  pub octets : said.octets ≡ []
-  pub verifications : said.verifications ≡ 0
-  pub hashes : said.hashes ≡ 0
-
--- A reply to a case: that memory ran out or that octets of it spell nothing, both bare, or the outcome of what they spell.
+-- A reply to a case: that memory ran out or that octets of it spell nothing, or the outcome of what they spell.
 abbrev pub Replies : OctetCase → Replied → Type 0
-Replies case said = (IsBare said × ((said.code ≡ c.OutOfMemory) ⊎ Unread case said.code)) ⊎ IsReply case said
+Replies case said = ((said ≡ only said.code) × ((said.code ≡ c.OutOfMemory) ⊎ Unread case said.code)) ⊎ IsReply case said
 
 -- ---- what is handed out
 
+-- the size of a report, the only one that is known
+abbrev pub report_size : ℕ
+report_size = 48
+
+-- what a report says of a reply
+abbrev pub report_of : Replied → Report
+report_of said = record {
+  size = report_size;
+  len = length said.octets;
+  until = said.until;
+  verifications = said.verifications;
+  hashes = said.hashes;
+  ttl = said.ttl;
+  ede = said.ede;
+}
+
 -- A reply's octets in front of what was there, where there is room for them; else what was there.
-pub record IsHandedOut (said : Replied) (old new : List ℕ) (report : Report) (code : ReplyCode) : Type 0 where
-  pub len : report.len ≡ length said.octets
-  pub verifications : report.verifications ≡ said.verifications
-  pub hashes : report.hashes ≡ said.hashes
+pub record IsHandedOut (said : Replied) (old new : List ℕ) (code : ReplyCode) : Type 0 where
   pub fits : length said.octets ≤ length old → (code ≡ said.code) × (new ≡ said.octets ++ drop (length said.octets) old)
   pub small : length old < length said.octets → (code ≡ c.BufferTooSmall) × (new ≡ old)
 
--- what a caller gets in octets
-pub record Answers (case : OctetCase) (old new : List ℕ) (report : Report) (code : ReplyCode) : Type 0 where
+-- a reply to a case, and what its report says
+pub record IsReported (case : OctetCase) (old new : List ℕ) (report : Report) (code : ReplyCode) : Type 0 where
   pub said : Replied
   pub replies : Replies case said
-  pub handed_out : IsHandedOut said old new report code
+  pub handed_out : IsHandedOut said old new code
+  pub report_is : report ≡ report_of said
+
+-- what a caller gets in octets: of a report of another size nothing but that
+pub record Answers (case : OctetCase) (old new : List ℕ) (before after : Report) (code : ReplyCode) : Type 0 where
+  pub known : before.size ≡ report_size → IsReported case old new after code
+  pub unknown : (before.size ≡ report_size → ⊥) → (code ≡ c.BadCase) × (new ≡ old) × (after ≡ before)
 
 -- the same, the code as its number
-pub record AnswersNumber (case : OctetCase) (old new : List ℕ) (report : Report) (number : ℕ) : Type 0 where
+pub record AnswersNumber (case : OctetCase) (old new : List ℕ) (before after : Report) (number : ℕ) : Type 0 where
   pub code : ReplyCode
   pub number_is : number ≡ number_of code
-  pub answers : Answers case old new report code
+  pub answers : Answers case old new before after code

@@ -2,8 +2,10 @@
 //! in octets, for callers in other languages.
 #![tactic(auto)]
 
+mod ds;
 mod entries;
 pub mod laws;
+mod limit;
 mod list;
 pub mod octets;
 mod parts;

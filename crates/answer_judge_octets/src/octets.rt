@@ -3,13 +3,15 @@ ghost use Rattle.std.specs.Prelude.{◌≡◌, ◌⊎◌, Some, None, false, IfO
 ghost use Rattle.std.specs.Cow.{cow_slice_items};
 ghost use Rattle.messages.specs.NameOctets.{name_of_octets};
 ghost use Rattle.messages_canonical.specs.InForm.{GrowsTooLong};
-ghost use Rattle.answer_judge_octets.specs.Replying.{Answers, IsJudged, Replies, SaysOutcome, Spells, Unread, flag_in, reply_seen};
-ghost use Rattle.answer_judge_octets.specs.ReadCases.{handing_of};
+ghost use Rattle.answer_judge_octets.specs.Replying.{Answers, IsJudged, Replies, SaysOutcome, Unread, flag_in, reply_seen};
+ghost use Rattle.answer_judge_octets.specs.ReadCases.{ReadsAs, handing_of};
 
+use crate::ds::{judged_ds, unsupported};
+use crate::limit::are_too_many;
 use crate::list::read_list;
-use crate::reply::{Reply, ReplyCode, reply_of};
+use crate::reply::{Reply, ReplyCode, reply_of_asks, reply_of_judgement};
 use answer_judge::Case;
-use answer_judge_table::{CheckedSignature, judge_by_table};
+use answer_judge_table::{CheckedSignature, Outcome, judge_by_table};
 use denial_data::Ds;
 use denial_fields::unix_time::UnixTime;
 use messages::names::{Name, name_from_octets};
@@ -25,11 +27,12 @@ use std::time::Duration;
 #[repr(C)]
 #[derive(Drop)]
 pub struct OctetCase<'a> {
-    /// How many octets the case has as its caller knows it: 128, or 120 without the flags, which are 0 then and are not read.
+    /// How many octets the case has as its caller knows it: 160.
     pub size: usize,
     /// The name of the zone.
     pub apex: &'a [u8],
-    /// The DS set of the parent: each record's data behind its length in two octets (RFC 4034, 5.1).
+    /// The DS set of the parent: each record's data behind its length in two octets (RFC 4034, 5.1). Of them those are judged by
+    /// that have a digest of SHA-256 or SHA-384 and one of the `algorithms`.
     pub ds: &'a [u8],
     /// The answer for the DNSKEY RRset, a message.
     pub dnskey: &'a [u8],
@@ -52,34 +55,58 @@ pub struct OctetCase<'a> {
     /// 0 where both messages are judged with names in their data in full and in lower case (RFC 4034, 6.2), as every validator
     /// does: put in canonical form where they have to be; 1 where they are judged as their octets stand.
     pub as_received: u32,
+    /// The algorithms of signatures that the caller checks, by their numbers (RFC 4034, A.1); none where it checks all.
+    pub algorithms: &'a [u8],
+    /// How many signatures of both messages are to be checked at most; 0 stands for 16.
+    pub max_signatures: u32,
+    /// 1 where the answer may be one to another question of the zone, as a cached denial is (RFC 8198); else 0.
+    pub other_question: u32,
+    /// 1 where the parent proved that there is no DS record; else 0, and `ds` has some.
+    pub no_ds: u32,
 }
 
 /// How many octets a case has in memory.
-const WHOLE: usize = 128;
+const CASE_SIZE: usize = 160;
 
-/// How many it has in front of the flags.
-const WITHOUT_FLAGS: usize = 120;
+const _: () = prove!(size_of::<OctetCase>() == CASE_SIZE);
 
-const _: () = prove!(size_of::<OctetCase>() == WHOLE);
-
-/// How long a reply is, and how often was verified and hashed for it.
+/// What is said of a reply beside its code and its octets.
 #[repr(C)]
 #[derive(Clone, Copy, Debug)]
 pub struct Report {
+    /// How many octets the report has as its caller knows it: 48.
+    pub size: usize,
     /// How many octets the reply has.
     pub len: usize,
-    pub verifications: u32,
-    pub hashes: u32,
+    /// The last second since 1970 in which the verdict stands; 0 where nothing says it.
+    pub until: u64,
+    /// How many signatures were verified for it.
+    pub verifications: u64,
+    /// How many names were hashed for it.
+    pub hashes: u64,
+    /// For how many seconds the verdict may be kept (RFC 4035, 5.3.3); 0 where nothing says it.
+    pub ttl: u32,
+    /// The extended error that the reply brings (RFC 8914, 4), or 0: code 0 of the RFC, which says nothing, is never brought.
+    pub ede: u16,
 }
+
+/// How many octets a report has in memory.
+const REPORT_SIZE: usize = 48;
+
+const _: () = prove!(size_of::<Report>() == REPORT_SIZE);
 
 /// What the octets of a case spell.
 #[derive(Drop)]
 struct ReadCase<'a> {
     apex: Name<Vec<u8>>,
+    /// The DS records that are judged by.
     ds: Vec<Ds<Vec<u8>>>,
+    /// The extended error that is said where there is none of them.
+    error: u16,
     dnskey: CowSlice<'a, u8>,
     answer: CowSlice<'a, u8>,
     one_moment: bool,
+    other_question: bool,
     question: Question,
     table: Vec<CheckedSignature<'a>>,
 }
@@ -89,24 +116,40 @@ struct ReadCase<'a> {
 /// their entries, which belong into the list with their last octets set.
 ///
 /// Of messages in which nothing is forged, in the form that is judged, no verdict is said but that of a version of the zone, and
-/// none of an alias: of a zone in order (nothing beside a CNAME, nothing below a DNAME), whoever signs and serves it.
+/// none of an alias: of a zone in order (nothing beside a CNAME, nothing below a DNAME), whoever signs and serves it, and
+/// whichever question the answer was given to.
 pub fn judge_octets(
     alloc: Global,
     case: &OctetCase,
     out: &mut [u8],
     report: &mut Report,
 ) -> ReplyCode
-    ensures { Answers case.now out.old out.new report.new result }
+    ensures { Answers case.now out.old out.new report.old report.new result }
 {
+    if report.size != REPORT_SIZE {
+        return ReplyCode::BadCase;
+    }
     let reply = reply(alloc, case);
-    report.len = reply.octets.len();
-    report.verifications = reply.verifications;
-    report.hashes = reply.hashes;
+    *report = report_of(&reply);
     if reply.octets.len() > out.len() {
         return ReplyCode::BufferTooSmall;
     }
     out[..reply.octets.len()].copy_from_slice(&reply.octets);
     reply.code
+}
+
+fn report_of(reply: &Reply) -> Report
+    ensures { result ≡ report_of (reply_seen reply.now) }
+{
+    Report {
+        size: REPORT_SIZE,
+        len: reply.octets.len(),
+        until: reply.until,
+        verifications: reply.verifications,
+        hashes: reply.hashes,
+        ttl: reply.ttl,
+        ede: reply.ede,
+    }
 }
 
 /// The reply to a case.
@@ -115,18 +158,18 @@ fn reply(alloc: Global, case: &OctetCase) -> Reply
 {
     let read = match read_case(alloc, case) {
         Ok(read) => read,
-        Err(code) => return Reply::of_code(alloc, code),
+        Err(code) => return Reply::only(alloc, code),
     };
     match judged(alloc, case, &read) {
         Ok(reply) => reply,
-        Err(_) => Reply::of_code(alloc, ReplyCode::OutOfMemory),
+        Err(_) => Reply::only(alloc, ReplyCode::OutOfMemory),
     }
 }
 
 /// The reply to what a case spells.
 fn judged(alloc: Global, case: &OctetCase, read: &ReadCase) -> Result<Reply, AllocError>
     ensures { let h = handing_of case.now read.now in let table = read.now.table.items in
-        IfOk result (λ r. SaysOutcome h table (reply_seen r)) }
+        IfOk result (λ r. SaysOutcome case.now read.now.error h table (reply_seen r)) }
 {
     let handed = Case {
         apex: &read.apex,
@@ -137,37 +180,50 @@ fn judged(alloc: Global, case: &OctetCase, read: &ReadCase) -> Result<Reply, All
         moment: UnixTime::new(Duration::from_secs(case.moment)),
         limit: case.limit,
         one_moment: read.one_moment,
-        other_question: false,
+        other_question: read.other_question,
     };
-    let outcome = judge_by_table(alloc, &handed, &read.table)?;
-    reply_of(alloc, &outcome)
+    match judge_by_table(alloc, &handed, &read.table)? {
+        Outcome::Judged(judged) => reply_of_judgement(alloc, case.moment, read.error, &judged),
+        Outcome::Asks(asks) => {
+            let stops = are_too_many(case.max_signatures, &handed, &read.table, asks.len());
+            reply_of_asks(alloc, &asks, stops)
+        }
+    }
 }
 
 /// Reads what the octets of a case spell.
 fn read_case<'a>(alloc: Global, case: &OctetCase<'a>) -> Result<ReadCase<'a>, ReplyCode>
-    ensures ok { IfOk result (λ r. Spells case.now (handing_of case.now r) r.table.items) }
+    ensures ok { IfOk result (λ r. ReadsAs case.now r) }
     ensures unread { IfErr result
         (λ c. (c ≡ ReplyCode.OutOfMemory) ⊎ Unread case.now c) }
 {
     let one_moment = flag_in(case, case.one_moment)?;
     let as_received = flag_in(case, case.as_received)?;
+    let other_question = flag_in(case, case.other_question)?;
+    if flag_in(case, case.no_ds)? != case.ds.is_empty() {
+        return Err(ReplyCode::BadCase);
+    }
     let apex = read_name(alloc, case.apex, ReplyCode::BadApex)?;
-    let Some(ds) = read_list(alloc, case.ds)? else {
+    let Some(ds_set) = read_list(alloc, case.ds)? else {
         return Err(ReplyCode::BadDsSet);
     };
     let name = read_name(alloc, case.name, ReplyCode::BadName)?;
     let Some(table) = read_list(alloc, case.checked)? else {
         return Err(ReplyCode::BadSignatures);
     };
-    let as_received = case.ds.is_empty() || as_received;
+    let error = unsupported(&ds_set);
+    let ds = judged_ds(ds_set, case.algorithms);
+    let as_received = ds.is_empty() || as_received;
     let dnskey = judged_form(alloc, case.dnskey, as_received)?;
     let answer = judged_form(alloc, case.answer, as_received)?;
     Ok(ReadCase {
         apex,
         ds,
+        error,
         dnskey,
         answer,
         one_moment,
+        other_question,
         question: Question {
             name,
             rtype: Rtype::from_int(case.rtype),
@@ -182,10 +238,7 @@ fn flag_in(case: &OctetCase, flag: u32) -> Result<bool, ReplyCode>
     ensures said { IfOk result (λ b. flag_in case.now flag ≡ Some b) }
     ensures unread { IfErr result (λ c. (c ≡ ReplyCode.BadCase) × (flag_in case.now flag ≡ None)) }
 {
-    if case.size == WITHOUT_FLAGS {
-        return Ok(false);
-    }
-    if case.size != WHOLE {
+    if case.size != CASE_SIZE {
         return Err(ReplyCode::BadCase);
     }
     match flag {

@@ -1,14 +1,14 @@
 //! What is replied to a caller in octets.
-ghost use Rattle.std.specs.Prelude.{◌≡◌, ◌++◌, [], length, map, IfOk, MatchOption, OnOk};
+ghost use Rattle.std.specs.Prelude.{◌≡◌, ◌++◌, length, map, IfOk, MatchOption, OnOk};
 ghost use Rattle.std.specs.List.{AllByRecursion, flat_map};
 ghost use Rattle.names_rdata.specs.Composing.{with_length};
 ghost use Rattle.answer_judge_octets.specs.declared.reply.ReplyCode.{ReplyCode};
 ghost use Rattle.answer_judge_table.specs.Asking.{unchecked};
 ghost use Rattle.answer_judge_octets.specs.Written.{FitsChecked, IsLong, IsShort, checked_octets, with_long_length};
-ghost use Rattle.answer_judge_octets.specs.Replying.{EntriesFit, code_of_refusal, code_of_verdict, entries_of, number_of, octets_of_verdict, replied, reply_seen};
+ghost use Rattle.answer_judge_octets.specs.Replying.{AsksOrStops, code_of_refusal, code_of_verdict, entries_of, error_beside, is_refusal, is_verdict, judged_reply, number_of, octets_of_verdict, only, reply_seen, ttl_of, until_of};
 
-use answer_judge::{DataList, Refusal, Verdict};
-use answer_judge_table::{Ask, Outcome};
+use answer_judge::{DataList, Judgement, Lasting, Refusal, Refused, Verdict};
+use answer_judge_table::Ask;
 use answer_shared::dnskey::ZoneKey;
 use std::alloc::{AllocError, Global};
 
@@ -46,6 +46,8 @@ pub enum ReplyCode {
     MixedVersions = 27,
     /// A message has more than 65,535 octets in canonical form.
     MessageTooLong = 28,
+    /// More signatures would be asked for than the case allows.
+    TooManySignatures = 29,
     /// These signatures are to be checked: entries of the list.
     Ask = 32,
     /// The reply has more octets than there is room for.
@@ -58,7 +60,7 @@ pub enum ReplyCode {
     BadName = 37,
     /// The signatures are no list of checked signatures.
     BadSignatures = 38,
-    /// The case has another size, or a flag that is neither 0 nor 1.
+    /// The case or the report has another size, a flag is neither 0 nor 1, or it is unclear whether there is a DS record.
     BadCase = 39,
 }
 
@@ -97,6 +99,7 @@ impl ReplyCode {
             26 => Some(ReplyCode::OutOfMemory),
             27 => Some(ReplyCode::MixedVersions),
             28 => Some(ReplyCode::MessageTooLong),
+            29 => Some(ReplyCode::TooManySignatures),
             32 => Some(ReplyCode::Ask),
             34 => Some(ReplyCode::BufferTooSmall),
             35 => Some(ReplyCode::BadApex),
@@ -107,59 +110,133 @@ impl ReplyCode {
             _ => None,
         }
     }
+
+    /// Whether it is a verdict.
+    pub fn is_verdict(self) -> bool
+        ensures { result ≡ is_verdict self }
+    {
+        match self {
+            ReplyCode::Records | ReplyCode::NoType | ReplyCode::NoName => true,
+            ReplyCode::StarRecords | ReplyCode::StarNoType => true,
+            ReplyCode::Delegated | ReplyCode::Open | ReplyCode::Unsigned => true,
+            _ => false,
+        }
+    }
+
+    /// Whether it says why there is no verdict.
+    pub fn is_refusal(self) -> bool
+        ensures { result ≡ is_refusal self }
+    {
+        match self {
+            ReplyCode::QuestionNotAllowed | ReplyCode::QuestionMismatch => true,
+            ReplyCode::BadDnskeyMessage | ReplyCode::BadAnswerMessage => true,
+            ReplyCode::EqualTags | ReplyCode::NoTrustedKey | ReplyCode::MixedVersions => true,
+            ReplyCode::MixedNsec3Parameters | ReplyCode::IterationsOverLimit => true,
+            ReplyCode::HashFailed | ReplyCode::NotProven | ReplyCode::OutOfMemory => true,
+            ReplyCode::MessageTooLong | ReplyCode::TooManySignatures => true,
+            _ => false,
+        }
+    }
 }
 
-/// What is replied: its code and its octets, and how often was verified and hashed.
+/// What is replied: its code and its octets, how often was verified and hashed, how long a verdict lasts, and an extended error.
 #[derive(Debug, Drop)]
 pub(crate) struct Reply {
     pub(crate) code: ReplyCode,
     pub(crate) octets: Vec<u8>,
-    pub(crate) verifications: u32,
-    pub(crate) hashes: u32,
+    pub(crate) verifications: u64,
+    pub(crate) hashes: u64,
+    pub(crate) ttl: u32,
+    pub(crate) until: u64,
+    pub(crate) ede: u16,
 }
 
 impl Reply {
     /// A code alone.
-    pub(crate) fn of_code(alloc: Global, code: ReplyCode) -> Self
-        ensures code { result.code ≡ code }
-        ensures octets { result.octets.items ≡ [] }
-        ensures verifications { result.verifications ≡ 0 }
-        ensures hashes { result.hashes ≡ 0 }
+    pub(crate) fn only(alloc: Global, code: ReplyCode) -> Self
+        ensures { reply_seen result ≡ only code }
     {
         Reply {
             code,
             octets: Vec::new(alloc),
             verifications: 0,
             hashes: 0,
+            ttl: 0,
+            until: 0,
+            ede: 0,
         }
     }
 }
 
-/// The reply of an outcome.
-pub(crate) fn reply_of(alloc: Global, outcome: &Outcome) -> Result<Reply, AllocError>
-    ensures reply { IfOk result (λ r. reply_seen r ≡ replied outcome.now) }
-    ensures entries_fit { OnOk result (EntriesFit outcome.now) }
+/// The reply to a judgement of a moment in seconds, beside a DS set with an error that is said where none of it is judged by.
+pub(crate) fn reply_of_judgement(
+    alloc: Global,
+    second: u64,
+    error: u16,
+    judged: &Result<Judgement, Refused>,
+) -> Result<Reply, AllocError>
+    ensures { IfOk result (λ r. reply_seen r ≡ judged_reply second error judged.now) }
 {
-    match outcome {
-        Outcome::Judged(Ok(judgement)) => Ok(Reply {
-            code: code_of_verdict(&judgement.verdict),
-            octets: octets_of_verdict(alloc, &judgement.verdict)?,
-            verifications: judgement.verifications,
-            hashes: judgement.hashes,
-        }),
-        Outcome::Judged(Err(refused)) => Ok(Reply {
-            code: code_of_refusal(refused.refusal),
-            octets: Vec::new(alloc),
-            verifications: refused.verifications,
-            hashes: refused.hashes,
-        }),
-        Outcome::Asks(asks) => Ok(Reply {
-            code: ReplyCode::Ask,
-            octets: octets_of_asks(alloc, asks)?,
-            verifications: 0,
-            hashes: 0,
-        }),
+    let judgement = match judged {
+        Ok(judgement) => judgement,
+        Err(refused) => {
+            let mut reply = Reply::only(alloc, code_of_refusal(refused.refusal));
+            reply.verifications = u64::from(refused.verifications);
+            reply.hashes = u64::from(refused.hashes);
+            return Ok(reply);
+        }
+    };
+    Ok(Reply {
+        code: code_of_verdict(&judgement.verdict),
+        octets: octets_of_verdict(alloc, &judgement.verdict)?,
+        verifications: u64::from(judgement.verifications),
+        hashes: u64::from(judgement.hashes),
+        ttl: ttl_of(judgement.lasting),
+        until: until_of(second, judgement.lasting),
+        ede: error_beside(error, &judgement.verdict),
+    })
+}
+
+/// For how many seconds a verdict may be kept.
+fn ttl_of(lasting: Option<Lasting>) -> u32
+    ensures { result ≡ ttl_of lasting }
+{
+    match lasting {
+        Some(lasting) => lasting.ttl.as_secs(),
+        None => 0,
     }
+}
+
+/// The last second in which a verdict stands that was given in one.
+fn until_of(second: u64, lasting: Option<Lasting>) -> u64
+    ensures { result ≡ until_of second lasting }
+{
+    match lasting {
+        Some(lasting) => second.saturating_add(u64::from(lasting.seconds)),
+        None => 0,
+    }
+}
+
+/// The error of a DS set, beside the verdict that the zone is not signed.
+fn error_beside(error: u16, verdict: &Verdict) -> u16
+    ensures { result ≡ error_beside error verdict.now }
+{
+    match verdict {
+        Verdict::Unsigned => error,
+        _ => 0,
+    }
+}
+
+/// The reply that asks for signatures, or that they are too many.
+pub(crate) fn reply_of_asks(alloc: Global, asks: &[Ask], stops: bool) -> Result<Reply, AllocError>
+    ensures { IfOk result (λ r. AsksOrStops stops asks.now (reply_seen r)) }
+{
+    if stops {
+        return Ok(Reply::only(alloc, ReplyCode::TooManySignatures));
+    }
+    let mut reply = Reply::only(alloc, ReplyCode::Ask);
+    reply.octets = octets_of_asks(alloc, asks)?;
+    Ok(reply)
 }
 
 fn code_of_verdict(verdict: &Verdict) -> ReplyCode

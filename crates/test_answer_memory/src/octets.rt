@@ -72,11 +72,19 @@ fn replies(
         limit: 0,
         one_moment: 1,
         as_received: 0,
+        algorithms: &[],
+        max_signatures: 0,
+        other_question: 0,
+        no_ds: 0,
     };
     let mut report = Report {
+        size: size_of::<Report>(),
         len: 0,
+        until: 0,
         verifications: 0,
         hashes: 0,
+        ttl: 0,
+        ede: 0,
     };
     match judge_octets(alloc, &case, &mut out, &mut report) {
         ReplyCode::OutOfMemory => Err(Refused::Memory),

@@ -1,5 +1,6 @@
 //! What the lines so far handed in.
 
+use crate::flags::Flags;
 use crate::judging::{IN, Outcome, outcome_of};
 use crate::signatures::Signatures;
 use crate::tally::Tally;
@@ -8,19 +9,6 @@ use crate::zone::{Asked, Zone};
 use answer_judge_octets::OctetCase;
 use std::alloc::Global;
 use test_lines::{octets_of, text};
-
-/// How an answer is judged besides.
-#[derive(Clone, Copy)]
-struct Flags {
-    one_moment: bool,
-    as_received: bool,
-}
-
-/// Judged as every validator does.
-const PLAIN: Flags = Flags {
-    one_moment: false,
-    as_received: false,
-};
 
 #[derive(Drop)]
 pub struct Desk {
@@ -110,7 +98,7 @@ impl Desk {
 
     /// What is said of an answer beside a DS set, at a moment.
     fn outcome(&self, alloc: Global, ds: &[u8], answer: &[u8], moment: u64) -> Option<Outcome> {
-        self.outcome_with(alloc, ds, answer, moment, PLAIN)
+        self.outcome_with(alloc, ds, answer, moment, &Flags::plain(alloc))
     }
 
     /// What is said of an answer beside a DS set, at a moment, judged by flags.
@@ -120,7 +108,7 @@ impl Desk {
         ds: &[u8],
         answer: &[u8],
         moment: u64,
-        flags: Flags,
+        flags: &Flags,
     ) -> Option<Outcome> {
         let (zone, asked) = (self.zone.as_ref()?, self.asked.as_ref()?);
         let case = OctetCase {
@@ -137,6 +125,10 @@ impl Desk {
             limit: zone.limit,
             one_moment: u32::from(flags.one_moment),
             as_received: u32::from(flags.as_received),
+            algorithms: &flags.algorithms,
+            max_signatures: flags.max_signatures,
+            other_question: u32::from(flags.other_question),
+            no_ds: u32::from(ds.is_empty()),
         };
         outcome_of(alloc, &self.signatures, &case, &asked.verdict)
     }
@@ -154,7 +146,7 @@ impl Desk {
             "cut" => self.cut(alloc, words),
             "at" => self.at(alloc, words),
             "beside" => self.beside(alloc, words),
-            "with" => self.as_held_with(alloc, flags_of(words)?),
+            "with" => self.as_held_with(alloc, &Flags::read(alloc, words)?),
             _ => None,
         }
     }
@@ -197,19 +189,8 @@ impl Desk {
     }
 
     /// What is said of the answer that is held, judged so.
-    fn as_held_with(&self, alloc: Global, flags: Flags) -> Option<Outcome> {
+    fn as_held_with(&self, alloc: Global, flags: &Flags) -> Option<Outcome> {
         let zone = self.zone.as_ref()?;
         self.outcome_with(alloc, &zone.ds, &self.answer, zone.moment, flags)
     }
-}
-
-/// The flags that a word names.
-fn flags_of(words: &[&str]) -> Option<Flags> {
-    let mut flags = PLAIN;
-    match *words.first()? {
-        "one-moment" => flags.one_moment = true,
-        "as-received" => flags.as_received = true,
-        _ => return None,
-    }
-    Some(flags)
 }

@@ -17,8 +17,7 @@ const ROOM: usize = 64;
 struct LastReply {
     code: ReplyCode,
     octets: Vec<u8>,
-    verifications: u32,
-    hashes: u32,
+    report: Report,
 }
 
 /// The reply to a case, once each signature that was asked for was looked up; `checked` of the case is not looked at.
@@ -35,8 +34,7 @@ fn last_reply(alloc: Global, signatures: &Signatures, case: &OctetCase) -> Optio
                 return Some(LastReply {
                     code,
                     octets: octets?.to_vec(alloc).ok()?,
-                    verifications: report.verifications,
-                    hashes: report.hashes,
+                    report,
                 });
             }
         }
@@ -52,9 +50,13 @@ fn reply_to(
     out: &mut [u8],
 ) -> (ReplyCode, Report) {
     let mut report = Report {
+        size: size_of::<Report>(),
         len: 0,
+        until: 0,
         verifications: 0,
         hashes: 0,
+        ttl: 0,
+        ede: 0,
     };
     let case = OctetCase {
         size: case.size,
@@ -70,6 +72,10 @@ fn reply_to(
         limit: case.limit,
         one_moment: case.one_moment,
         as_received: case.as_received,
+        algorithms: case.algorithms,
+        max_signatures: case.max_signatures,
+        other_question: case.other_question,
+        no_ds: case.no_ds,
     };
     let code = judge_octets(alloc, &case, out, &mut report);
     (code, report)
@@ -115,7 +121,7 @@ pub struct Outcome {
     pub text: String,
 }
 
-/// What the judge says, beside what the zone says, and how often was verified and hashed.
+/// What the judge says, beside what the zone says, how often was verified and hashed, and the extended error, if any.
 pub fn outcome_of(
     alloc: Global,
     signatures: &Signatures,
@@ -126,9 +132,18 @@ pub fn outcome_of(
     let words = words_of(alloc, &replied)?;
     let said = compared(replied.code, &words, zone);
     let words = told(alloc, said, &words)?;
-    let (verifications, hashes) = (replied.verifications, replied.hashes);
-    let text = format!(in alloc; "{words}; {verifications} verified, {hashes} hashed").ok()?;
+    let (verifications, hashes) = (replied.report.verifications, replied.report.hashes);
+    let error = error_text(alloc, replied.report.ede)?;
+    let text = format!(in alloc; "{words}; {verifications} verified, {hashes} hashed{error}").ok()?;
     Some(Outcome { said, text })
+}
+
+/// An extended error in print; where there is none nothing.
+fn error_text(alloc: Global, ede: u16) -> Option<String> {
+    if ede == 0 {
+        return Some(String::new(alloc));
+    }
+    format!(in alloc; ", extended error {ede}").ok()
 }
 
 /// Whether a verdict is the zone's, data and all.

@@ -12,7 +12,9 @@
 //! - `message OCTETS`: holds an answer; `answer OCTETS`: holds it, and judges it.
 //! - The answer that is held is judged altered by `altered KIND OCTETS` (other octets in its place), `cut COUNT` (without so many
 //!   octets at its end), `at MOMENT` (at another moment) and `beside LIST` (beside another DS set, `-` for none). As it is it is
-//!   judged `with one-moment`, all its signatures of one inception and expiration, and `with as-received`, as its octets stand.
+//!   judged `with one-moment`, all its signatures of one inception and expiration; `with as-received`, as its octets stand; `with
+//!   other-question`, where it may answer another question; `with algorithms LIST`, DS records of others left out; and `with
+//!   max-signatures COUNT`.
 //! - `tally`: how many were judged, and what was said.
 //!
 //! Each line is printed without octets of messages, keys and signatures, or not at all where it has nothing else, and behind
@@ -20,6 +22,7 @@
 #![tactic(auto)]
 
 mod desk;
+mod flags;
 mod judging;
 mod signatures;
 mod tally;

@@ -1,5 +1,5 @@
--- What is said of a reply: its name in C, and a sentence.
-use Rattle.std.specs.Prelude.{ℕ, List, codes, ◌≡◌, ◌∷◌, ◌++◌, []}
+-- What is said of a reply: its name in C, and a sentence; its kind.
+use Rattle.std.specs.Prelude.{ℕ, Bool, List, codes, ◌≡◌, ◌∷◌, ◌++◌, [], if◌then◌else◌}
 use Rattle.answer_judge_octets.specs.declared.reply.ReplyCode.{ReplyCode}
 use Rattle.answer_judge_octets.specs.declared.reply.ReplyCode.TheVariants as c
 use Rattle.answer_judge_octets.specs.Replying.{number_of}
@@ -12,7 +12,7 @@ code_text c.StarRecords = codes "ZERMUITA_WILDCARD: a wildcard stands for the na
 code_text c.StarNoType = codes "ZERMUITA_WILDCARD_NODATA: a wildcard stands for the name and has no records of the type"
 code_text c.Delegated = codes "ZERMUITA_DELEGATED: the name is at or below a delegation"
 code_text c.Open = codes "ZERMUITA_OPTOUT: an opt-out chain leaves open what is there"
-code_text c.Unsigned = codes "ZERMUITA_INSECURE: the DS set is empty, so nothing vouches for the zone's keys"
+code_text c.Unsigned = codes "ZERMUITA_INSECURE: no DS record can be checked, so nothing vouches for the zone's keys"
 code_text c.QuestionNotAllowed = codes "ZERMUITA_QUESTION_NOT_ALLOWED: the name is not in the zone, the class is not IN, or the type is not judged"
 code_text c.BadDnskeyMessage = codes "ZERMUITA_BAD_DNSKEY_MESSAGE: the DNSKEY answer is not a message"
 code_text c.BadAnswerMessage = codes "ZERMUITA_BAD_ANSWER_MESSAGE: the answer is not a message"
@@ -26,15 +26,21 @@ code_text c.NotProven = codes "ZERMUITA_NOT_PROVEN: the signed records prove no 
 code_text c.OutOfMemory = codes "ZERMUITA_OUT_OF_MEMORY: memory ran out"
 code_text c.MixedVersions = codes "ZERMUITA_MIXED_VERSIONS: signatures have different times, and one moment is demanded"
 code_text c.MessageTooLong = codes "ZERMUITA_MESSAGE_TOO_LONG: a message is too long in canonical form"
+code_text c.TooManySignatures = codes "ZERMUITA_TOO_MANY_SIGNATURES: more signatures are to be checked than the case allows"
 code_text c.Ask = codes "ZERMUITA_ASK: signatures are to be checked"
 code_text c.BufferTooSmall = codes "ZERMUITA_BUFFER_TOO_SMALL: the reply has more octets than there is room for"
 code_text c.BadApex = codes "ZERMUITA_BAD_APEX: the name of the zone is not a name in wire form"
 code_text c.BadDsSet = codes "ZERMUITA_BAD_DS_SET: the DS set is not DS records behind their lengths"
 code_text c.BadName = codes "ZERMUITA_BAD_NAME: the name that was asked for is not a name in wire form"
 code_text c.BadSignatures = codes "ZERMUITA_BAD_SIGNATURES: the checked signatures are not entries"
-code_text c.BadCase = codes "ZERMUITA_BAD_CASE: the case has an unknown size, a flag is not 0 or 1, or octets are null"
+code_text c.BadCase = codes "ZERMUITA_BAD_CASE: a size is unknown, a flag is not 0 or 1, octets are null, or ds and no_ds do not agree"
 
 -- The text of a reply's number, or that no reply has it, and an octet 0 behind it.
 pub record IsTextOf (number : ℕ) (octets : List ℕ) : Type 0 where
   pub known : (code : ReplyCode) → number_of code ≡ number → octets ≡ code_text code ++ (0 ∷ [])
   pub unknown : ((code : ReplyCode) → number_of code ≡ number → ⊥) → octets ≡ codes "not a reply of this library" ++ (0 ∷ [])
+
+-- 1 where a reply of the number is of a kind, else 0
+pub record TellsKind (is_kind : ReplyCode → Bool) (number told : ℕ) : Type 0 where
+  pub known : (code : ReplyCode) → number_of code ≡ number → told ≡ (if is_kind code then 1 else 0)
+  pub unknown : ((code : ReplyCode) → number_of code ≡ number → ⊥) → told ≡ 0

@@ -5,15 +5,15 @@
 mod texts;
 
 ghost use Rattle.std.specs.Prelude.{◌≡◌, ◌*◌, ◌+◌};
-ghost use Rattle.answer_judge_octets.specs.Replying.{AnswersNumber};
-ghost use Rattle.zermuita.specs.Texts.{IsTextOf};
+ghost use Rattle.answer_judge_octets.specs.Replying.{AnswersNumber, is_refusal, is_verdict};
+ghost use Rattle.zermuita.specs.Texts.{IsTextOf, TellsKind};
 
-use answer_judge_octets::{OctetCase, Report, judge_octets};
+use answer_judge_octets::{OctetCase, ReplyCode, Report, judge_octets};
 use std::alloc::Global;
 use texts::text_of;
 
 /// The version of the library: major, minor and patch, as the header and docs/use/CHANGES.md have them.
-const VERSION: [u32; 3] = [0, 1, 0];
+const VERSION: [u32; 3] = [0, 2, 0];
 
 /// Octets that stand as long as the program runs.
 #[repr(C)]
@@ -30,9 +30,31 @@ pub extern "C" fn zermuita_judge_case(
     out: &mut [u8],
     report: &mut Report,
 ) -> u32
-    ensures { AnswersNumber handed.now out.old out.new report.new result }
+    ensures { AnswersNumber handed.now out.old out.new report.old report.new result }
 {
     judge_octets(alloc, handed, out, report).number()
+}
+
+/// Whether a reply is a verdict, as 1 or 0.
+#[unsafe(no_mangle)]
+pub extern "C" fn zermuita_is_verdict(reply: u32) -> u32
+    ensures { TellsKind is_verdict reply result }
+{
+    match ReplyCode::from_number(reply) {
+        Some(code) => u32::from(code.is_verdict()),
+        None => 0,
+    }
+}
+
+/// Whether a reply says why there is no verdict, as 1 or 0.
+#[unsafe(no_mangle)]
+pub extern "C" fn zermuita_is_refusal(reply: u32) -> u32
+    ensures { TellsKind is_refusal reply result }
+{
+    match ReplyCode::from_number(reply) {
+        Some(code) => u32::from(code.is_refusal()),
+        None => 0,
+    }
 }
 
 /// Writes where the text of a reply stands: its name in C and a sentence, and behind them an octet 0.
@@ -46,7 +68,7 @@ pub extern "C" fn zermuita_reply_text(reply: u32, text: &mut Text)
 /// The version as one number: 65,536 times major and 256 times minor and patch.
 #[unsafe(no_mangle)]
 pub extern "C" fn zermuita_version() -> u32
-    ensures { result ≡ 65536 * 0 + 256 * 1 + 0 }
+    ensures { result ≡ 65536 * 0 + 256 * 2 + 0 }
 {
     let [major, minor, patch] = VERSION;
     major << 16 | minor << 8 | patch

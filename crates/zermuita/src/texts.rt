@@ -28,7 +28,7 @@ fn text_of_code(code: ReplyCode) -> &'static [u8]
         ReplyCode::Delegated => b"ZERMUITA_DELEGATED: the name is at or below a delegation\0",
         ReplyCode::Open => b"ZERMUITA_OPTOUT: an opt-out chain leaves open what is there\0",
         ReplyCode::Unsigned =>
-            b"ZERMUITA_INSECURE: the DS set is empty, so nothing vouches for the zone's keys\0",
+            b"ZERMUITA_INSECURE: no DS record can be checked, so nothing vouches for the zone's keys\0",
         ReplyCode::QuestionNotAllowed =>
             b"ZERMUITA_QUESTION_NOT_ALLOWED: the name is not in the zone, the class is not IN, or the type is not judged\0",
         ReplyCode::BadDnskeyMessage =>
@@ -51,6 +51,8 @@ fn text_of_code(code: ReplyCode) -> &'static [u8]
             b"ZERMUITA_MIXED_VERSIONS: signatures have different times, and one moment is demanded\0",
         ReplyCode::MessageTooLong =>
             b"ZERMUITA_MESSAGE_TOO_LONG: a message is too long in canonical form\0",
+        ReplyCode::TooManySignatures =>
+            b"ZERMUITA_TOO_MANY_SIGNATURES: more signatures are to be checked than the case allows\0",
         ReplyCode::Ask => b"ZERMUITA_ASK: signatures are to be checked\0",
         ReplyCode::BufferTooSmall =>
             b"ZERMUITA_BUFFER_TOO_SMALL: the reply has more octets than there is room for\0",
@@ -63,6 +65,6 @@ fn text_of_code(code: ReplyCode) -> &'static [u8]
         ReplyCode::BadSignatures =>
             b"ZERMUITA_BAD_SIGNATURES: the checked signatures are not entries\0",
         ReplyCode::BadCase =>
-            b"ZERMUITA_BAD_CASE: the case has an unknown size, a flag is not 0 or 1, or octets are null\0",
+            b"ZERMUITA_BAD_CASE: a size is unknown, a flag is not 0 or 1, octets are null, or ds and no_ds do not agree\0",
     }
 }

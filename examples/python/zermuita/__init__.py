@@ -4,8 +4,9 @@
     judgement = library.judge(zermuita.Case(apex, ds, dnskey, answer, name, rtype=1), passes)
 
 `passes` is asked of each signature that is to be checked: a function of an `Ask` that says whether it passes, by a library of the
-caller's. A judgement has a verdict and, of records, their data. Where the messages prove none, `Refused` is raised; octets that
-can't be read raise `ValueError`, and `MemoryError` is raised where memory ran out. Calls may be made in any number of threads at once.
+caller's. A judgement has a verdict, how long it lasts and, of records, their data. Where the messages prove none, `Refused` is
+raised; a case that can't be read raises `ValueError`, and `MemoryError` is raised where memory ran out. Calls may be made in any
+number of threads at once.
 """
 
 from __future__ import annotations
@@ -19,10 +20,10 @@ from collections.abc import Callable, Iterator, Sequence
 __all__ = ["SONAME", "Ask", "Case", "Judgement", "Library", "Refused", "Verdict"]
 
 # The shared object that this module is written for. A version that may break it has another name.
-SONAME = "libzermuita.so.0.1"
-ASK, BUFFER_TOO_SMALL, OUT_OF_MEMORY, LAST_REFUSAL = 32, 34, 26, 28
-# What the library may read of a case, whatever the size that this module knows.
-CASE_ROOM = 256
+SONAME = "libzermuita.so.0.2"
+ASK, BUFFER_TOO_SMALL, OUT_OF_MEMORY, TOO_MANY_SIGNATURES = 32, 34, 26, 29
+# What the library may read of a case and write of a report, whatever the sizes that this module knows.
+CASE_ROOM, REPORT_ROOM = 256, 128
 
 
 class Verdict(enum.IntEnum):
@@ -41,12 +42,13 @@ class Verdict(enum.IntEnum):
 class Refused(Exception):
     """No verdict, which is bogus for most reasons: docs/use/CALLING.md has the table of replies.
 
-    `reply` is the number of the reason, or that of `ASK`.
+    `reply` is the number of the reason, and `ede` the code of an extended error (RFC 8914), or 0 for none.
     """
 
-    def __init__(self, reply: int, text: str) -> None:
+    def __init__(self, reply: int, text: str, ede: int = 0) -> None:
         super().__init__(text)
         self.reply = reply
+        self.ede = ede
 
 
 @dataclasses.dataclass(frozen=True)
@@ -76,7 +78,10 @@ class Ask:
 
 @dataclasses.dataclass(frozen=True)
 class Case:
-    """What is judged. Names are in wire form, messages as they came, DS records by their data."""
+    """What is judged. Names are in wire form, messages as they came, DS records by their data.
+
+    A set of no DS records is refused, unless `no_ds` says that the parent proved that there is none.
+    """
 
     apex: bytes
     ds: Sequence[bytes]
@@ -90,6 +95,13 @@ class Case:
     max_nsec3_iterations: int = 100
     one_moment: bool = False
     as_received: bool = False
+    algorithms: Sequence[int] = ()
+    """Those that are checked; none: all. DS records of others are left out."""
+    max_signatures: int = 0
+    """How many are to be checked at most; 0: 16."""
+    other_question: bool = False
+    """Whether the answer may be one to another question of the zone."""
+    no_ds: bool = False
 
 
 @dataclasses.dataclass(frozen=True)
@@ -99,6 +111,12 @@ class Judgement:
     """The data of the records, where the verdict has some."""
     verifications: int
     hashes: int
+    ttl: int
+    """For how many seconds the verdict may be kept; 0 with INSECURE."""
+    until: int
+    """The last second, since 1970, in which the verdict stands; 0 with INSECURE."""
+    ede: int
+    """With INSECURE, why no DS record can be checked: an extended error (RFC 8914), or 0 where there is none."""
     checked: bytes
     """The signatures that were checked: entries, which another call may begin with."""
 
@@ -114,6 +132,8 @@ class _Case(ctypes.Structure):
         ("now", ctypes.c_uint64),
         *((name, ctypes.c_uint16) for name in ("rtype", "rclass", "max_nsec3_iterations")),
         *((name, ctypes.c_uint32) for name in ("one_moment", "as_received")),
+        ("algorithms", _Octets),
+        *((name, ctypes.c_uint32) for name in ("max_signatures", "other_question", "no_ds")),
     ]
 
 
@@ -122,7 +142,16 @@ class _Room(ctypes.Union):
 
 
 class _Report(ctypes.Structure):
-    _fields_ = [("len", ctypes.c_size_t), ("verifications", ctypes.c_uint32), ("hashes", ctypes.c_uint32)]
+    _fields_ = [
+        *((name, ctypes.c_size_t) for name in ("size", "len")),
+        *((name, ctypes.c_uint64) for name in ("until", "verifications", "hashes")),
+        ("ttl", ctypes.c_uint32),
+        ("ede", ctypes.c_uint16),
+    ]
+
+
+class _ReportRoom(ctypes.Union):
+    _fields_ = [("report", _Report), ("octets", ctypes.c_char * REPORT_ROOM)]
 
 
 def behind_length(octets: bytes, width: int = 2) -> bytes:
@@ -149,11 +178,15 @@ class Library:
     def __init__(self, path: str = SONAME) -> None:
         library = ctypes.CDLL(path)
         self._judge = library.zermuita_judge_case
-        self._judge.argtypes = [ctypes.POINTER(_Room), ctypes.c_char_p, ctypes.c_size_t, ctypes.POINTER(_Report)]
+        self._judge.argtypes = [ctypes.POINTER(_Room), ctypes.c_char_p, ctypes.c_size_t, ctypes.POINTER(_ReportRoom)]
         self._judge.restype = ctypes.c_uint32
         self._text = library.zermuita_reply_text
         self._text.argtypes = [ctypes.c_uint32, ctypes.POINTER(_Octets)]
         self._text.restype = None
+        self._is_verdict, self._is_refusal = library.zermuita_is_verdict, library.zermuita_is_refusal
+        for kind in (self._is_verdict, self._is_refusal):
+            kind.argtypes = [ctypes.c_uint32]
+            kind.restype = ctypes.c_uint32
         self._version = library.zermuita_version
         self._version.argtypes = []
         self._version.restype = ctypes.c_uint32
@@ -169,39 +202,38 @@ class Library:
         self._text(reply, ctypes.byref(text))
         return bytes(text.data).decode("ascii")
 
-    def judge(self, case: Case, passes: Callable[[Ask], bool], checked: bytes = b"", most: int = 16) -> Judgement:
-        """Judges, beginning with signatures that were checked. `Refused` is raised where more than `most` are asked for."""
+    def judge(self, case: Case, passes: Callable[[Ask], bool], checked: bytes = b"") -> Judgement:
+        """Judges, beginning with signatures that were checked."""
         now = int(time.time()) if case.now is None else case.now
-        tried = 0
         while True:
             reply, octets, report = self._call(case, now, checked)
             if reply != ASK:
                 break
             for dnskey, signed, signature in _parts(octets, (2, 4, 2), gap=1):
-                if tried == most:
-                    raise Refused(reply, f"more than {most} signatures are asked for")
                 ask = Ask(dnskey, signed, signature)
                 checked += ask.entry(passes(ask))
-                tried += 1
         if reply == OUT_OF_MEMORY:
             raise MemoryError(self.strerror(reply))
-        if reply > LAST_REFUSAL:
+        if self._is_refusal(reply):
+            raise Refused(reply, self.strerror(reply), report.ede)
+        if not self._is_verdict(reply):
             raise ValueError(self.strerror(reply))
-        if reply > max(Verdict):
-            raise Refused(reply, self.strerror(reply))
         records = [row[0] for row in _parts(octets, (2,))]
-        return Judgement(Verdict(reply), records, report.verifications, report.hashes, checked)
+        counts = report.verifications, report.hashes
+        return Judgement(Verdict(reply), records, *counts, report.ttl, report.until, report.ede, checked)
 
     def _call(self, case: Case, now: int, checked: bytes) -> tuple[int, bytes, _Report]:
         """One call, made again where the reply has more octets than there is room for."""
         ds = b"".join(map(behind_length, case.ds))
         octets = [_Octets(it, len(it)) for it in (case.apex, ds, case.dnskey, case.answer, case.name, checked)]
         numbers = now, case.rtype, case.rclass, case.max_nsec3_iterations, case.one_moment, case.as_received
-        handed = _Room(case=_Case(ctypes.sizeof(_Case), *octets, *numbers))
-        report, room = _Report(), 512
+        algorithms = bytes(case.algorithms)
+        more = _Octets(algorithms, len(algorithms)), case.max_signatures, case.other_question, case.no_ds
+        handed = _Room(case=_Case(ctypes.sizeof(_Case), *octets, *numbers, *more))
+        said, room = _ReportRoom(report=_Report(size=ctypes.sizeof(_Report))), 512
         while True:
             out = ctypes.create_string_buffer(room)
-            reply = int(self._judge(ctypes.byref(handed), out, room, ctypes.byref(report)))
+            reply = int(self._judge(ctypes.byref(handed), out, room, ctypes.byref(said)))
             if reply != BUFFER_TOO_SMALL:
-                return reply, out.raw[: report.len], report
-            room = report.len
+                return reply, out.raw[: said.report.len], said.report
+            room = said.report.len
