@@ -66,7 +66,7 @@ enum zermuita_reply {
     ZERMUITA_BAD_DS_SET = 36,     /* the DS set is not DS records behind their lengths */
     ZERMUITA_BAD_NAME = 37,       /* the name that was asked for is not a name in wire form */
     ZERMUITA_BAD_SIGNATURES = 38, /* the checked signatures are not entries */
-    ZERMUITA_BAD_CASE = 39        /* a size is unknown, a flag is not 0 or 1, octets are null, or ds and no_ds do not agree */
+    ZERMUITA_BAD_CASE = 39        /* a size or a flag is unknown, octets are null, or no_ds contradicts ds */
 };
 
 /* Octets. Where `data` is null there are none, and `len` is 0. */
@@ -76,12 +76,12 @@ struct zermuita_octets {
 };
 
 /*
- * What is judged: set it to zero, then its size, then what the question needs. Names are in wire form, without pointers (RFC 1035,
- * 3.1).
+ * What is judged: set it to zero, then its size, then what the question needs. Names are in wire form, without pointers (RFC
+ * 1035, 3.1).
  *
- * Of `ds` those records count that have one of the `algorithms` and a digest of SHA-256 or SHA-384. Where there are others alone the
- * zone is insecure (RFC 4035, 5.2). That there is no DS record is said by `no_ds`: no octets without it are refused, and so are
- * octets beside it.
+ * Of `ds` those records count that are of one of the `algorithms` and have a digest of SHA-256 or SHA-384. Where there are
+ * others alone the zone is insecure (RFC 4035, 5.2). That there is no DS record is said by `no_ds`: no octets without it are
+ * refused, and so are octets beside it.
  */
 struct zermuita_case {
     size_t size;                       /* sizeof(struct zermuita_case) */
@@ -96,22 +96,25 @@ struct zermuita_case {
     uint16_t rclass;                   /* the class that was asked for: 1 */
     uint16_t max_nsec3_iterations;     /* how many iterations of a name's hash are allowed (RFC 9276, 3.2) */
     uint32_t one_moment;               /* 1: the answer's signatures must have one inception and one expiration; 0: any */
-    uint32_t as_received;              /* 1: messages are judged as their octets stand; 0: names in data in canonical form first */
+    uint32_t as_received;              /* 1: messages are judged as they came; 0: names in data in canonical form first */
     struct zermuita_octets algorithms; /* the algorithms that the caller checks, an octet each; none: all */
     uint32_t max_signatures;           /* how many signatures of both messages are to be checked at most; 0: 16 */
-    uint32_t other_question;           /* 1: the answer may be one to another question of the zone; 0: to this one alone */
+    uint32_t other_question;           /* 1: the answer may be one to another question of the zone; 0: to this one */
     uint32_t no_ds;                    /* 1: the parent proved that there is no DS record; 0: `ds` has some */
 };
 
-/* What is said beside a reply. */
+/*
+ * What is said beside a reply. A verdict may be kept for `ttl` seconds, and not beyond the second `until`; both are 0 with
+ * ZERMUITA_INSECURE, which no record says, and without a verdict.
+ */
 struct zermuita_report {
     size_t size;            /* sizeof(struct zermuita_report), set before the call */
     size_t len;             /* how many octets the reply has */
-    uint64_t until;         /* with a secure verdict or ZERMUITA_OPTOUT: the last second, since 1970, in which it stands; else 0 */
+    uint64_t until;         /* the last second, since 1970, in which the verdict stands */
     uint64_t verifications; /* with a verdict or a refusal: how many signatures were looked up in `checked` */
     uint64_t hashes;        /* with a verdict or a refusal: how many names were hashed */
-    uint32_t ttl;           /* with a secure verdict or ZERMUITA_OPTOUT: for how many seconds it may be kept; else 0 */
-    uint16_t ede;           /* the code of an extended error (RFC 8914), or 0: code 0, which says nothing, is never meant */
+    uint32_t ttl;           /* for how many seconds the verdict may be kept (RFC 4035, 5.3.3) */
+    uint16_t ede;           /* the code of an extended error (RFC 8914); 0: none, since code 0 says nothing and is never meant */
 };
 
 /* The library's own functions. They take no null pointer: call zermuita_judge and zermuita_strerror below in their place. */
@@ -142,7 +145,7 @@ static inline int zermuita_octets_are(struct zermuita_octets *octets) {
     return octets->data != NULL;
 }
 
-/* How many octets of a case the library may read, and of a report it may write, whatever the size of the caller's. */
+/* How many octets of a case the library may read, and of a report write, whatever the size of the caller's. */
 #define ZERMUITA_CASE_ROOM 256
 #define ZERMUITA_REPORT_ROOM 128
 
@@ -152,8 +155,8 @@ static inline int zermuita_octets_are(struct zermuita_octets *octets) {
  * Nothing that the library reads may overlap `out` or `report`.
  *
  * On ZERMUITA_ASK `out` has signatures that are to be checked: check each (zermuita_next_ask), put the octets of `out` at the end
- * of `checked`, and call again. Put no entry there that was not checked: it stands for a signature that fails. Nobody needs to count
- * them: where more are to be checked than `max_signatures`, the reply is ZERMUITA_TOO_MANY_SIGNATURES.
+ * of `checked`, and call again. Put no entry there that was not checked: it stands for a signature that fails. There is no need to
+ * count: where more are to be checked than `max_signatures`, the reply is ZERMUITA_TOO_MANY_SIGNATURES.
  */
 static inline enum zermuita_reply zermuita_judge(const struct zermuita_case *handed, uint8_t *out, size_t out_len,
                                                  struct zermuita_report *report) {

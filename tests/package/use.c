@@ -12,6 +12,7 @@ int main(void) {
     handed.name.data = name;
     handed.name.len = sizeof name;
     handed.rtype = handed.rclass = 1;
+    handed.no_ds = 1;
     printf("%u %u\n", (unsigned)zermuita_version(), (unsigned)ZERMUITA_VERSION_NUMBER);
     puts(zermuita_strerror(zermuita_judge(&handed, NULL, 0, NULL)));
     return 0;

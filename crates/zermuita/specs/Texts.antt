@@ -33,7 +33,7 @@ code_text c.BadApex = codes "ZERMUITA_BAD_APEX: the name of the zone is not a na
 code_text c.BadDsSet = codes "ZERMUITA_BAD_DS_SET: the DS set is not DS records behind their lengths"
 code_text c.BadName = codes "ZERMUITA_BAD_NAME: the name that was asked for is not a name in wire form"
 code_text c.BadSignatures = codes "ZERMUITA_BAD_SIGNATURES: the checked signatures are not entries"
-code_text c.BadCase = codes "ZERMUITA_BAD_CASE: a size is unknown, a flag is not 0 or 1, octets are null, or ds and no_ds do not agree"
+code_text c.BadCase = codes "ZERMUITA_BAD_CASE: a size or a flag is unknown, octets are null, or no_ds contradicts ds"
 
 -- The text of a reply's number, or that no reply has it, and an octet 0 behind it.
 pub record IsTextOf (number : ℕ) (octets : List ℕ) : Type 0 where

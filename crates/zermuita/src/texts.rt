@@ -65,6 +65,6 @@ fn text_of_code(code: ReplyCode) -> &'static [u8]
         ReplyCode::BadSignatures =>
             b"ZERMUITA_BAD_SIGNATURES: the checked signatures are not entries\0",
         ReplyCode::BadCase =>
-            b"ZERMUITA_BAD_CASE: a size is unknown, a flag is not 0 or 1, octets are null, or ds and no_ds do not agree\0",
+            b"ZERMUITA_BAD_CASE: a size or a flag is unknown, octets are null, or no_ds contradicts ds\0",
     }
 }
