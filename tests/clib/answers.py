@@ -4,13 +4,15 @@ from __future__ import annotations
 
 import dataclasses
 import pathlib
+import re
 
 SERVERS = pathlib.Path(__file__).resolve().parents[2] / "crates/test_servers"
 # The words of those lines for what a judge answers, in the order of enum zermuita_reply; and reasons for refusals, from 16 on.
 VERDICTS = ["Records", "NoType", "NoName", "StarRecords", "StarNoType", "Delegated", "Open", "Unsigned"]
 REFUSALS = [
     *("QuestionNotAllowed", "BadDnskeyMessage", "BadAnswerMessage", "QuestionMismatch", "EqualTags", "NoTrustedKey"),
-    *("MixedNsec3Parameters", "IterationsOverLimit", "HashFailed", "NotProven", "Memory", "MixedVersions", "TooLong"),
+    *("MixedNsec3Parameters", "IterationsOverLimit", "HashFailed", "NotProven", "OutOfMemory", "MixedVersions"),
+    *("MessageTooLong", "TooManySignatures"),
 ]
 NUMBERS = {word: at for at, word in enumerate(VERDICTS)} | {word: 16 + at for at, word in enumerate(REFUSALS)}
 # What a zone says of an alias: no reply says it.
@@ -52,7 +54,7 @@ def ds_set(words: str) -> list[bytes]:
 
 @dataclasses.dataclass(frozen=True)
 class Answered:
-    """A question, what the zone says of it, and messages; and what the judge is to say: a reply and two counts."""
+    """A question, what the zone says of it, and messages; and what the judge is to say: a reply, two counts, an extended error."""
 
     verdict: int
     data: list[bytes]
@@ -66,24 +68,27 @@ class Answered:
     answer: bytes
     said: str
     told: tuple[int, int, int]
+    ede: int
+    other_question: int = 0
 
     def line(self) -> str:
         """As programs in C read it."""
         octets = self.apex, self.name, b"".join(map(part, self.ds)), self.dnskey, self.answer
         data = b"".join(map(part, self.data)).hex()
-        words = self.verdict, data or "-", self.rtype, self.limit, self.now, *(it.hex() or "-" for it in octets)
-        return " ".join(["case", *map(str, words)])
+        numbers = self.rtype, self.limit, self.now, self.other_question
+        return " ".join(["case", *map(str, (self.verdict, data or "-", *numbers, *(it.hex() or "-" for it in octets)))])
 
 
-def told(printed: str) -> tuple[int, int, int]:
-    """What a line says of a judgement: the reply, and both counts."""
+def told(printed: str) -> tuple[tuple[int, int, int], int]:
+    """What a line says of a judgement: the reply and both counts; an extended error, or 0."""
     said, counts = printed.split(": ", 1)[1].split("; ")
-    verifications, hashes = (int(it.split(" ")[0]) for it in counts.split(", "))
+    numbers = [int(number) for number in re.findall(r"\d+", counts)]
+    verifications, hashes, ede = (*numbers, 0)[:3]
     words = said.split(" ")
     if words[0] == "refused":
-        return NUMBERS[words[1]], verifications, hashes
+        return (NUMBERS[words[1]], verifications, hashes), ede
     if words[0] == "Unsigned" or said.endswith(" as the zone says"):
-        return NUMBERS[words[0]], verifications, hashes
+        return (NUMBERS[words[0]], verifications, hashes), ede
     raise ValueError(printed)
 
 
@@ -131,5 +136,6 @@ def answers() -> list[Answered]:
             change = {"ds": ds_set(words[0])}
         if name in ("answer", "altered", "cut", "at", "beside"):
             said = next(it for it in printed if it.startswith(f"{name}: " if name == "answer" else f"{name} "))
-            found.append(Answered(**(state | change), said=said, told=told(said)))
+            reply, ede = told(said)
+            found.append(Answered(**(state | change), said=said, told=reply, ede=ede))
     return found

@@ -67,6 +67,7 @@ static void take_case(struct answered *answered, char *rest) {
     answered->rtype = (uint16_t)next_number(&rest);
     answered->limit = (uint16_t)next_number(&rest);
     answered->now = next_number(&rest);
+    answered->other_question = (uint32_t)next_number(&rest);
     struct buffer *octets[] = {&answered->apex, &answered->name, &answered->ds, &answered->dnskey, &answered->answer};
     for (size_t i = 0; i < sizeof octets / sizeof *octets; i++) {
         next_octets(&rest, octets[i]);
@@ -130,13 +131,14 @@ struct zermuita_case case_of(const struct answered *answered) {
         .rtype = answered->rtype,
         .rclass = 1,
         .max_nsec3_iterations = answered->limit,
+        .other_question = answered->other_question,
         .no_ds = answered->ds.len == 0,
     };
 }
 
 bool is_zones(const struct answered *answered, const struct judgement *judgement) {
     if (judgement->reply == ZERMUITA_INSECURE) {
-        return answered->ds.len == 0;
+        return answered->ds.len == 0 || judgement->report.ede != 0;
     }
     return judgement->reply == answered->verdict && has(&answered->data, octets_of(&judgement->octets));
 }
