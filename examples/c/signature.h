@@ -10,6 +10,9 @@
 #include <stdbool.h>
 #include <zermuita.h>
 
+/* The algorithms of the signatures that are checked here. */
+static const uint8_t signature_algorithms[] = {8, 10, 13, 14, 15, 16};
+
 /* A key of an OpenSSL type and parameters, which are freed. */
 static EVP_PKEY *key_of(const char *type, OSSL_PARAM_BLD *build) {
     OSSL_PARAM *params = OSSL_PARAM_BLD_to_param(build);

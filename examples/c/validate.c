@@ -11,8 +11,6 @@
 #include <stdlib.h>
 #include <time.h>
 
-static const uint8_t algorithms[] = {8, 10, 13, 14, 15, 16}; /* those of signature.h */
-
 static void *or_exit(void *that, const char *what) {
     if (that == NULL) {
         perror(what);
@@ -51,7 +49,7 @@ int main(int argc, char **argv) {
         .size = sizeof handed, .apex = name_of_text(argv[1], apex), .ds = octets_of_file(argv[2]),
         .dnskey = octets_of_file(argv[3]), .name = name_of_text(argv[4], name), .rtype = (uint16_t)atoi(argv[5]), .rclass = 1,
         .answer = octets_of_file(argv[6]), .now = argc > 7 ? strtoull(argv[7], NULL, 10) : (uint64_t)time(NULL),
-        .max_nsec3_iterations = 100, .algorithms = {algorithms, sizeof algorithms},
+        .max_nsec3_iterations = 100, .algorithms = {signature_algorithms, sizeof signature_algorithms},
     };
     handed.no_ds = handed.ds.len == 0;
     struct zermuita_report report = {.size = sizeof report};

@@ -12,9 +12,6 @@
 
 enum { PROVEN = 0, NOT_PROVEN = 1, FAILED = 2 };
 
-/* The algorithms of signature_passes. */
-static const uint8_t algorithms[] = {8, 10, 13, 14, 15, 16};
-
 /* The DS set of the parent, each record's data behind their length. */
 struct ds_set {
     uint8_t octets[65536];
@@ -230,7 +227,7 @@ int main(int argc, char **argv) {
     handed.apex = (struct zermuita_octets){zone.octets, zone.len};
     handed.ds = (struct zermuita_octets){ds.octets, ds.len};
     handed.no_ds = ds.len == 0;
-    handed.algorithms = (struct zermuita_octets){algorithms, sizeof algorithms};
+    handed.algorithms = (struct zermuita_octets){signature_algorithms, sizeof signature_algorithms};
     handed.name = (struct zermuita_octets){name.octets, name.len};
     struct addrinfo *server, hints = {.ai_socktype = SOCK_DGRAM};
     int failure = getaddrinfo(words[0], options.port, &hints, &server);
