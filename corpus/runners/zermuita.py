@@ -17,7 +17,7 @@ sys.path.insert(0, str(TOP.parent / "examples" / "python"))
 import zermuita  # noqa: E402
 
 RSA, ECDSA, ED25519 = 8, 13, 15
-ALGORITHMS, DIGESTS = {RSA, ECDSA, ED25519}, {2, 4}
+ALGORITHMS = [RSA, ECDSA, ED25519]
 SAYS = {
     zermuita.Verdict.RECORDS: (SECURE, "answer"), zermuita.Verdict.NODATA: (SECURE, "nodata"), zermuita.Verdict.NXDOMAIN: (SECURE, "nxdomain"),
     zermuita.Verdict.WILDCARD: (SECURE, "wildcard"), zermuita.Verdict.WILDCARD_NODATA: (SECURE, "wildcard-nodata"),
@@ -55,13 +55,10 @@ def check(ask: Any) -> None:
 
 
 def said(library: Any, case: Case) -> Said:
-    every = [bytes.fromhex(it) for it in case["ds"]]
-    ds = [it for it in every if it[2] in ALGORITHMS and it[3] in DIGESTS]
-    if every and not ds:
-        return Said(INSECURE, "algorithms", "no DS record is of a known algorithm and digest")
+    ds = [bytes.fromhex(it) for it in case["ds"]]
     handed = zermuita.Case(
         bytes.fromhex(case["apex"]), ds, bytes.fromhex(case["dnskey"]), bytes.fromhex(case["answer"]), bytes.fromhex(case["question"]["name"]),
-        case["question"]["type"], now=case["moment"], max_nsec3_iterations=case["nsec3_limit"],
+        case["question"]["type"], now=case["moment"], max_nsec3_iterations=case["nsec3_limit"], algorithms=ALGORITHMS, no_ds=not ds,
     )
     try:
         judgement = library.judge(handed, passes)
@@ -71,6 +68,8 @@ def said(library: Any, case: Case) -> Said:
         return Said(BOGUS, "", str(refused))
     if judgement.verdict == zermuita.Verdict.DELEGATED:
         return delegated(case)
+    if judgement.ede:
+        return Said(INSECURE, "algorithms", f"{library.strerror(int(judgement.verdict))}, EDE {judgement.ede}")
     result, which = SAYS[judgement.verdict]
     return Said(result, which, library.strerror(int(judgement.verdict)))
 

@@ -27,7 +27,7 @@ static size_t len_of(const uint8_t *name) {
 
 /* Asks with EDNS, DO and CD. Where there is no answer it has no octets, and is bogus. */
 static struct zermuita_octets ask(const uint8_t *name, uint16_t rtype, uint8_t answer[ROOM]) {
-    uint8_t query[512] = {(uint8_t)random(), (uint8_t)random(), 1, 16, 0, 1, 0, 0, 0, 0, 0, 1};
+    uint8_t query[512] = {(uint8_t)arc4random(), (uint8_t)arc4random(), 1, 16, 0, 1, 0, 0, 0, 0, 0, 1};
     const uint8_t behind[] = {(uint8_t)(rtype >> 8), (uint8_t)rtype, 0, 1, 0, 0, 41, 4, 208, 0, 0, 128, 0, 0, 0};
     memcpy(query + 12, name, len_of(name));
     memcpy(query + 12 + len_of(name), behind, sizeof behind);
