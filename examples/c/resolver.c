@@ -113,5 +113,6 @@ int main(int argc, char **argv) {
         zone = root;
         const struct kept *it = resolve(&zone, name, (uint16_t)rtype);
         printf("%s %u: %s; TTL %u, EDE %u\n", text, rtype, zermuita_strerror(it->reply), it->report.ttl, it->report.ede);
+        fflush(stdout);
     }
 }

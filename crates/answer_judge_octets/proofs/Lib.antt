@@ -5,3 +5,4 @@ pub mod EntriesGrow
 pub mod SpelledCases
 pub mod ToldInForm
 pub mod Standing
+pub mod Carried

@@ -1,9 +1,12 @@
 -- Octets that stand in others, and how many entries of a table have such.
-use Rattle.std.proofs.Common.{◌≡◌, ℕ, ◌+◌, ◌<◌, ◌≤◌, Bool, true, false, ◌||◌, List, [], ◌∷◌, length, filter, refl, sym, ap, ◌∙◌, arith}
+use Rattle.std.proofs.Common.{◌≡◌, ℕ, ◌+◌, ◌<◌, ◌≤◌, Bool, true, false, ◌||◌, List, [], ◌∷◌, ◌++◌, zero, suc, ◌-◌, take, drop, length, filter, refl, sym, ap, ◌∙◌, arith}
 use Rattle.std.specs.Prelude.{nat_lt}
 use Rattle.std.proofs.lemmas.Bool.{le-ltb}
+use Rattle.std.proofs.lemmas.List.{append-nil, take-append-drop}
+use Rattle.std.proofs.lemmas.Slice.Eq.{starts_is}
+use Rattle.std.proofs.lemmas.Bool.Decides.{Decides-eqb}
 use Rattle.std.proofs.lemmas.List.Sums.{count_by-le-length, length-filter}
-use Rattle.std.specs.List.{list_any}
+use Rattle.std.specs.List.{list_any, slice_range}
 use Rattle.answer_judge_octets.specs.Replying.{begins_with, ends, stands_in}
 
 first_stands : (b c : Bool) → b ≡ true → (b || c) ≡ true
@@ -35,3 +38,27 @@ pub have_room : {A : Type 0} (p : A → Bool) (xs : List A) (room most more : �
 have_room p xs room most more all is =
     let few : length (filter p xs) ≤ length xs = omega (arith, length-filter p xs, count_by-le-length p xs) in
     le-ltb room (length xs) all ∙ sym (le-ltb most (length (filter p xs) + more) (omega (arith, few, is)))
+
+-- ---- what is cut out of octets stands there
+
+abbrev none : List ℕ
+none = []
+
+starts : (part octets rest : List ℕ) → octets ≡ part ++ rest → begins_with part octets ≡ true
+starts part octets rest e = (starts_is Decides-eqb octets part (begins_with part octets) refl).1 rest e
+
+later_stands : (b c : Bool) → c ≡ true → (b || c) ≡ true
+later_stands true c h = refl
+later_stands false c h = h
+
+none_taken : (n : ℕ) → take n none ≡ none
+none_taken zero = refl
+none_taken (suc n) = refl
+
+stands_taken : (a n : ℕ) (octets : List ℕ) → stands_in octets (take n (drop a octets)) ≡ true
+stands_taken zero n octets = stands_at_front octets (take n octets) (starts (take n octets) octets (drop n octets) (sym (take-append-drop n octets)))
+stands_taken (suc a) n [] = stands_at_front [] (take n []) (starts (take n []) [] [] (sym (append-nil (take n none) ∙ none_taken n)))
+stands_taken (suc a) n (x ∷ octets) = later_stands (begins_with (take n (drop a octets)) (x ∷ octets)) (stands_in octets (take n (drop a octets))) (stands_taken a n octets)
+
+pub stands_cut : (octets : List ℕ) (a b : ℕ) → stands_in octets (slice_range octets a b) ≡ true
+stands_cut octets a b = stands_taken a (b - a) octets

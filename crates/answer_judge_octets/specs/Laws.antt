@@ -1,5 +1,5 @@
 -- What octets spell is one thing, and a list grows by what was asked for.
-use Rattle.std.specs.Prelude.{◌≡◌, ℕ, ◌-◌, Bool, true, false, List, [], ◌∷◌, ◌++◌, length, take}
+use Rattle.std.specs.Prelude.{◌≡◌, ℕ, ◌+◌, ◌-◌, ◌≤◌, Bool, true, false, List, [], ◌∷◌, ◌++◌, filter, length, map, take}
 use Rattle.std.specs.List.{list_all}
 use Rattle.definitions.specs.Name.{Name}
 use Rattle.definitions.specs.Dnskey.{Dnskey}
@@ -13,7 +13,8 @@ use Rattle.answer_shared.specs.Served.{Group, Served}
 use Rattle.answer_shared.specs.Told.{TellsAnswer, TellsKeys}
 use Rattle.answer_judge_keys.specs.Judging.{Handing}
 use Rattle.answer_judge_octets.specs.declared.octets.OctetCase.{OctetCase}
-use Rattle.answer_judge_octets.specs.Replying.{IsJudged, Spells}
+use Rattle.answer_judge_octets.specs.Replying.{IsJudged, Spells, are_too_many, is_carried, most_of}
+use Rattle.answer_judge_table.specs.Asking.{AreAsked}
 use Rattle.answer_judge_table.specs.Table.{Checked, Tried, checked}
 use Rattle.answer_judge_octets.specs.Written.{FitsChecked, IsList, checked_octets, passes_octets}
 
@@ -33,6 +34,20 @@ ListsGrow =
     (octets : List ℕ) (table : List Checked) (t : Tried) (passes : Bool)
     → IsList FitsChecked checked_octets octets table → FitsChecked (checked t false)
     → IsList FitsChecked checked_octets (octets ++ answered_entry (checked_octets (checked t false)) passes) (table ++ checked t passes ∷ [])
+
+-- Entries that were put behind a table count from then on, and with them as many signatures of the messages were checked as the
+-- case allows, or fewer.
+pub record StaysFew (most : ℕ) (h : Handing) (table answered : List Checked) : Type 0 where
+  pub counted :
+      length (filter (is_carried h.dnskey_bytes h.answer_bytes) (table ++ answered))
+      ≡ length (filter (is_carried h.dnskey_bytes h.answer_bytes) table) + length answered
+  pub few : length (filter (is_carried h.dnskey_bytes h.answer_bytes) (table ++ answered)) ≤ most_of most
+
+-- This holds of what is asked for where that is not too much: so over all calls of a case no more are checked.
+abbrev pub AsksStayFew : Type 0
+AsksStayFew =
+    (most : ℕ) (h : Handing) (table answered : List Checked)
+    → AreAsked table h (map (λ c. c.tried) answered) → are_too_many most h table (length answered) ≡ false → StaysFew most h table answered
 
 -- the data of an RRset are in form, each by itself
 abbrev pub is_group_in_form : Group → Bool

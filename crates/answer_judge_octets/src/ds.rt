@@ -11,6 +11,7 @@ const SHA384: u8 = 4;
 
 /// The extended errors for DS records of algorithms that are not checked, and of digests that are not made (RFC 8914, 4).
 const UNSUPPORTED_ALGORITHM: u16 = 1;
+
 const UNSUPPORTED_DIGEST: u16 = 2;
 
 /// The records of a set that are judged by: those of algorithms that are checked, all where none is named, with digests that are

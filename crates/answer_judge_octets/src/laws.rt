@@ -1,6 +1,6 @@
 //! Laws of cases in octets.
 
-ghost use Rattle.answer_judge_octets.specs.Laws.{ListsGrow, OctetsSpellOneCase, ToldAreInForm};
+ghost use Rattle.answer_judge_octets.specs.Laws.{AsksStayFew, ListsGrow, OctetsSpellOneCase, ToldAreInForm};
 
 /// The octets of a case spell one thing to be judged, and one table of signatures, if any.
 pub fn octets_spell_one_case()
@@ -11,6 +11,12 @@ pub fn octets_spell_one_case()
 /// signature too.
 pub fn lists_grow_by_entries()
     ensures { ListsGrow }
+{}
+
+/// What is asked for counts from then on, since each such signature stands in one of the messages: over all calls of a case that
+/// hand in what was asked for, no more signatures of its messages are checked than it allows (CVE-2023-50387).
+pub fn asks_stay_few()
+    ensures { AsksStayFew }
 {}
 
 /// Where the data of a zone's records are in form, as `are_records_in_form` says of the records that it is made of, what its

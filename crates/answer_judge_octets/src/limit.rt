@@ -11,12 +11,7 @@ const MOST_SIGNATURES: u32 = 16;
 /// Whether so many more signatures are too many, with the entries of a table whose signatures stand in the messages.
 ///
 /// Whoever answers decides how many signatures there are, and each costs its checker work (CVE-2023-50387).
-pub(crate) fn are_too_many(
-    most: u32,
-    case: &Case,
-    table: &[CheckedSignature],
-    more: usize,
-) -> bool
+pub(crate) fn are_too_many(most: u32, case: &Case, table: &[CheckedSignature], more: usize) -> bool
     ensures { result ≡ are_too_many most case.now table.now more }
 {
     match most_of(most).checked_sub(more) {

@@ -29,7 +29,9 @@ mod tally;
 mod words;
 mod zone;
 
-use answer_judge_octets::laws::{lists_grow_by_entries, octets_spell_one_case, told_are_in_form};
+use answer_judge_octets::laws::{
+    asks_stay_few, lists_grow_by_entries, octets_spell_one_case, told_are_in_form,
+};
 use desk::Desk;
 use std::alloc::Global;
 use std::io;
@@ -66,6 +68,7 @@ fn main(rt: HostRuntime) -> io::Result<()> {
     octets_spell_one_case();
     lists_grow_by_entries();
     told_are_in_form();
+    asks_stay_few();
     let mut desk = Desk::new(rt.alloc());
     for line in rt.lines(rt.alloc()) {
         let line = line?;
