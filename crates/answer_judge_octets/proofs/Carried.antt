@@ -1,5 +1,5 @@
 -- Signatures that are asked for stand in the messages, so they count from then on.
-use Rattle.std.proofs.Common.{◌≡◌, ℕ, ◌+◌, ◌≤◌, Bool, true, false, List, [], ◌∷◌, ◌++◌, length, filter, map, Option, Some, None, Result, Ok, Err, refl, sym, ap, subst, ◌∙◌, length-append, arith}
+use Rattle.std.proofs.Common.{◌≡◌, ℕ, ◌+◌, ◌≤◌, Bool, true, false, List, [], ◌∷◌, ◌++◌, length, filter, map, suc, Option, Some, None, Result, Ok, Err, refl, sym, ap, subst, ◌∙◌, length-append, arith}
 use Rattle.std.specs.Prelude.{◌&&◌, ◌||◌, nat_eq, if◌then◌else◌}
 use Rattle.std.specs.List.{AllByRecursion, slice_range}
 use Rattle.std.specs.Str.{bytes_eq}
@@ -15,10 +15,11 @@ use Rattle.messages.specs.declared.error.MessageError.{MessageError}
 use Rattle.answer_scheme.specs.Answers.{Answers}
 use Rattle.answer_judge_facts.specs.Asked as asked
 use Rattle.answer_judge_facts.specs.Counted.{is_tried}
-use Rattle.answer_judge_facts.specs.Judged.{is_chained}
-use Rattle.answer_judge_facts.specs.Sought.{Sought}
+use Rattle.answer_judge_facts.specs.Judged.{is_chained, keys_of, trusting}
+use Rattle.answer_judge_facts.specs.Sought.{Sought, answer_sought, keys_sought}
 use Rattle.answer_judge_facts.specs.Verified.{Trusting}
 use Rattle.answer_judge_keys.specs.Judging.{Handing, first_refusal}
+use Rattle.answer_judge_keys.specs.Trusted.{is_trusted, is_usable}
 use Rattle.answer_judge_keys.specs.declared.verdict.Refusal.{Refusal}
 use Rattle.answer_judge_table.specs.Asking.{AreAsked, IsTriedBy}
 use Rattle.answer_judge_table.specs.Table.{Checked, Tried, answers_with, may_pass_in}
@@ -115,15 +116,25 @@ module _ (a : Answers) (h : Handing) (key : Dnskey) (octets signature : List ℕ
   abbrev Stands : Type 0
   Stands = (stands_in h.dnskey_bytes signature || stands_in h.answer_bytes signature) ≡ true
 
+  by_keys : (keys : Message) → asked.is_tried_of_keys a pointer_limit h keys key octets signature ≡ true → stands_in h.dnskey_bytes signature ≡ true
+  by_keys keys t =
+      let ks = keys_of h keys in
+      tried_among (trusting a h (filter (is_trusted a h.apex h.ds) ks)) pointer_limit h.dnskey_bytes (keys_sought h.apex ks) key octets signature [] keys.records t
+
+  by_answer : (keys answer : Message) → asked.is_tried_of_answer a pointer_limit h keys answer key octets signature ≡ true → stands_in h.answer_bytes signature ≡ true
+  by_answer keys answer t =
+      tried_among (trusting a h (filter is_usable (keys_of h keys))) pointer_limit h.answer_bytes
+      (answer_sought pointer_limit h.answer_bytes h.apex answer.records h.asked.name h.asked.rtype) key octets signature [] answer.records t
+
   in_messages : (keys answer : Message) → asked.is_tried_in_messages a pointer_limit h keys answer key octets signature ≡ true → Stands
   in_messages keys answer t = go (asked.is_tried_of_keys a pointer_limit h keys key octets signature) refl t
     where
       go : (b : Bool) → asked.is_tried_of_keys a pointer_limit h keys key octets signature ≡ b
           → (b || (is_chained a pointer_limit h keys && asked.is_tried_of_answer a pointer_limit h keys answer key octets signature)) ≡ true → Stands
-      go true e both = either_left (stands_in h.dnskey_bytes signature) (stands_in h.answer_bytes signature) (tried_among _ pointer_limit h.dnskey_bytes _ key octets signature [] keys.records e)
+      go true e both = either_left (stands_in h.dnskey_bytes signature) (stands_in h.answer_bytes signature) (by_keys keys e)
       go false e both =
           let later = and_parts (is_chained a pointer_limit h keys) (asked.is_tried_of_answer a pointer_limit h keys answer key octets signature) both in
-          either_right (stands_in h.dnskey_bytes signature) (stands_in h.answer_bytes signature) (tried_among _ pointer_limit h.answer_bytes _ key octets signature [] answer.records later.1)
+          either_right (stands_in h.dnskey_bytes signature) (stands_in h.answer_bytes signature) (by_answer keys answer later.1)
 
   abbrev of_answer : Message → Result Message MessageError → Bool
   of_answer keys r = elim r [ Err e ↦ false | Ok answer ↦ asked.is_tried_in_messages a pointer_limit h keys answer key octets signature ]
@@ -146,13 +157,16 @@ module _ (a : Answers) (h : Handing) (key : Dnskey) (octets signature : List ℕ
 
 -- ---- they count from then on
 
-length-kept : (p : Checked → Bool) (xs ys : List Checked) → AllByRecursion (λ c. p c ≡ true) ys → length (filter p (xs ++ ys)) ≡ length (filter p xs) + length ys
-length-kept p [] [] all = refl
-length-kept p [] (y ∷ ys) all = kept (p y) all.0 (length-kept p [] ys all.1)
+all_kept : (p : Checked → Bool) (ys : List Checked) → AllByRecursion (λ c. p c ≡ true) ys → length (filter p ys) ≡ length ys
+all_kept p [] all = refl
+all_kept p (y ∷ ys) all = kept (p y) all.0 (all_kept p ys all.1)
   where
     kept : (b : Bool) → b ≡ true → length (filter p ys) ≡ length ys → length (if b then y ∷ filter p ys else filter p ys) ≡ length (y ∷ ys)
-    kept true e more = ap (λ n. n + 1) more
+    kept true e more = ap (λ n. suc n) more
     kept false e more = absurd (false≢true e)
+
+length-kept : (p : Checked → Bool) (xs ys : List Checked) → AllByRecursion (λ c. p c ≡ true) ys → length (filter p (xs ++ ys)) ≡ length (filter p xs) + length ys
+length-kept p [] ys all = let same : length (filter p ys) ≡ length ys = all_kept p ys all in omega (arith, same)
 length-kept p (x ∷ xs) ys all = one (p x) (length-kept p xs ys all)
   where
     one : (b : Bool) → length (filter p (xs ++ ys)) ≡ length (filter p xs) + length ys
