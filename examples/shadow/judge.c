@@ -5,7 +5,7 @@
 
 #include <stdlib.h>
 
-enum { MOST_SIGNATURES = 16, MOST_ROOM = 1 << 22, KEPT_ZONES = 4096, KEPT_OCTETS = 1 << 24 };
+enum { MOST_ROOM = 1 << 22, KEPT_ZONES = 4096, KEPT_OCTETS = 1 << 24 };
 
 /* Octets that grow. */
 struct room {
@@ -86,24 +86,18 @@ static struct zermuita_octets name_as_theirs(const struct name *name) {
     return (struct zermuita_octets){name->octets, name->len};
 }
 
-/*
- * Checks the signatures that are asked for, and puts them at the end of those that were. Gives how many, 0 where memory runs
- * out.
- */
-static size_t check(struct judge *judge, size_t len, size_t most) {
+/* Checks the signatures that are asked for, and puts them at the end of those that were. False where memory runs out. */
+static bool check(struct judge *judge, size_t len) {
     struct zermuita_ask ask;
     uint8_t *next = judge->out.data;
-    size_t count = 0;
-    for (; count < most && zermuita_next_ask(&next, &len, &ask); count++) {
+    for (; zermuita_next_ask(&next, &len, &ask); judge->signatures++) {
         zermuita_answer(&ask, signature_passes(&ask));
     }
-    judge->signatures += count;
-    return append(&judge->checked, judge->out.data, (size_t)(next - judge->out.data)) ? count : 0;
+    return append(&judge->checked, judge->out.data, (size_t)(next - judge->out.data));
 }
 
 /* Calls the library until it needs nothing more. */
 static enum zermuita_reply replied(struct judge *judge, struct zermuita_case *handed, struct zermuita_report *report) {
-    size_t tried = 0;
     for (;;) {
         handed->checked = (struct zermuita_octets){judge->checked.data, judge->checked.len};
         enum zermuita_reply reply = zermuita_judge(handed, judge->out.data, judge->out.size, report);
@@ -117,14 +111,12 @@ static enum zermuita_reply replied(struct judge *judge, struct zermuita_case *ha
             handed->as_received = 1;
             continue;
         }
-        if (reply != ZERMUITA_ASK || tried >= MOST_SIGNATURES) {
+        if (reply != ZERMUITA_ASK) {
             return reply;
         }
-        size_t count = check(judge, report->len, MOST_SIGNATURES - tried);
-        if (count == 0) {
+        if (!check(judge, report->len)) {
             return ZERMUITA_OUT_OF_MEMORY;
         }
-        tried += count;
     }
 }
 
@@ -174,7 +166,7 @@ static enum finding finding_of(enum zermuita_reply reply) {
     case ZERMUITA_OUT_OF_MEMORY:
         return FOUND_NOTHING;
     default:
-        return zermuita_is_refusal(reply) || reply == ZERMUITA_ASK ? FOUND_BOGUS : FOUND_NOTHING;
+        return zermuita_is_refusal(reply) ? FOUND_BOGUS : FOUND_NOTHING;
     }
 }
 
@@ -191,7 +183,7 @@ struct judgement judge(struct judge *judge, const struct trial *trial) {
         .now = trial->now,
         .max_nsec3_iterations = judge->most_iterations,
     };
-    struct zermuita_report report = {0};
+    struct zermuita_report report = {.size = sizeof report};
     struct octets kept = {NULL, 0};
     judge->checked.len = 0;
     /* No DS record is a proof that there is none, and gives a verdict: no case without one is handed over. */
