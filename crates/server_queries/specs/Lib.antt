@@ -1,0 +1,6 @@
+pub mod Headers
+pub mod Options
+pub mod Queries
+pub mod Rcodes
+pub mod Replies
+pub mod Views
