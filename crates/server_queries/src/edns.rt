@@ -19,13 +19,13 @@ pub struct Edns {
 
 impl Edns {
     /// What an OPT record says.
-    pub fn of_record(record: &ViewRecord<'_>) -> Edns
-        ensures { result ≡ edns_of (spelled record.now) }
+    pub fn of_record(opt: &ViewRecord<'_>) -> Edns
+        ensures { result ≡ edns_of (spelled opt.now) }
     {
-        let bits = record.ttl.as_secs();
+        let bits = opt.ttl.as_secs();
         Edns {
             version: (bits / 0x0001_0000 % 256) as u8,
-            udp_size: record.class.to_int().max(512),
+            udp_size: opt.class.to_int().max(512),
             dnssec_ok: bits / 0x8000 % 2 == 1,
         }
     }
