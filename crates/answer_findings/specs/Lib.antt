@@ -1,1 +1,6 @@
 pub mod Laws
+pub mod Hints
+pub mod Judgements
+pub mod Seen
+pub mod Found
+pub mod Truth

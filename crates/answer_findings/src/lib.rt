@@ -1,4 +1,16 @@
-//! What an answer tells a resolver beyond a verdict: laws of what verdicts on other questions say of a name.
+//! What an answer tells a resolver beyond a verdict: where an alias leads, what a referral hands on, which delegation is the
+//! topmost, whether a name without DS is delegated. Each is proved by the judge's own judgements of the same messages for other
+//! questions.
 #![tactic(auto)]
 
+mod asked;
+pub mod finding;
+pub mod finds;
+mod hints;
 pub mod laws;
+mod leads;
+mod made;
+mod weighed;
+
+pub use crate::finding::{Finding, Found, Lead};
+pub use crate::finds::find;

@@ -1,5 +1,6 @@
 //! What the lines so far handed in.
 
+use crate::finding::finding_of;
 use crate::flags::Flags;
 use crate::judging::{IN, Outcome, outcome_of};
 use crate::signatures::Signatures;
@@ -69,6 +70,13 @@ impl Desk {
         };
         self.answer = octets_of(alloc, octets)?;
         nothing(alloc)
+    }
+
+    /// What is found of the answer that is held.
+    pub fn found(&self, alloc: Global) -> Option<String> {
+        let (zone, asked) = (self.zone.as_ref()?, self.asked.as_ref()?);
+        let found = finding_of(alloc, &self.signatures, zone, asked, &self.answer)?;
+        format!(in alloc; "find: {found}").ok()
     }
 
     /// How many were judged so far.

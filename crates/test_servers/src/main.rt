@@ -15,6 +15,7 @@
 //!   judged `with one-moment`, all its signatures of one inception and expiration; `with as-received`, as its octets stand; `with
 //!   other-question`, where it may answer another question; `with algorithms LIST`, DS records of others left out; and `with
 //!   max-signatures COUNT`.
+//! - `find`: what is found of the answer that is held, beyond the judge's verdict.
 //! - `tally`: how many were judged, and what was said.
 //!
 //! Each line is printed without octets of messages, keys and signatures, or not at all where it has nothing else, and behind
@@ -22,6 +23,7 @@
 #![tactic(auto)]
 
 mod desk;
+mod finding;
 mod flags;
 mod judging;
 mod signatures;
@@ -49,6 +51,7 @@ fn reply(alloc: Global, desk: &mut Desk, line: &str) -> Option<String> {
         "zone" | "ds" | "keys" => desk.take_zone(alloc, line, name, &words),
         "ask" => desk.ask(alloc, line, &words),
         "message" => desk.hold(alloc, &words),
+        "find" => desk.found(alloc),
         "tally" => desk.told(alloc),
         _ => desk.judge_line(alloc, name, &words),
     }

@@ -1,0 +1,57 @@
+-- What a search comes to.
+use Rattle.std.specs.Prelude.{◌≡◌, ◌⊎◌, ℕ, true, List, Result, Ok, Err, IfSome}
+use Rattle.std.specs.Option.{is_some}
+use Rattle.definitions.specs.Limits.{pointer_limit}
+use Rattle.definitions.specs.Name.{at_or_above}
+use Rattle.messages.specs.Message.{Asked}
+use Rattle.answer_judge_keys.specs.Judging.{Handing, answer_of}
+use Rattle.answer_judge_keys.specs.declared.verdict.Refusal.{Refusal}
+use Rattle.answer_judge_table.specs.Asking.{AreAsked}
+use Rattle.answer_judge_table.specs.Outcomes.{IsJudgedBy}
+use Rattle.answer_judge_table.specs.Table.{Checked, Tried}
+use Rattle.answer_findings.specs.declared.finding.Found.{Found}
+use Rattle.answer_findings.specs.declared.finding.Found.TheVariants as f
+use Rattle.answer_findings.specs.declared.made.Judgements.{Judgements}
+use Rattle.answer_findings.specs.Judgements.{IsMade, alias_question, aside, asked_in, ds_question, ns_question}
+use Rattle.answer_findings.specs.Seen.{Seen, found_by, hashed_by, lead_found, seen, verified_by}
+
+-- judgements of a case's messages: of the case itself, and of the questions that are sought
+pub record AreJudgements (table : List Checked) (h : Handing) (js : Judgements) : Type 0 where
+  pub own : IsJudgedBy table h js.own
+  pub alias : IfSome js.alias (IsMade table h)
+  pub ns : IfSome js.ns (IsMade table h)
+  pub ds : IfSome js.ds (IsMade table h)
+  pub alias_asked : asked_in js.alias ≡ alias_question pointer_limit h
+  pub ns_asked : asked_in js.ns ≡ ns_question pointer_limit h (answer_of js.own)
+  pub ds_asked : asked_in js.ds ≡ ds_question pointer_limit h (answer_of js.own) (is_some (lead_found h js.alias))
+
+-- what they come to, and how often was verified and hashed for all of them
+pub record IsFoundBy (table : List Checked) (h : Handing) (said : Result Seen Refusal) (verifications hashes : ℕ) : Type 0 where
+  pub judgements : Judgements
+  pub are : AreJudgements table h judgements
+  pub says : said ≡ found_by h judgements
+  pub verified : verifications ≡ verified_by judgements
+  pub hashed : hashes ≡ hashed_by judgements
+
+-- what some judgements come to, and their counts
+abbrev pub ComesTo : Handing → Judgements → Found → Type 0
+ComesTo h js (f.Finds finding verifications hashes) = (found_by h js ≡ Ok (seen finding)) × (verifications ≡ verified_by js) × (hashes ≡ hashed_by js)
+ComesTo h js (f.Refused refusal verifications hashes) = (found_by h js ≡ Err refusal) × (verifications ≡ verified_by js) × (hashes ≡ hashed_by js)
+ComesTo h js (f.Asks asks) = ⊥
+
+-- a question of the case's class at its name or above it, up to the apex, for NS, CNAME, DNAME or DS
+pub record IsBeside (h : Handing) (asked : Asked) : Type 0 where
+  pub above : at_or_above asked.name h.asked.name ≡ true
+  pub inside : at_or_above h.apex asked.name ≡ true
+  pub class : asked.class ≡ h.asked.class
+  pub rtype : (asked.rtype ≡ 2) ⊎ ((asked.rtype ≡ 5) ⊎ ((asked.rtype ≡ 39) ⊎ (asked.rtype ≡ 43)))
+
+-- signatures that are asked for, for the case itself or a question beside it
+abbrev pub AreAskedFor : List Checked → Handing → List Tried → Type 0
+AreAskedFor table h asks = AreAsked table h asks ⊎ ((asked : Asked) × IsBeside h asked × AreAsked table (aside h asked) asks)
+
+-- what comes of a search
+abbrev pub IsFound : List Checked → Handing → Found → Type 0
+IsFound table h (f.Finds finding verifications hashes) = IsFoundBy table h (Ok (seen finding)) verifications hashes
+IsFound table h (f.Refused refusal verifications hashes) = IsFoundBy table h (Err refusal) verifications hashes
+IsFound table h (f.Asks asks) = AreAskedFor table h asks.items

@@ -1,0 +1,65 @@
+-- What is found is so of the zone.
+use Rattle.std.specs.Prelude.{◌≡◌, ◌↔◌, ℕ, Bool, true, List, [], ◌∷◌, Option, Some, None, Contains}
+use Rattle.definitions.specs.Limits.{pointer_limit}
+use Rattle.definitions.specs.Name.{Name, low}
+use Rattle.definitions.specs.Zone.{NoType, Delegated, cut, is_delegation}
+use Rattle.definitions.specs.ZoneChain.{optout_of}
+use Rattle.denial_laws.specs.Leading.{Lead, To, LeadsTo}
+use Rattle.messages.specs.Message.{Asked}
+use Rattle.answer_scheme.specs.Answers.{Answers}
+use Rattle.answer_honest.specs.Honest.{AreHonest, IsSaidByOne}
+use Rattle.answer_honest.specs.Versions.{Version, zone_in}
+use Rattle.answer_judge_keys.specs.Judging.{Handing}
+use Rattle.answer_judge_table.specs.Table.{AreTrue, Checked, Tried, answers_with, passes_in}
+use Rattle.answer_findings.specs.declared.finding.Found.{Found}
+use Rattle.answer_findings.specs.declared.finding.Found.TheVariants as f
+use Rattle.answer_findings.specs.Found.{IsBeside}
+use Rattle.answer_findings.specs.Judgements.{aside}
+use Rattle.answer_findings.specs.Laws.{HasRecords}
+use Rattle.answer_findings.specs.Seen.{Seen, SeesVerdict, SeesDelegated, SeesNoDs, SeesAlias, SeesStarAlias, SeesDname, SeesReferral, seen}
+
+-- Nothing is forged in the messages, whichever of these questions they are judged for: the case's own, and those beside it.
+pub record AreHonestBeside (a : Answers) (k : ℕ) (h : Handing) (versions : List Version) : Type 0 where
+  pub itself : AreHonest a k h versions
+  pub beside : (asked : Asked) → IsBeside h asked → AreHonest a k (aside h asked) versions
+
+-- the name of the question leads there in a version of the zone
+pub record LeadsInOne (h : Handing) (versions : List Version) (lead : Lead) : Type 0 where
+  pub version : Version
+  pub there : Contains versions version
+  pub leads : LeadsTo (zone_in h.apex version) (optout_of version.mode) h.asked.name h.asked.rtype lead
+
+-- a version of the zone has these DS records
+pub record HasDsInOne (h : Handing) (versions : List Version) (c : Name) (ds : List (List ℕ)) : Type 0 where
+  pub version : Version
+  pub there : Contains versions version
+  pub has : HasRecords (zone_in h.apex version) c 43 ds
+
+-- of a zone that doesn't change the cut is the topmost delegation at or above the name
+abbrev pub CutsAt : Handing → List Version → Option Name → Type 0
+CutsAt h versions None = Unit {0}
+CutsAt h versions (Some c) = (v : Version) → versions ≡ v ∷ [] → cut (zone_in h.apex v) (low h.asked.name) ≡ Some (low c)
+
+-- a zone that doesn't change delegates the name exactly then
+abbrev pub Delegates : Handing → List Version → Bool → Type 0
+Delegates h versions d = (v : Version) → versions ≡ v ∷ [] → (d ≡ true) ↔ (is_delegation (zone_in h.apex v) (low h.asked.name) ≡ true)
+
+-- what is found is so of a version of the zone
+abbrev pub IsSo : Handing → List Version → Seen → Type 0
+IsSo h versions (SeesVerdict v) = IsSaidByOne h versions v
+IsSo h versions (SeesDelegated c) = IsSaidByOne h versions Delegated × CutsAt h versions c
+IsSo h versions (SeesNoDs d) = IsSaidByOne h versions NoType × Delegates h versions d
+IsSo h versions (SeesAlias target) = LeadsInOne h versions (To target)
+IsSo h versions (SeesStarAlias target) = LeadsInOne h versions (To target)
+IsSo h versions (SeesDname owner lead) = LeadsInOne h versions lead
+IsSo h versions (SeesReferral c ds) = HasDsInOne h versions c ds
+
+-- Whatever signatures truly pass, those that pass in the table among them, of honest messages nothing is found but what is so.
+abbrev pub IsTruly : List Checked → Handing → Seen → Type 0
+IsTruly table h said =
+    (passes : Tried → Bool) (versions : List Version)
+    → AreTrue (passes_in table) passes → AreHonestBeside (answers_with passes) pointer_limit h versions → IsSo h versions said
+
+abbrev pub FindsTruly : List Checked → Handing → Found → Type 0
+FindsTruly table h (f.Finds finding verifications hashes) = IsTruly table h (seen finding)
+FindsTruly table h _ = Unit {0}

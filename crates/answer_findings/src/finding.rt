@@ -1,0 +1,51 @@
+//! What is found.
+use answer_judge::{DataList, Refusal, Verdict};
+use answer_judge_table::Ask;
+use messages::names::Name;
+
+/// Where a DNAME leads a name below its owner (RFC 6672, 2.2).
+#[derive(Debug, Drop)]
+pub enum Lead {
+    /// To the name with the owner's labels exchanged for the target.
+    To(Name<Vec<u8>>),
+    /// To none: it would have more than 255 octets.
+    TooLong,
+}
+
+/// What an answer is found to say.
+#[derive(Debug, Drop)]
+pub enum Finding {
+    /// What the judge says, and nothing beyond it.
+    Verdict(Verdict),
+    /// The name is at or below a delegation: the topmost one, where the message proves which.
+    Delegated(Option<Name<Vec<u8>>>),
+    /// The name exists and has no DS record; whether the zone delegates it.
+    NoDs(bool),
+    /// The name has a CNAME record, which leads to this name.
+    Alias(Name<Vec<u8>>),
+    /// A wildcard with a CNAME record stands for the name, and leads to this name.
+    WildcardAlias(Name<Vec<u8>>),
+    /// A DNAME record stands above the name.
+    Dname { owner: Name<Vec<u8>>, leads: Lead },
+    /// The zone has these DS records at a name at or above the question's.
+    Referral { cut: Name<Vec<u8>>, ds: DataList },
+}
+
+/// What comes of a search.
+#[derive(Debug, Drop)]
+pub enum Found {
+    /// What is found, and how often was verified and hashed for it.
+    Finds {
+        finding: Finding,
+        verifications: u64,
+        hashes: u64,
+    },
+    /// Why nothing is found, and how often was verified and hashed for that.
+    Refused {
+        refusal: Refusal,
+        verifications: u64,
+        hashes: u64,
+    },
+    /// The table does not have these signatures: with them in it the search goes on.
+    Asks(Vec<Ask>),
+}

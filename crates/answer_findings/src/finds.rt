@@ -1,0 +1,50 @@
+//! A search for what an answer says beyond a verdict.
+ghost use Rattle.std.specs.Prelude.{IfOk};
+ghost use Rattle.answer_findings.specs.Found.{IsFound};
+ghost use Rattle.answer_findings.specs.Truth.{FindsTruly};
+
+use crate::asked::{alias_question, ds_question, ns_question};
+use crate::finding::Found;
+use crate::leads::lead_found;
+use crate::made::{Judgements, judged_aside};
+use crate::weighed::weighed;
+use answer_judge::Case;
+use answer_judge_table::{CheckedSignature, Outcome, judge_by_table};
+use std::alloc::{AllocError, Global};
+
+/// Says what an answer tells of a question, by a table of signatures that were checked, as [`judge_by_table`] does: the judge's
+/// verdict, with the cut of a name that is delegated, and whether a name without DS is delegated; or where no verdict is proven,
+/// where the name leads as an alias, or the DS records of a referral. Why nothing is found is the judge's own refusal.
+///
+/// What goes beyond the verdict is what the judge says of the same messages for other questions: for the CNAME or the DNAME that
+/// the answer holds, for NS and DS at the cut that its NS records suggest. So there are at most four judgements a call, each bounded
+/// as one is; the counts are their sums. Signatures are asked for by the first judgement that the table does not suffice for.
+///
+/// Of messages in which nothing is forged, whichever of these questions they are judged for, what is found is so of a version of the
+/// zone: an alias leads there, the DS records are at the cut. What rests on two judgements, the cut and whether a name without DS is
+/// delegated, is so of a zone that does not change.
+pub fn find(alloc: Global, case: &Case, table: &[CheckedSignature]) -> Result<Found, AllocError>
+    ensures found { IfOk result (λ f. IsFound table.now case.now f) }
+    ensures honest { IfOk result (λ f. FindsTruly table.now case.now f) }
+{
+    let alias = match judged_aside(alloc, case, table, alias_question(alloc, case)?)? {
+        Ok(alias) => alias,
+        Err(asks) => return Ok(Found::Asks(asks)),
+    };
+    let own = match judge_by_table(alloc, case, table)? {
+        Outcome::Judged(own) => own,
+        Outcome::Asks(asks) => return Ok(Found::Asks(asks)),
+    };
+    let lead = lead_found(alloc, case, &alias)?;
+    let question = ns_question(alloc, case, &own)?;
+    let ns = match judged_aside(alloc, case, table, question)? {
+        Ok(ns) => ns,
+        Err(asks) => return Ok(Found::Asks(asks)),
+    };
+    let question = ds_question(alloc, case, &own, lead.is_some())?;
+    let ds = match judged_aside(alloc, case, table, question)? {
+        Ok(ds) => ds,
+        Err(asks) => return Ok(Found::Asks(asks)),
+    };
+    weighed(alloc, case, Judgements { own, alias, ns, ds }, lead)
+}

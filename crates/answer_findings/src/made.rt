@@ -1,0 +1,69 @@
+//! Judgements of the same messages for other questions.
+ghost use Rattle.std.specs.Prelude.{◌≡◌, IfOk, MatchResult};
+ghost use Rattle.messages.specs.Questions.{asked_of};
+ghost use Rattle.answer_judge_table.specs.Outcomes.{IsOutcome};
+ghost use Rattle.answer_findings.specs.Judgements.{AreAskedAside, IsMadeOf, aside};
+
+use answer_judge::{Case, Judgement, Refused};
+use answer_judge_table::{Ask, CheckedSignature, Outcome, judge_by_table};
+use messages::question::Question;
+use std::alloc::{AllocError, Global};
+
+/// A judgement of a case's messages for another question.
+#[derive(Debug, Drop)]
+pub(crate) struct Made {
+    pub(crate) question: Question,
+    pub(crate) said: Result<Judgement, Refused>,
+}
+
+/// The judgements of a search: of the case itself, of the question that proves an alias, and of NS and DS at a name.
+#[derive(Debug, Drop)]
+pub(crate) struct Judgements {
+    pub(crate) own: Result<Judgement, Refused>,
+    pub(crate) alias: Option<Made>,
+    pub(crate) ns: Option<Made>,
+    pub(crate) ds: Option<Made>,
+}
+
+/// Judges a case's messages for another question, if there is one; or says which signatures that wants.
+pub(crate) fn judged_aside(
+    alloc: Global,
+    case: &Case,
+    table: &[CheckedSignature],
+    question: Option<Question>,
+) -> Result<Result<Option<Made>, Vec<Ask>>, AllocError>
+    ensures { IfOk result (λ r. MatchResult r
+        (IsMadeOf table.now case.now question) (λ asks. AreAskedAside table.now case.now question asks.items)) }
+{
+    let Some(question) = question else {
+        return Ok(Ok(None));
+    };
+    match outcome_aside(alloc, case, table, &question)? {
+        Outcome::Judged(said) => Ok(Ok(Some(Made { question, said }))),
+        Outcome::Asks(asks) => Ok(Err(asks)),
+    }
+}
+
+/// What comes of a judgement of a case's messages for another question.
+fn outcome_aside(
+    alloc: Global,
+    case: &Case,
+    table: &[CheckedSignature],
+    question: &Question,
+) -> Result<Outcome, AllocError>
+    ensures { let h = aside case.now (asked_of question.now) in
+        IfOk result (λ o. IsOutcome table.now h o) }
+{
+    let beside = Case {
+        apex: case.apex,
+        ds: case.ds,
+        dnskey: case.dnskey,
+        answer: case.answer,
+        question,
+        moment: case.moment,
+        limit: case.limit,
+        one_moment: case.one_moment,
+        other_question: true,
+    };
+    judge_by_table(alloc, &beside, table)
+}
