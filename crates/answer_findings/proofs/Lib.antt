@@ -1,7 +1,7 @@
 pub mod Renamed
 pub mod Cuts
 pub mod OneName
-pub mod Sought
+pub mod Beside
 pub mod Truly
 pub mod Searched
 pub mod Exchanging

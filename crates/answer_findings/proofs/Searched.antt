@@ -1,21 +1,27 @@
 -- What a search comes to.
-use Rattle.std.proofs.Common.{◌≡◌, Bool, List, Option, Some, ◌∙◌, ap, sym, inl, inr}
-use Rattle.std.specs.Option.{option_map}
+use Rattle.std.proofs.Common.{◌≡◌, Bool, List, Option, Some, None, Result, Ok, Err, IfOk, MatchResult, ap, subst, sym, ◌∙◌, inr}
+use Rattle.std.specs.Global.{Vec}
+use Rattle.std.specs.Option.{is_some, option_map}
+use Rattle.std.specs.declared.alloc.AllocError.{AllocError}
 use Rattle.definitions.specs.Limits.{pointer_limit}
-use Rattle.definitions.specs.Name.{Name}
 use Rattle.messages.specs.Message.{Asked}
-use Rattle.messages.specs.Questions.{asked_of}
-use Rattle.messages.specs.declared.question.Question.{Question}
-use Rattle.answer_judge_keys.specs.Judging.{Answer, Handing}
+use Rattle.answer_judge_keys.specs.Judging.{Answer, Handing, answer_of}
+use Rattle.answer_judge_keys.specs.declared.verdict.Judgement.{Judgement}
+use Rattle.answer_judge_keys.specs.declared.verdict.Refused.{Refused}
+use Rattle.answer_judge_table.specs.Outcomes.{IsJudgedBy, IsOutcome}
 use Rattle.answer_judge_table.specs.Table.{Checked, Tried}
+use Rattle.answer_judge_table.specs.declared.outcome.Outcome.{Outcome}
+use Rattle.answer_judge_table.specs.declared.outcome.Outcome.TheVariants as outcome
+use Rattle.answer_findings.specs.declared.finding.Finding.{Finding}
 use Rattle.answer_findings.specs.declared.finding.Found.{Found}
 use Rattle.answer_findings.specs.declared.finding.Found.TheVariants as f
 use Rattle.answer_findings.specs.declared.made.Judgements.{Judgements}
+use Rattle.answer_findings.specs.declared.made.Made.{Made}
 use Rattle.answer_findings.specs.Found.{AreAskedFor, AreJudgements, ComesTo, IsBeside, IsFound}
-use Rattle.answer_findings.specs.Judgements.{AreAskedAside, alias_question, ds_question, ns_question}
-use Rattle.answer_findings.specs.Seen.{seen}
+use Rattle.answer_findings.specs.Judgements.{AreAskedAside, IsMadeOf, alias_question, ds_question, ns_question}
+use Rattle.answer_findings.specs.Seen.{Seen, lead_found, seen}
 use Rattle.answer_findings.specs.Truth.{FindsTruly}
-use Rattle.answer_findings.proofs.Sought.{alias_beside, ds_beside, ns_beside}
+use Rattle.answer_findings.proofs.Beside.{alias_beside, ds_beside, ns_beside}
 use Rattle.answer_findings.proofs.Truly.{found_so}
 
 -- what is found is so of the zone
@@ -30,14 +36,60 @@ comes_to table h js (f.Finds finding verifications hashes) are to = record { jud
 comes_to table h js (f.Refused refusal verifications hashes) are to = record { judgements = js; are = are; says = sym to.0; verified = to.1; hashed = to.2 }
 comes_to table h js (f.Asks asks) are to = absurd to
 
--- ---- signatures that are asked for
+-- where memory sufficed
+pub found_in : (table : List Checked) (h : Handing) (js : Judgements) (r : Result Found AllocError) → AreJudgements table h js → IfOk r (ComesTo h js) → IfOk r (IsFound table h)
+found_in table h js (Ok found) are to = comes_to table h js found are to
+found_in table h js (Err e) are to = tt
 
-module _ (table : List Checked) (h : Handing) (question : Option (Question Name)) (asks : List Tried) (a : AreAskedAside table h question asks) where
-  pub alias_asks : option_map asked_of question ≡ alias_question pointer_limit h → AreAskedFor table h asks
-  alias_asks is = inr (a.asked, alias_beside pointer_limit h a.asked (sym is ∙ a.is), a.are_asked)
+pub truly_in : (table : List Checked) (h : Handing) (r : Result Found AllocError) → IfOk r (IsFound table h) → IfOk r (FindsTruly table h)
+truly_in table h (Ok found) is = found_truly table h found is
+truly_in table h (Err e) is = tt
 
-  pub ns_asks : (own : Answer) → option_map asked_of question ≡ ns_question pointer_limit h own → AreAskedFor table h asks
-  ns_asks own is = inr (a.asked, ns_beside pointer_limit h own a.asked (sym is ∙ a.is), a.are_asked)
+-- ---- judgements
 
-  pub ds_asks : (own : Answer) (leads : Bool) → option_map asked_of question ≡ ds_question pointer_limit h own leads → AreAskedFor table h asks
-  ds_asks own leads is = inr (a.asked, ds_beside pointer_limit h own leads a.asked (sym is ∙ a.is), a.are_asked)
+-- a judgement that the table sufficed for
+pub judged_in : (table : List Checked) (h : Handing) (o : Outcome) (own : Result Judgement Refused) → o ≡ outcome.Judged own → IsOutcome table h o → IsJudgedBy table h own
+judged_in table h o own e is = subst (IsOutcome table h) e is
+
+pub made_in : (table : List Checked) (h : Handing) (wanted : Option Asked) (o : Result (Option Made) (Vec Tried)) (made : Option Made) → o ≡ Ok made
+    → MatchResult o (IsMadeOf table h wanted) (λ asks. AreAskedFor table h asks.items) → IsMadeOf table h wanted made
+made_in table h wanted o made e is = subst (λ r. MatchResult r (IsMadeOf table h wanted) (λ asks. AreAskedFor table h asks.items)) e is
+
+leads_alike : (lead : Option Finding) (found : Option Seen) → option_map seen lead ≡ found → is_some lead ≡ is_some found
+leads_alike None found e = ap (λ (o : Option Seen). is_some o) e
+leads_alike (Some f) found e = ap (λ (o : Option Seen). is_some o) e
+
+-- all judgements of a search
+pub are_judgements : (table : List Checked) (h : Handing) (js : Judgements) (lead : Option Finding) (leads : Bool) → IsJudgedBy table h js.own
+    → IsMadeOf table h (alias_question pointer_limit h) js.alias → option_map seen lead ≡ lead_found h js.alias → leads ≡ is_some lead
+    → IsMadeOf table h (ns_question pointer_limit h (answer_of js.own)) js.ns → IsMadeOf table h (ds_question pointer_limit h (answer_of js.own) leads) js.ds → AreJudgements table h js
+are_judgements table h js lead leads own alias e f ns ds =
+    let alike : leads ≡ is_some (lead_found h js.alias) = f ∙ leads_alike lead (lead_found h js.alias) e in
+    record { own = own; alias = alias; ns = ns; ds = subst (λ (b : Bool). IsMadeOf table h (ds_question pointer_limit h (answer_of js.own) b) js.ds) alike ds }
+
+-- ---- questions beside the case's own
+
+-- What comes of a judgement for a question that is wanted, where each that may be wanted stands beside the case's.
+sought : (table : List Checked) (h : Handing) (wanted : Option Asked) → ((asked : Asked) → wanted ≡ Some asked → IsBeside h asked)
+    → (r : Result (Result (Option Made) (Vec Tried)) AllocError)
+    → IfOk r (λ o. MatchResult o (IsMadeOf table h wanted) (λ asks. AreAskedAside table h wanted asks.items))
+    → IfOk r (λ o. MatchResult o (IsMadeOf table h wanted) (λ asks. AreAskedFor table h asks.items))
+sought table h wanted beside (Ok (Ok made)) is = is
+sought table h wanted beside (Ok (Err asks)) is = inr (is.asked, beside is.asked is.is, is.are_asked)
+sought table h wanted beside (Err e) is = tt
+
+module _ (table : List Checked) (h : Handing) (r : Result (Result (Option Made) (Vec Tried)) AllocError) where
+  abbrev pub Asides : Option Asked → Type 0
+  Asides wanted = IfOk r (λ o. MatchResult o (IsMadeOf table h wanted) (λ asks. AreAskedAside table h wanted asks.items))
+
+  abbrev pub Sought : Option Asked → Type 0
+  Sought wanted = IfOk r (λ o. MatchResult o (IsMadeOf table h wanted) (λ asks. AreAskedFor table h asks.items))
+
+  pub alias_sought : (wanted : Option Asked) → wanted ≡ alias_question pointer_limit h → Asides wanted → Sought (alias_question pointer_limit h)
+  alias_sought wanted e is = sought table h (alias_question pointer_limit h) (alias_beside pointer_limit h) r (subst Asides e is)
+
+  pub ns_sought : (own : Answer) (wanted : Option Asked) → wanted ≡ ns_question pointer_limit h own → Asides wanted → Sought (ns_question pointer_limit h own)
+  ns_sought own wanted e is = sought table h (ns_question pointer_limit h own) (ns_beside pointer_limit h own) r (subst Asides e is)
+
+  pub ds_sought : (own : Answer) (leads : Bool) (wanted : Option Asked) → wanted ≡ ds_question pointer_limit h own leads → Asides wanted → Sought (ds_question pointer_limit h own leads)
+  ds_sought own leads wanted e is = sought table h (ds_question pointer_limit h own leads) (ds_beside pointer_limit h own leads) r (subst Asides e is)

@@ -14,7 +14,7 @@ use Rattle.messages.specs.Message.{Asked}
 use Rattle.answer_scheme.specs.Answers.{Answers}
 use Rattle.answer_honest.specs.Honest.{IsSaidByOne, SaysOneOf}
 use Rattle.answer_honest.specs.Versions.{Version, zone_in}
-use Rattle.answer_judge.proofs.GivenLists.{contained_has}
+use Rattle.answer_judge.proofs.GivenLists.{has_contained}
 use Rattle.answer_judge_keys.specs.Judging.{Answer, Says, Refuses, Handing, answer_of}
 use Rattle.answer_judge_keys.specs.declared.verdict.Judgement.{Judgement}
 use Rattle.answer_judge_keys.specs.declared.verdict.Refused.{Refused}
@@ -29,11 +29,11 @@ use Rattle.answer_findings.specs.Hints.{owner_hint}
 use Rattle.answer_findings.specs.Judgements.{IsMade, alias_question, aside, asked_in, asking, cut_question, ds_question, is_delegated, is_no_type, is_not_proven, is_unproven, ns_question, question_of, says_delegated, says_no_type, seeks_delegation}
 use Rattle.answer_findings.specs.Laws.{AnswersDs, HasRecords}
 use Rattle.answer_findings.specs.Seen.{Seen, SeesVerdict, SeesDelegated, SeesNoDs, SeesAlias, SeesStarAlias, SeesDname, SeesReferral, answer_found, answers_ds, cut_found, delegates_found, delegates_said, first_found, found_by, found_or, lead_found, lead_said, named_lead, no_ds_found, one_name, own_lead, referral_found, referral_said, refusal_found, star_lead, verdict_found}
-use Rattle.answer_findings.specs.Truth.{AreHonestBeside, CutsAt, Delegates, HasDsInOne, IsSo, LeadsInOne}
+use Rattle.answer_findings.specs.Truth.{AreHonestBeside, CutsAt, Delegates, IsSo}
 use Rattle.answer_findings.proofs.Cuts.{ds_verdicts_tell_delegations, own_ds_verdicts_cut}
 use Rattle.answer_findings.proofs.OneName.{one_name_is}
 use Rattle.answer_findings.proofs.Renamed.{dnames_redirect, own_cnames_rename, records_are_there, star_cnames_rename}
-use Rattle.answer_findings.proofs.Sought.{SeeksCname, SeeksCut, SeeksDname, cname_beside, cut_above, cut_ds_beside, cut_ns_beside, dname_beside, name_ns_beside, seeks_alias, seeks_cut}
+use Rattle.answer_findings.proofs.Beside.{SeeksCname, SeeksCut, SeeksDname, cname_beside, cut_above, cut_ds_beside, cut_ns_beside, dname_beside, name_ns_beside, seeks_alias, seeks_cut}
 
 -- ---- what answers say
 
@@ -67,7 +67,7 @@ apex_undelegated z name apex d = strictly_unlike (apex_of z) (low name) (and_par
 
 -- of one version there is no other
 one_version : (versions : List Version) (v w : Version) → versions ≡ v ∷ [] → Contains versions w → w ≡ v
-one_version versions v w e c = elim (contained_has (v ∷ []) w (subst (λ vs. Contains vs w) e c)) [ inl is ↦ is | inr none ↦ absurd none ]
+one_version versions v w e c = elim (has_contained (v ∷ []) w (subst (λ vs. Contains vs w) e c)) [ inl is ↦ is | inr none ↦ absurd none ]
 
 module _ (table : List Checked) (h : Handing) (passes : Tried → Bool) (truly : AreTrue (passes_in table) passes) (versions : List Version) (x : AreHonestBeside (answers_with passes) pointer_limit h versions) where
   abbrev zone : Version → Zone
@@ -89,8 +89,9 @@ module _ (table : List Checked) (h : Handing) (passes : Tried → Bool) (truly :
       go (Some target) n e =
           let is : SeesAlias target ≡ s = cc in
           let v = said.version in
-          let rename = own_cnames_rename (zone v) (optout_of v.mode) h.asked.name target h.asked.rtype (said.verdict_is ∙ ap (λ d. Records d) (one_name_is ds target n)) said.no_alias other in
-          subst (IsSo h versions) is (record { version = v; there = said.there; leads = inr rename })
+          let says = said.verdict_is ∙ ap (λ d. Records d) (one_name_is ds target n) in
+          let rename = own_cnames_rename (zone v) (optout_of v.mode) h.asked.name target h.asked.rtype says said.no_alias other in
+          subst (IsSo h versions) is (record { version = v; there = said.there; says = says; leads = inr rename })
   cname_so other (Says (StarRecords ds)) said s e = go (one_name ds) refl e
     where
       go : (o : Option Name) → one_name ds ≡ o → named_lead (star_lead (asking h h.asked.name 5)) o ≡ Some s → IsSo h versions s
@@ -98,8 +99,9 @@ module _ (table : List Checked) (h : Handing) (passes : Tried → Bool) (truly :
       go (Some target) n e =
           let is : SeesStarAlias target ≡ s = cc in
           let v = said.version in
-          let rename = star_cnames_rename (zone v) (optout_of v.mode) h.asked.name target h.asked.rtype (said.verdict_is ∙ ap (λ d. StarRecords d) (one_name_is ds target n)) said.no_alias other in
-          subst (IsSo h versions) is (record { version = v; there = said.there; leads = inr rename })
+          let says = said.verdict_is ∙ ap (λ d. StarRecords d) (one_name_is ds target n) in
+          let rename = star_cnames_rename (zone v) (optout_of v.mode) h.asked.name target h.asked.rtype says said.no_alias other in
+          subst (IsSo h versions) is (record { version = v; there = said.there; says = says; leads = inr rename })
   cname_so other (Says NoType) said s e = absurd cc
   cname_so other (Says NoName) said s e = absurd cc
   cname_so other (Says StarNoType) said s e = absurd cc
@@ -116,8 +118,10 @@ module _ (table : List Checked) (h : Handing) (passes : Tried → Bool) (truly :
       led target n true b e =
           let is : SeesDname owner (exchanged h.asked.name owner target) ≡ s = cc in
           let v = said.version in
-          let redirect = dnames_redirect (zone v) (optout_of v.mode) owner target h.asked.name (said.verdict_is ∙ ap (λ d. Records d) (one_name_is ds target n)) above in
-          subst (IsSo h versions) is (record { version = v; there = said.there; leads = inl redirect })
+          let says = said.verdict_is ∙ ap (λ d. Records d) (one_name_is ds target n) in
+          let has = records_are_there (zone v) (optout_of v.mode) owner 39 (wire target ∷ []) says in
+          let redirect = dnames_redirect (zone v) (optout_of v.mode) owner target h.asked.name says above in
+          subst (IsSo h versions) is (record { version = v; there = said.there; target = target; has = has; above = above; is = refl; leads = inl redirect })
       led target n false b e = absurd cc
 
       go : (o : Option Name) → one_name ds ≡ o → named_lead (own_lead h (asking h owner 39)) o ≡ Some s → IsSo h versions s
@@ -155,25 +159,27 @@ module _ (table : List Checked) (h : Handing) (passes : Tried → Bool) (truly :
 
   -- ---- referrals
 
-  ds_so : (c : Name) (a : Answer) → SaysOneOf (aside h (asking h c 43)) versions a → (s : Seen) → referral_said c a ≡ Some s → IsSo h versions s
-  ds_so c (Says (Records ds)) said s e =
+  ds_so : (c : Name) → strictly_above h.apex c ≡ true → at_or_above c h.asked.name ≡ true → (a : Answer) → SaysOneOf (aside h (asking h c 43)) versions a → (s : Seen) → referral_said c a ≡ Some s → IsSo h versions s
+  ds_so c below above (Says (Records ds)) said s e =
       let is : SeesReferral c ds ≡ s = cc in
       let v = said.version in
-      subst (IsSo h versions) is (record { version = v; there = said.there; has = records_are_there (zone v) (optout_of v.mode) c 43 ds said.verdict_is })
-  ds_so c (Says (StarRecords ds)) said s e = absurd cc
-  ds_so c (Says NoType) said s e = absurd cc
-  ds_so c (Says NoName) said s e = absurd cc
-  ds_so c (Says StarNoType) said s e = absurd cc
-  ds_so c (Says Delegated) said s e = absurd cc
-  ds_so c (Says Open) said s e = absurd cc
-  ds_so c (Says Unsigned) said s e = absurd cc
-  ds_so c (Refuses r) said s e = absurd cc
+      let has = records_are_there (zone v) (optout_of v.mode) c 43 ds said.verdict_is in
+      subst (IsSo h versions) is (record { version = v; there = said.there; has = has; below = below; above = above })
+  ds_so c below above (Says (StarRecords ds)) said s e = absurd cc
+  ds_so c below above (Says NoType) said s e = absurd cc
+  ds_so c below above (Says NoName) said s e = absurd cc
+  ds_so c below above (Says StarNoType) said s e = absurd cc
+  ds_so c below above (Says Delegated) said s e = absurd cc
+  ds_so c below above (Says Open) said s e = absurd cc
+  ds_so c below above (Says Unsigned) said s e = absurd cc
+  ds_so c below above (Refuses r) said s e = absurd cc
 
   referral_so : (made : Option Made) → IfSome made (IsMade table h) → asked_in made ≡ cut_question pointer_limit h 43 → (s : Seen) → referral_found made ≡ Some s → IsSo h versions s
   referral_so None is asked s e = absurd cc
   referral_so (Some m) is asked s e =
       let c : SeeksCut pointer_limit h 43 (question_of m) = seeks_cut pointer_limit h 43 (question_of m) (sym asked) in
-      ds_so c.cut (answer_of m.said)
+      let at = cut_above pointer_limit h c.cut c.hint in
+      ds_so c.cut at.0 at.1 (answer_of m.said)
       (beside_said (asking h c.cut 43) (cut_ds_beside pointer_limit h c.cut c.hint) m.said (subst (λ q. IsJudgedBy table (aside h q) m.said) (sym c.is) is))
       s (ap (λ (q : Asked). referral_said q.name (answer_of m.said)) c.is ∙ e)
 
@@ -314,5 +320,5 @@ module _ (table : List Checked) (h : Handing) (passes : Tried → Bool) (truly :
       go : (a : Answer) → answer_of js.own ≡ a → SaysOneOf h versions a → answer_found h js a ≡ Ok s → IsSo h versions s
       go (Says w) n said e =
           let is : verdict_found h js.ns js.ds w ≡ s = cc in
-          subst (IsSo h versions) is (verdict_so js.ns js.ds are.ns are.ds w said (is_some (lead_found h js.alias)) (are.ns_asked ∙ ap (ns_question pointer_limit h) n) (are.ds_asked ∙ ap (λ a. ds_question pointer_limit h a (is_some (lead_found h js.alias))) n))
-      go (Refuses r) n said e = refusal_so js.alias js.ds are.alias are.ds are.alias_asked r (are.ds_asked ∙ ap (λ a. ds_question pointer_limit h a (is_some (lead_found h js.alias))) n) s e
+          subst (IsSo h versions) is (verdict_so js.ns js.ds are.ns.judged are.ds.judged w said (is_some (lead_found h js.alias)) (are.ns.asked ∙ ap (ns_question pointer_limit h) n) (are.ds.asked ∙ ap (λ a. ds_question pointer_limit h a (is_some (lead_found h js.alias))) n))
+      go (Refuses r) n said e = refusal_so js.alias js.ds are.alias.judged are.ds.judged are.alias.asked r (are.ds.asked ∙ ap (λ a. ds_question pointer_limit h a (is_some (lead_found h js.alias))) n) s e

@@ -1,5 +1,5 @@
 -- What a search comes to.
-use Rattle.std.specs.Prelude.{◌≡◌, ◌⊎◌, ℕ, true, List, Result, Ok, Err, IfSome}
+use Rattle.std.specs.Prelude.{◌≡◌, ◌⊎◌, ℕ, true, List, Result, Ok, Err}
 use Rattle.std.specs.Option.{is_some}
 use Rattle.definitions.specs.Limits.{pointer_limit}
 use Rattle.definitions.specs.Name.{at_or_above}
@@ -12,18 +12,15 @@ use Rattle.answer_judge_table.specs.Table.{Checked, Tried}
 use Rattle.answer_findings.specs.declared.finding.Found.{Found}
 use Rattle.answer_findings.specs.declared.finding.Found.TheVariants as f
 use Rattle.answer_findings.specs.declared.made.Judgements.{Judgements}
-use Rattle.answer_findings.specs.Judgements.{IsMade, alias_question, aside, asked_in, ds_question, ns_question}
+use Rattle.answer_findings.specs.Judgements.{IsMadeOf, alias_question, aside, ds_question, ns_question}
 use Rattle.answer_findings.specs.Seen.{Seen, found_by, hashed_by, lead_found, seen, verified_by}
 
 -- judgements of a case's messages: of the case itself, and of the questions that are sought
 pub record AreJudgements (table : List Checked) (h : Handing) (js : Judgements) : Type 0 where
   pub own : IsJudgedBy table h js.own
-  pub alias : IfSome js.alias (IsMade table h)
-  pub ns : IfSome js.ns (IsMade table h)
-  pub ds : IfSome js.ds (IsMade table h)
-  pub alias_asked : asked_in js.alias ≡ alias_question pointer_limit h
-  pub ns_asked : asked_in js.ns ≡ ns_question pointer_limit h (answer_of js.own)
-  pub ds_asked : asked_in js.ds ≡ ds_question pointer_limit h (answer_of js.own) (is_some (lead_found h js.alias))
+  pub alias : IsMadeOf table h (alias_question pointer_limit h) js.alias
+  pub ns : IsMadeOf table h (ns_question pointer_limit h (answer_of js.own)) js.ns
+  pub ds : IsMadeOf table h (ds_question pointer_limit h (answer_of js.own) (is_some (lead_found h js.alias))) js.ds
 
 -- what they come to, and how often was verified and hashed for all of them
 pub record IsFoundBy (table : List Checked) (h : Handing) (said : Result Seen Refusal) (verifications hashes : ℕ) : Type 0 where

@@ -5,7 +5,6 @@ use Rattle.definitions.specs.Name.{Name, at_or_above, strictly_above}
 use Rattle.definitions.specs.Zone.{Verdict, NoType, Delegated}
 use Rattle.messages.specs.Message.{Asked}
 use Rattle.messages.specs.Questions.{asked_of}
-use Rattle.messages.specs.declared.question.Question.{Question}
 use Rattle.answer_judge_keys.specs.Judging.{Answer, Says, Refuses, Handing, answer_of}
 use Rattle.answer_judge_keys.specs.declared.verdict.Refusal.{Refusal}
 use Rattle.answer_judge_keys.specs.declared.verdict.Refusal.TheVariants as r
@@ -35,15 +34,15 @@ asked_in made = option_map question_of made
 abbrev pub IsMade : List Checked → Handing → Made → Type 0
 IsMade table h m = IsJudgedBy table (aside h (question_of m)) m.said
 
--- that of a question, if there is one
-pub record IsMadeOf (table : List Checked) (h : Handing) (question : Option (Question Name)) (made : Option Made) : Type 0 where
-  pub asked : asked_in made ≡ option_map asked_of question
+-- that of a question, if one is wanted
+pub record IsMadeOf (table : List Checked) (h : Handing) (wanted : Option Asked) (made : Option Made) : Type 0 where
+  pub asked : asked_in made ≡ wanted
   pub judged : IfSome made (IsMade table h)
 
 -- signatures that are asked for, for it
-pub record AreAskedAside (table : List Checked) (h : Handing) (question : Option (Question Name)) (asks : List Tried) : Type 0 where
+pub record AreAskedAside (table : List Checked) (h : Handing) (wanted : Option Asked) (asks : List Tried) : Type 0 where
   pub asked : Asked
-  pub is : option_map asked_of question ≡ Some asked
+  pub is : wanted ≡ Some asked
   pub are_asked : AreAsked table (aside h asked) asks
 
 -- ---- what a judgement says

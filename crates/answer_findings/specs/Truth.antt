@@ -1,10 +1,10 @@
 -- What is found is so of the zone.
 use Rattle.std.specs.Prelude.{◌≡◌, ◌↔◌, ℕ, Bool, true, List, [], ◌∷◌, Option, Some, None, Contains}
 use Rattle.definitions.specs.Limits.{pointer_limit}
-use Rattle.definitions.specs.Name.{Name, low}
-use Rattle.definitions.specs.Zone.{NoType, Delegated, cut, is_delegation}
+use Rattle.definitions.specs.Name.{Name, low, wire, at_or_above, strictly_above}
+use Rattle.definitions.specs.Zone.{Verdict, Records, StarRecords, NoType, Delegated, cut, is_delegation, verdict}
 use Rattle.definitions.specs.ZoneChain.{optout_of}
-use Rattle.denial_laws.specs.Leading.{Lead, To, LeadsTo}
+use Rattle.denial_laws.specs.Leading.{Lead, To, LeadsTo, exchanged}
 use Rattle.messages.specs.Message.{Asked}
 use Rattle.answer_scheme.specs.Answers.{Answers}
 use Rattle.answer_honest.specs.Honest.{AreHonest, IsSaidByOne}
@@ -23,17 +23,31 @@ pub record AreHonestBeside (a : Answers) (k : ℕ) (h : Handing) (versions : Lis
   pub itself : AreHonest a k h versions
   pub beside : (asked : Asked) → IsBeside h asked → AreHonest a k (aside h asked) versions
 
--- the name of the question leads there in a version of the zone
-pub record LeadsInOne (h : Handing) (versions : List Version) (lead : Lead) : Type 0 where
+-- In a version of the zone this is the verdict on the CNAME of the question's name, its own or that of the wildcard that stands
+-- for it, and the name leads to the target.
+pub record IsAliasInOne (h : Handing) (versions : List Version) (said : Verdict) (target : Name) : Type 0 where
   pub version : Version
   pub there : Contains versions version
+  pub says : verdict (zone_in h.apex version) (optout_of version.mode) h.asked.name 5 ≡ said
+  pub leads : LeadsTo (zone_in h.apex version) (optout_of version.mode) h.asked.name h.asked.rtype (To target)
+
+-- A version of the zone has a DNAME record at the owner, which is above the name, and redirects the name.
+pub record IsRedirectedInOne (h : Handing) (versions : List Version) (owner : Name) (lead : Lead) : Type 0 where
+  pub version : Version
+  pub there : Contains versions version
+  pub target : Name
+  pub has : HasRecords (zone_in h.apex version) owner 39 (wire target ∷ [])
+  pub above : strictly_above owner h.asked.name ≡ true
+  pub is : lead ≡ exchanged h.asked.name owner target
   pub leads : LeadsTo (zone_in h.apex version) (optout_of version.mode) h.asked.name h.asked.rtype lead
 
--- a version of the zone has these DS records
+-- A version of the zone has these DS records at the cut, which is at or above the name, and below the apex.
 pub record HasDsInOne (h : Handing) (versions : List Version) (c : Name) (ds : List (List ℕ)) : Type 0 where
   pub version : Version
   pub there : Contains versions version
   pub has : HasRecords (zone_in h.apex version) c 43 ds
+  pub below : strictly_above h.apex c ≡ true
+  pub above : at_or_above c h.asked.name ≡ true
 
 -- of a zone that doesn't change the cut is the topmost delegation at or above the name
 abbrev pub CutsAt : Handing → List Version → Option Name → Type 0
@@ -49,9 +63,9 @@ abbrev pub IsSo : Handing → List Version → Seen → Type 0
 IsSo h versions (SeesVerdict v) = IsSaidByOne h versions v
 IsSo h versions (SeesDelegated c) = IsSaidByOne h versions Delegated × CutsAt h versions c
 IsSo h versions (SeesNoDs d) = IsSaidByOne h versions NoType × Delegates h versions d
-IsSo h versions (SeesAlias target) = LeadsInOne h versions (To target)
-IsSo h versions (SeesStarAlias target) = LeadsInOne h versions (To target)
-IsSo h versions (SeesDname owner lead) = LeadsInOne h versions lead
+IsSo h versions (SeesAlias target) = IsAliasInOne h versions (Records (wire target ∷ [])) target
+IsSo h versions (SeesStarAlias target) = IsAliasInOne h versions (StarRecords (wire target ∷ [])) target
+IsSo h versions (SeesDname owner lead) = IsRedirectedInOne h versions owner lead
 IsSo h versions (SeesReferral c ds) = HasDsInOne h versions c ds
 
 -- Whatever signatures truly pass, those that pass in the table among them, of honest messages nothing is found but what is so.

@@ -3,10 +3,10 @@ ghost use Rattle.std.specs.Prelude.{IfOk};
 ghost use Rattle.answer_findings.specs.Found.{IsFound};
 ghost use Rattle.answer_findings.specs.Truth.{FindsTruly};
 
-use crate::asked::{alias_question, ds_question, ns_question};
 use crate::finding::Found;
 use crate::leads::lead_found;
-use crate::made::{Judgements, judged_aside};
+use crate::made::Judgements;
+use crate::sought::{judged_alias, judged_ds, judged_ns};
 use crate::weighed::weighed;
 use answer_judge::Case;
 use answer_judge_table::{CheckedSignature, Outcome, judge_by_table};
@@ -27,7 +27,7 @@ pub fn find(alloc: Global, case: &Case, table: &[CheckedSignature]) -> Result<Fo
     ensures found { IfOk result (λ f. IsFound table.now case.now f) }
     ensures honest { IfOk result (λ f. FindsTruly table.now case.now f) }
 {
-    let alias = match judged_aside(alloc, case, table, alias_question(alloc, case)?)? {
+    let alias = match judged_alias(alloc, case, table)? {
         Ok(alias) => alias,
         Err(asks) => return Ok(Found::Asks(asks)),
     };
@@ -36,13 +36,11 @@ pub fn find(alloc: Global, case: &Case, table: &[CheckedSignature]) -> Result<Fo
         Outcome::Asks(asks) => return Ok(Found::Asks(asks)),
     };
     let lead = lead_found(alloc, case, &alias)?;
-    let question = ns_question(alloc, case, &own)?;
-    let ns = match judged_aside(alloc, case, table, question)? {
+    let ns = match judged_ns(alloc, case, table, &own)? {
         Ok(ns) => ns,
         Err(asks) => return Ok(Found::Asks(asks)),
     };
-    let question = ds_question(alloc, case, &own, lead.is_some())?;
-    let ds = match judged_aside(alloc, case, table, question)? {
+    let ds = match judged_ds(alloc, case, table, &own, lead.is_some())? {
         Ok(ds) => ds,
         Err(asks) => return Ok(Found::Asks(asks)),
     };

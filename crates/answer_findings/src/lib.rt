@@ -10,6 +10,7 @@ mod hints;
 pub mod laws;
 mod leads;
 mod made;
+mod sought;
 mod weighed;
 
 pub use crate::finding::{Finding, Found, Lead};

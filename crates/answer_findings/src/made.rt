@@ -1,5 +1,6 @@
 //! Judgements of the same messages for other questions.
 ghost use Rattle.std.specs.Prelude.{◌≡◌, IfOk, MatchResult};
+ghost use Rattle.std.specs.Option.{option_map};
 ghost use Rattle.messages.specs.Questions.{asked_of};
 ghost use Rattle.answer_judge_table.specs.Outcomes.{IsOutcome};
 ghost use Rattle.answer_findings.specs.Judgements.{AreAskedAside, IsMadeOf, aside};
@@ -32,8 +33,9 @@ pub(crate) fn judged_aside(
     table: &[CheckedSignature],
     question: Option<Question>,
 ) -> Result<Result<Option<Made>, Vec<Ask>>, AllocError>
-    ensures { IfOk result (λ r. MatchResult r
-        (IsMadeOf table.now case.now question) (λ asks. AreAskedAside table.now case.now question asks.items)) }
+    ensures { let wanted = option_map asked_of question in
+        IfOk result (λ r. MatchResult r (IsMadeOf table.now case.now wanted)
+            (λ asks. AreAskedAside table.now case.now wanted asks.items)) }
 {
     let Some(question) = question else {
         return Ok(Ok(None));

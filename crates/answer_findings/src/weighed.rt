@@ -4,7 +4,7 @@ ghost use Rattle.std.specs.Option.{option_map};
 ghost use Rattle.answer_judge_keys.specs.Judging.{answer_of, hashes_of, verifications_of};
 ghost use Rattle.answer_judge_rules.specs.Rules.{verdict_of};
 ghost use Rattle.answer_findings.specs.Found.{ComesTo};
-ghost use Rattle.answer_findings.specs.Seen.{answers_ds, cut_found, delegates_found, delegates_said, hashed_by, hashed_in, lead_found, no_ds_found, referral_found, refusal_found, seen, verdict_found, verified_by, verified_in};
+ghost use Rattle.answer_findings.specs.Seen.{answers_ds, cut_found, delegates_found, delegates_said, found_by, hashed_by, hashed_in, lead_found, no_ds_found, referral_found, refusal_found, seen, verdict_found, verified_by, verified_in};
 
 use crate::asked::{is_delegated, is_no_type, says_delegated};
 use crate::finding::{Finding, Found};
@@ -14,7 +14,8 @@ use messages::names::{Name, ToName, copy_name};
 use names_rdata::rtype::Rtype;
 use std::alloc::{AllocError, Global};
 
-/// What judgements come to, and where the name leads that they show to be an alias.
+/// What judgements come to, and how often was verified and hashed for them; with them, where the name leads that they show to be an
+/// alias.
 pub(crate) fn weighed(
     alloc: Global,
     case: &Case,
@@ -26,29 +27,39 @@ pub(crate) fn weighed(
 {
     let verifications = verified_by(&judgements);
     let hashes = hashed_by(&judgements);
-    let Judgements { own, ns, ds, .. } = judgements;
-    let said = match own {
-        Ok(judgement) => Ok(verdict_found(
-            alloc,
-            case,
-            judgement.verdict,
-            &ns,
-            &ds,
-        )?),
-        Err(refused) => refusal_found(refused.refusal, lead, ds),
-    };
-    Ok(match said {
-        Ok(finding) => Found::Finds {
+    match answer_found(alloc, case, judgements, lead)? {
+        Ok(finding) => Ok(Found::Finds {
             finding,
             verifications,
             hashes,
-        },
-        Err(refusal) => Found::Refused {
+        }),
+        Err(refusal) => Ok(Found::Refused {
             refusal,
             verifications,
             hashes,
-        },
-    })
+        }),
+    }
+}
+
+/// What judgements come to, or the judge's refusal.
+fn answer_found(
+    alloc: Global,
+    case: &Case,
+    judgements: Judgements,
+    lead: Option<Finding>,
+) -> Result<Result<Finding, Refusal>, AllocError>
+    requires lead { option_map seen lead ≡ lead_found case.now judgements.alias }
+    ensures { let found = found_by case.now judgements in
+        IfOk result (λ r. MatchResult r (λ f. found ≡ Ok (seen f)) (λ e. found ≡ Err e)) }
+{
+    let Judgements { own, ns, ds, .. } = judgements;
+    match own {
+        Ok(judgement) => {
+            let finding = verdict_found(alloc, case, judgement.verdict, &ns, &ds)?;
+            Ok(Ok(finding))
+        }
+        Err(refused) => Ok(refusal_found(refused.refusal, lead, ds)),
+    }
 }
 
 /// What a verdict tells, with the judgements of NS and DS beside it.

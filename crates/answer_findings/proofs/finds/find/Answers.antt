@@ -1,0 +1,18 @@
+use Rattle.definitions.specs.Limits.{pointer_limit}
+use Rattle.answer_judge_keys.specs.Judging.{answer_of}
+use Rattle.answer_findings.specs.Judgements.{alias_question, ds_question, ns_question}
+use Rattle.answer_findings.proofs.Searched.{are_judgements, found_in, judged_in, made_in, truly_in}
+use Rattle.answer_findings.proofs.finds.find.Goals as goal
+
+pub returns : goal.returns
+returns c =
+    let table = c.args.table.now in
+    let h = c.args.case.now in
+    let own = c.in-Judged.own in
+    let alias_is = made_in table h (alias_question pointer_limit h) c.in_ok-alias.field-0 c.in-Ok.alias c.in-Ok.is c.in_ok-alias.ensures in
+    let own_is = judged_in table h c.in_ok-own.field-0 own c.in-Judged.is c.in_ok-own.ensures in
+    let ns_is = made_in table h (ns_question pointer_limit h (answer_of own)) c.in_ok-ns.field-0 c.in-Ok-2.ns c.in-Ok-2.is c.in_ok-ns.ensures in
+    let ds_is = made_in table h (ds_question pointer_limit h (answer_of own) c.is_some.result) c.in_ok-ds.field-0 c.in-Ok-3.ds c.in-Ok-3.is c.in_ok-ds.ensures in
+    let are = are_judgements table h (record { own = own; alias = c.in-Ok.alias; ns = c.in-Ok-2.ns; ds = c.in-Ok-3.ds }) c.in_ok-lead.lead c.is_some.result own_is alias_is c.in_ok-lead.ensures c.is_some.ensures ns_is ds_is in
+    let found = found_in table h (record { own = own; alias = c.in-Ok.alias; ns = c.in-Ok-2.ns; ds = c.in-Ok-3.ds }) c.weighed.result are c.weighed.ensures in
+    record { found = found; honest = truly_in table h c.weighed.result found }

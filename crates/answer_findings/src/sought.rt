@@ -1,0 +1,57 @@
+//! The judgements for other questions that a search comes to.
+ghost use Rattle.std.specs.Prelude.{IfOk, MatchResult};
+ghost use Rattle.definitions.specs.Limits.{pointer_limit};
+ghost use Rattle.answer_judge_keys.specs.Judging.{answer_of};
+ghost use Rattle.answer_findings.specs.Found.{AreAskedFor};
+ghost use Rattle.answer_findings.specs.Judgements.{IsMadeOf, alias_question, ds_question, ns_question};
+
+use crate::asked::{alias_question, ds_question, ns_question};
+use crate::made::{Made, judged_aside};
+use answer_judge::{Case, Judgement, Refused};
+use answer_judge_table::{Ask, CheckedSignature};
+use std::alloc::{AllocError, Global};
+
+/// The judgement that proves an alias, if one is sought; or the signatures that it wants.
+pub(crate) fn judged_alias(
+    alloc: Global,
+    case: &Case,
+    table: &[CheckedSignature],
+) -> Result<Result<Option<Made>, Vec<Ask>>, AllocError>
+    ensures { let wanted = alias_question pointer_limit case.now in
+        IfOk result (λ r. MatchResult r (IsMadeOf table.now case.now wanted)
+            (λ asks. AreAskedFor table.now case.now asks.items)) }
+{
+    let question = alias_question(alloc, case)?;
+    judged_aside(alloc, case, table, question)
+}
+
+/// The judgement of NS at a name, if one is sought; or the signatures that it wants.
+pub(crate) fn judged_ns(
+    alloc: Global,
+    case: &Case,
+    table: &[CheckedSignature],
+    own: &Result<Judgement, Refused>,
+) -> Result<Result<Option<Made>, Vec<Ask>>, AllocError>
+    ensures { let wanted = ns_question pointer_limit case.now (answer_of own.now) in
+        IfOk result (λ r. MatchResult r (IsMadeOf table.now case.now wanted)
+            (λ asks. AreAskedFor table.now case.now asks.items)) }
+{
+    let question = ns_question(alloc, case, own)?;
+    judged_aside(alloc, case, table, question)
+}
+
+/// The judgement of DS at a name, if one is sought; or the signatures that it wants.
+pub(crate) fn judged_ds(
+    alloc: Global,
+    case: &Case,
+    table: &[CheckedSignature],
+    own: &Result<Judgement, Refused>,
+    leads: bool,
+) -> Result<Result<Option<Made>, Vec<Ask>>, AllocError>
+    ensures { let wanted = ds_question pointer_limit case.now (answer_of own.now) leads in
+        IfOk result (λ r. MatchResult r (IsMadeOf table.now case.now wanted)
+            (λ asks. AreAskedFor table.now case.now asks.items)) }
+{
+    let question = ds_question(alloc, case, own, leads)?;
+    judged_aside(alloc, case, table, question)
+}
