@@ -14,8 +14,8 @@ use messages::question::Question;
 use names_rdata::rtype::Rtype;
 use std::alloc::{AllocError, Global};
 
-/// The question whose answer proves that the name is an alias, if the answer suggests one: for the DNAME above the name, else for
-/// its CNAME.
+/// The question whose answer proves that the name is an alias, if the answer suggests one: for the
+/// DNAME above the name, else for its CNAME.
 pub(crate) fn alias_question(alloc: Global, case: &Case) -> Result<Option<Question>, AllocError>
     ensures { IfOk result
         (λ q. option_map asked_of q ≡ alias_question pointer_limit case.now) }
@@ -34,7 +34,8 @@ pub(crate) fn alias_question(alloc: Global, case: &Case) -> Result<Option<Questi
     Ok(None)
 }
 
-/// The question for NS, if one is sought: at the cut of a name that is delegated, or at a name that has no DS record.
+/// The question for NS, if one is sought: at the cut of a name that is delegated, or at a name that
+/// has no DS record.
 pub(crate) fn ns_question(
     alloc: Global,
     case: &Case,
@@ -53,7 +54,8 @@ pub(crate) fn ns_question(
     Ok(None)
 }
 
-/// The question for DS, if one is sought: at the cut of a name that is delegated, or where nothing is proven and no alias found.
+/// The question for DS, if one is sought: at the cut of a name that is delegated, or where nothing
+/// is proven and no alias found.
 pub(crate) fn ds_question(
     alloc: Global,
     case: &Case,

@@ -12,17 +12,20 @@ use answer_judge::Case;
 use answer_judge_table::{CheckedSignature, Outcome, judge_by_table};
 use std::alloc::{AllocError, Global};
 
-/// Says what an answer tells of a question, by a table of signatures that were checked, as [`judge_by_table`] does: the judge's
-/// verdict, with the cut of a name that is delegated, and whether a name without DS is delegated; or where no verdict is proven,
-/// where the name leads as an alias, or the DS records of a referral. Why nothing is found is the judge's own refusal.
+/// Says what an answer tells of a question, by a table of signatures that were checked, as
+/// [`judge_by_table`] does: the judge's verdict, with the cut of a name that is delegated, and
+/// whether a name without DS is delegated; or where no verdict is proven, where the name leads as
+/// an alias, or the DS records of a referral. Why nothing is found is the judge's own refusal.
 ///
-/// What goes beyond the verdict is what the judge says of the same messages for other questions: for the CNAME or the DNAME that
-/// the answer holds, for NS and DS at the cut that its NS records suggest. So there are at most four judgements a call, each bounded
-/// as one is; the counts are their sums. Signatures are asked for by the first judgement that the table does not suffice for.
+/// What goes beyond the verdict is what the judge says of the same messages for other questions:
+/// for the CNAME or the DNAME that the answer holds, for NS and DS at the cut that its NS records
+/// suggest. So there are at most four judgements a call, each bounded as one is; the counts are
+/// their sums. Signatures are asked for by the first judgement that the table does not suffice for.
 ///
-/// Of messages in which nothing is forged, whichever of these questions they are judged for, what is found is so of a version of the
-/// zone: an alias leads there, the DS records are at the cut. What rests on two judgements, the cut and whether a name without DS is
-/// delegated, is so of a zone that does not change.
+/// Of messages in which nothing is forged, whichever of these questions they are judged for, what
+/// is found is so of a version of the zone: an alias leads there, the DS records are at the cut.
+/// What rests on two judgements, the cut and whether a name without DS is delegated, is so of a
+/// zone that does not change.
 pub fn find(alloc: Global, case: &Case, table: &[CheckedSignature]) -> Result<Found, AllocError>
     ensures found { IfOk result (λ f. IsFound table.now case.now f) }
     ensures honest { IfOk result (λ f. FindsTruly table.now case.now f) }

@@ -1,26 +1,29 @@
-//! Laws of what verdicts on other questions say of a name. Each is the contract of a function that does nothing.
+//! Laws of what verdicts on other questions say of a name. Each is the contract of a function that
+//! does nothing.
 ghost use Rattle.answer_findings.specs.Laws.{DnamesRedirect, DsVerdictsTellDelegations, OwnCnamesRename, OwnDsVerdictsCut, RecordsAreThere, StarCnamesRename};
 
-/// A name whose CNAME a zone answers is an alias for each other type, and leads to the CNAME's name: its own CNAME, or that of the
-/// wildcard that stands for it (RFC 1034, 3.6.2; RFC 4592, 3.3.1).
+/// A name whose CNAME a zone answers is an alias for each other type, and leads to the CNAME's
+/// name: its own CNAME, or that of the wildcard that stands for it (RFC 1034, 3.6.2; RFC 4592,
+/// 3.3.1).
 pub fn cnames_rename()
     ensures own { OwnCnamesRename }
     ensures by_wildcard { StarCnamesRename }
 {}
 
-/// A DNAME that a zone answers redirects each name below its owner, whatever the type: to the name with the owner's labels exchanged,
-/// or to none where that is too long (RFC 6672, 2.2).
+/// A DNAME that a zone answers redirects each name below its owner, whatever the type: to the name
+/// with the owner's labels exchanged, or to none where that is too long (RFC 6672, 2.2).
 pub fn dnames_redirect()
     ensures { DnamesRedirect }
 {}
 
-/// Where a zone delegates a name for NS and answers for DS there, the name is the topmost delegation at or above each name at or
-/// below it (RFC 4035, 3.1.4.1).
+/// Where a zone delegates a name for NS and answers for DS there, the name is the topmost
+/// delegation at or above each name at or below it (RFC 4035, 3.1.4.1).
 pub fn own_ds_verdicts_cut()
     ensures { OwnDsVerdictsCut }
 {}
 
-/// Where a name has no DS record, the verdict on its NS records says whether the zone delegates there.
+/// Where a name has no DS record, the verdict on its NS records says whether the zone delegates
+/// there.
 pub fn ds_verdicts_tell_delegations()
     ensures { DsVerdictsTellDelegations }
 {}

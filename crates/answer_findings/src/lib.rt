@@ -1,6 +1,6 @@
-//! What an answer tells a resolver beyond a verdict: where an alias leads, what a referral hands on, which delegation is the
-//! topmost, whether a name without DS is delegated. Each is proved by the judge's own judgements of the same messages for other
-//! questions.
+//! What an answer tells a resolver beyond a verdict: where an alias leads, what a referral hands
+//! on, which delegation is the topmost, whether a name without DS is delegated. Each is proved by
+//! the judge's own judgements of the same messages for other questions.
 #![tactic(auto)]
 
 mod asked;

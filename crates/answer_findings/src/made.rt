@@ -17,7 +17,8 @@ pub(crate) struct Made {
     pub(crate) said: Result<Judgement, Refused>,
 }
 
-/// The judgements of a search: of the case itself, of the question that proves an alias, and of NS and DS at a name.
+/// The judgements of a search: of the case itself, of the question that proves an alias, and of NS
+/// and DS at a name.
 #[derive(Debug, Drop)]
 pub(crate) struct Judgements {
     pub(crate) own: Result<Judgement, Refused>,
@@ -26,7 +27,8 @@ pub(crate) struct Judgements {
     pub(crate) ds: Option<Made>,
 }
 
-/// Judges a case's messages for another question, if there is one; or says which signatures that wants.
+/// Judges a case's messages for another question, if there is one; or says which signatures that
+/// wants.
 pub(crate) fn judged_aside(
     alloc: Global,
     case: &Case,

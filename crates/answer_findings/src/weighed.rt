@@ -14,8 +14,8 @@ use messages::names::{Name, ToName, copy_name};
 use names_rdata::rtype::Rtype;
 use std::alloc::{AllocError, Global};
 
-/// What judgements come to, and how often was verified and hashed for them; with them, where the name leads that they show to be an
-/// alias.
+/// What judgements come to, with the counts of all of them. The lead is where the alias leads that
+/// they prove, if they prove one.
 pub(crate) fn weighed(
     alloc: Global,
     case: &Case,
