@@ -1,5 +1,5 @@
 -- Which questions a case's messages are judged for besides its own.
-use Rattle.std.proofs.Common.{◌≡◌, ℕ, Bool, true, false, ◌&&◌, ◌||◌, not, List, [], ◌∷◌, Option, Some, None, refl, sym, ap, subst, ◌∙◌, ◌⊎◌, inl, inr}
+use Rattle.std.proofs.Common.{◌≡◌, ℕ, Bool, true, false, ◌&&◌, ◌||◌, not, List, [], ◌∷◌, Option, Some, None, refl, subst, ◌⊎◌, inl, inr}
 use Rattle.std.specs.Prelude.{◌==◌, cond, if◌then◌else◌}
 use Rattle.std.specs.List.{find}
 use Rattle.std.specs.Option.{option_map}
@@ -9,7 +9,6 @@ use Rattle.denial_laws.proofs.NameFacts.{strictly_at}
 use Rattle.definitions.proofs.ZoneNames.{above_itself}
 use Rattle.messages.specs.Message.{Asked, Spelled}
 use Rattle.answer_judge_keys.specs.Judging.{Answer, Handing}
-use Rattle.answer_findings.specs.declared.hints.Hint.{Hint}
 use Rattle.answer_findings.specs.declared.hints.Hint.TheVariants as hint
 use Rattle.answer_findings.specs.Found.{IsBeside}
 use Rattle.answer_findings.specs.Hints.{answer_records, has_cname_hint, hints_at, owner_hint, stands_at}

@@ -1,14 +1,13 @@
 -- What verdicts on NS and DS say of a delegation.
-use Rattle.std.proofs.Common.{◌≡◌, ℕ, Bool, true, false, Option, Some, None, sym, ap, ◌∙◌, ◌⊎◌, inl, inr}
-use Rattle.std.proofs.lemmas.Bool.{false≢true}
-use Rattle.definitions.specs.Name.{Name, low, at_or_above}
-use Rattle.definitions.specs.Zone.{Zone, Records, NoType, Delegated, is_delegation, cut, exists, verdict}
+use Rattle.std.proofs.Common.{◌≡◌, Bool, true, Some, None, sym, ◌∙◌, inl, inr}
+use Rattle.definitions.specs.Name.{Name, low}
+use Rattle.definitions.specs.Zone.{Zone, Records, NoType, Delegated, is_delegation, cut, verdict}
 use Rattle.definitions.proofs.ZoneNames.{low-low, above_itself}
 use Rattle.denial_laws.specs.Saying.{IsAnswered, IsDelegated}
 use Rattle.denial_laws.proofs.NameFacts.{above-low}
 use Rattle.denial_laws.proofs.OneVerdict.{each_question_has_one_verdict}
 use Rattle.denial_laws.proofs.ZoneCuts.{IsCut, cut_from, cut_is, cut_live, uncut}
-use Rattle.answer_findings.specs.Laws.{AnswersDs, DsVerdictsTellDelegations, OwnDsVerdictsCut, TellsDelegation}
+use Rattle.answer_findings.specs.Laws.{AnswersDs, DsVerdictsTellDelegations, OwnDsVerdictsCut}
 use Rattle.answer_findings.proofs.Renamed.{told}
 
 ds_answered : (z : Zone) (optout : Bool) (c : Name) → AnswersDs z optout c → IsAnswered z (low c) 43

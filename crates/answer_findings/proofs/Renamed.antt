@@ -1,12 +1,12 @@
 -- Where CNAME and DNAME records lead that a zone answers.
-use Rattle.std.proofs.Common.{◌≡◌, ℕ, Bool, true, false, not, List, [], ◌∷◌, Option, Some, None, sym, ap, ◌∙◌, refl, inl, inr, ◌++◌, length, take}
+use Rattle.std.proofs.Common.{◌≡◌, ℕ, Bool, true, false, not, [], ◌∷◌, Option, Some, None, sym, ap, ◌∙◌, refl, inl, inr, ◌++◌, length, take}
 use Rattle.std.specs.Prelude.{◌==◌, ◌-◌, nat_le, if◌then◌else◌}
 use Rattle.std.proofs.lemmas.Bool.{and_from, not_from_false}
-use Rattle.definitions.specs.Name.{Name, low, wire, wire_len, strictly_above}
-use Rattle.definitions.specs.Zone.{Zone, Verdict, Records, StarRecords, has, is_live, is_open, cut, exists, ce, star_under, data_at, verdict}
+use Rattle.definitions.specs.Name.{Name, low, wire, wire_len}
+use Rattle.definitions.specs.Zone.{Zone, Verdict, Records, StarRecords, has, is_live, cut, exists, ce, star_under, verdict}
 use Rattle.definitions.proofs.ZoneNames.{low-low, same-length}
-use Rattle.denial_laws.specs.Aliases.{has_alias, is_aliased}
-use Rattle.denial_laws.specs.Leading.{To, TooLong, exchanged, IsRedirectedTo, IsRenamedTo, source_of}
+use Rattle.denial_laws.specs.Aliases.{has_alias}
+use Rattle.denial_laws.specs.Leading.{To, TooLong, exchanged, source_of}
 use Rattle.denial_laws.specs.Saying.{IsAnswered, IsVerdict, HasStar}
 use Rattle.denial_laws.proofs.NameFacts.{names_same, strictly-low, strictly_at}
 use Rattle.denial_laws.proofs.OneVerdict.{each_question_has_one_verdict}

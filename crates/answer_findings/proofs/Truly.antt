@@ -1,17 +1,16 @@
 -- What is found is so of the zone.
-use Rattle.std.proofs.Common.{◌≡◌, ◌↔◌, ℕ, Bool, true, false, ◌&&◌, ◌||◌, not, List, [], ◌∷◌, Option, Some, None, Result, Ok, Err, refl, sym, ap, subst, ◌∙◌, ◌⊎◌, inl, inr}
+use Rattle.std.proofs.Common.{◌≡◌, Bool, true, false, ◌&&◌, ◌||◌, not, List, [], ◌∷◌, Option, Some, None, Result, Ok, Err, refl, sym, ap, subst, ◌∙◌, inl, inr}
 use Rattle.std.specs.Prelude.{◌==◌, Contains, IfSome, if◌then◌else◌}
-use Rattle.std.specs.Option.{is_some, option_map}
+use Rattle.std.specs.Option.{is_some}
 use Rattle.std.proofs.lemmas.Bool.{and_parts, eqb-true, false≢true}
 use Rattle.definitions.specs.Limits.{pointer_limit}
 use Rattle.definitions.specs.Name.{Name, low, same, wire, at_or_above, strictly_above}
 use Rattle.definitions.specs.Zone.{Zone, Verdict, Records, NoType, NoName, StarRecords, StarNoType, Delegated, Open, Unsigned, apex_of, has, is_delegation, verdict}
 use Rattle.definitions.specs.ZoneChain.{optout_of}
 use Rattle.definitions.proofs.ZoneNames.{low-low}
-use Rattle.denial_laws.specs.Leading.{Lead, To, LeadsTo, exchanged}
+use Rattle.denial_laws.specs.Leading.{exchanged}
 use Rattle.denial_laws.proofs.NameFacts.{names_same, same_names, strictly_unlike}
 use Rattle.messages.specs.Message.{Asked}
-use Rattle.answer_scheme.specs.Answers.{Answers}
 use Rattle.answer_honest.specs.Honest.{IsSaidByOne, SaysOneOf}
 use Rattle.answer_honest.specs.Versions.{Version, zone_in}
 use Rattle.answer_judge.proofs.GivenLists.{has_contained}
@@ -21,19 +20,17 @@ use Rattle.answer_judge_keys.specs.declared.verdict.Refused.{Refused}
 use Rattle.answer_judge_keys.specs.declared.verdict.Refusal.{Refusal}
 use Rattle.answer_judge_table.specs.Outcomes.{IsJudgedBy}
 use Rattle.answer_judge_table.specs.Table.{AreTrue, Checked, Tried, answers_with, passes_in}
-use Rattle.answer_findings.specs.declared.hints.Hint.TheVariants as hint
 use Rattle.answer_findings.specs.declared.made.Made.{Made}
 use Rattle.answer_findings.specs.declared.made.Judgements.{Judgements}
 use Rattle.answer_findings.specs.Found.{AreJudgements, IsBeside}
-use Rattle.answer_findings.specs.Hints.{owner_hint}
-use Rattle.answer_findings.specs.Judgements.{IsMade, alias_question, aside, asked_in, asking, cut_question, ds_question, is_delegated, is_no_type, is_not_proven, is_unproven, ns_question, question_of, says_delegated, says_no_type, seeks_delegation}
-use Rattle.answer_findings.specs.Laws.{AnswersDs, HasRecords}
-use Rattle.answer_findings.specs.Seen.{Seen, SeesVerdict, SeesDelegated, SeesNoDs, SeesAlias, SeesStarAlias, SeesDname, SeesReferral, answer_found, answers_ds, cut_found, delegates_found, delegates_said, first_found, found_by, found_or, lead_found, lead_said, named_lead, no_ds_found, one_name, own_lead, referral_found, referral_said, refusal_found, star_lead, verdict_found}
+use Rattle.answer_findings.specs.Judgements.{IsMade, alias_question, aside, asked_in, asking, cut_question, ds_question, is_delegated, is_no_type, is_not_proven, ns_question, question_of, says_delegated, seeks_delegation}
+use Rattle.answer_findings.specs.Laws.{AnswersDs}
+use Rattle.answer_findings.specs.Seen.{Seen, SeesVerdict, SeesAlias, SeesStarAlias, SeesDname, SeesReferral, answer_found, answers_ds, cut_found, delegates_found, delegates_said, first_found, found_by, found_or, lead_found, lead_said, named_lead, no_ds_found, one_name, own_lead, referral_found, referral_said, refusal_found, star_lead, verdict_found}
 use Rattle.answer_findings.specs.Truth.{AreHonestBeside, CutsAt, Delegates, IsSo}
 use Rattle.answer_findings.proofs.Cuts.{ds_verdicts_tell_delegations, own_ds_verdicts_cut}
 use Rattle.answer_findings.proofs.OneName.{one_name_is}
 use Rattle.answer_findings.proofs.Renamed.{dnames_redirect, own_cnames_rename, records_are_there, star_cnames_rename}
-use Rattle.answer_findings.proofs.Beside.{SeeksCname, SeeksCut, SeeksDname, cname_beside, cut_above, cut_ds_beside, cut_ns_beside, dname_beside, name_ns_beside, seeks_alias, seeks_cut}
+use Rattle.answer_findings.proofs.Beside.{SeeksCut, cname_beside, cut_above, cut_ds_beside, cut_ns_beside, dname_beside, name_ns_beside, seeks_alias, seeks_cut}
 
 -- ---- what answers say
 

@@ -1,11 +1,11 @@
 -- Judgements of the same messages for other questions, and which are made.
 use Rattle.std.specs.Prelude.{◌≡◌, ℕ, Bool, true, false, not, ◌&&◌, ◌||◌, ◌==◌, List, Option, Some, None, IfSome, if◌then◌else◌}
-use Rattle.std.specs.Option.{is_none, option_map}
+use Rattle.std.specs.Option.{option_map}
 use Rattle.definitions.specs.Name.{Name, at_or_above, strictly_above}
 use Rattle.definitions.specs.Zone.{Verdict, NoType, Delegated}
 use Rattle.messages.specs.Message.{Asked}
 use Rattle.messages.specs.Questions.{asked_of}
-use Rattle.answer_judge_keys.specs.Judging.{Answer, Says, Refuses, Handing, answer_of}
+use Rattle.answer_judge_keys.specs.Judging.{Answer, Says, Refuses, Handing}
 use Rattle.answer_judge_keys.specs.declared.verdict.Refusal.{Refusal}
 use Rattle.answer_judge_keys.specs.declared.verdict.Refusal.TheVariants as r
 use Rattle.answer_judge_table.specs.Asking.{AreAsked}
@@ -13,7 +13,6 @@ use Rattle.answer_judge_table.specs.Outcomes.{IsJudgedBy}
 use Rattle.answer_judge_table.specs.Table.{Checked, Tried}
 use Rattle.answer_findings.specs.declared.hints.Hint.TheVariants as hint
 use Rattle.answer_findings.specs.declared.made.Made.{Made}
-use Rattle.answer_findings.specs.declared.made.Judgements.{Judgements}
 use Rattle.answer_findings.specs.Hints.{has_cname_hint, owner_hint}
 
 -- the same messages, judged for another question

@@ -1,6 +1,5 @@
 -- What is found, as contracts see it, and from which judgements it is found.
-use Rattle.std.specs.Prelude.{◌≡◌, ℕ, ◌+◌, Bool, true, false, not, ◌&&◌, ◌==◌, List, [], ◌∷◌, Option, Some, None, Result, Ok, Err, if◌then◌else◌}
-use Rattle.std.specs.Option.{is_none, option_map}
+use Rattle.std.specs.Prelude.{ℕ, ◌+◌, Bool, true, false, ◌&&◌, ◌==◌, List, [], ◌∷◌, Option, Some, None, Result, Ok, Err, if◌then◌else◌}
 use Rattle.definitions.specs.Name.{Name, same, strictly_above}
 use Rattle.definitions.specs.Zone.{Verdict, Records, StarRecords, NoType}
 use Rattle.denial_laws.specs.Leading.{To, TooLong, exchanged}
@@ -10,7 +9,6 @@ use Rattle.messages.specs.NameOctets.{name_of_octets}
 use Rattle.answer_judge_rules.specs.Rules.{verdict_of}
 use Rattle.answer_judge_keys.specs.Judging.{Answer, Says, Refuses, Handing, answer_of, hashes_of, verifications_of}
 use Rattle.answer_judge_keys.specs.declared.verdict.Refusal.{Refusal}
-use Rattle.answer_judge_keys.specs.declared.verdict.Refusal.TheVariants as r
 use Rattle.answer_findings.specs.declared.finding.Finding.{Finding}
 use Rattle.answer_findings.specs.declared.finding.Finding.TheVariants as f
 use Rattle.answer_findings.specs.declared.finding.Lead.{Lead}

@@ -92,9 +92,7 @@ fn hints_at(case: &Case, hint: Hint, view: &ViewRecord) -> bool
     match hint {
         Hint::Cname => view.rtype == Rtype::CNAME && owner.name_eq(name),
         Hint::Dname => {
-            view.rtype == Rtype::DNAME
-                && is_at_or_above(case.apex, owner)
-                && is_above(owner, name)
+            view.rtype == Rtype::DNAME && is_at_or_above(case.apex, owner) && is_above(owner, name)
         }
         Hint::Cut => {
             view.rtype == Rtype::NS && is_above(case.apex, owner) && is_at_or_above(owner, name)

@@ -62,7 +62,11 @@ fn own_lead(
 }
 
 /// Where a wildcard's CNAME leads.
-fn wildcard_lead(alloc: Global, made: &Made, datas: &DataList) -> Result<Option<Finding>, AllocError>
+fn wildcard_lead(
+    alloc: Global,
+    made: &Made,
+    datas: &DataList,
+) -> Result<Option<Finding>, AllocError>
     ensures { let led = named_lead (star_lead (question_of made.now)) (one_name datas.now) in
         IfOk result (λ f. option_map seen f ≡ led) }
 {

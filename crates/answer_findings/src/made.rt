@@ -37,7 +37,7 @@ pub(crate) fn judged_aside(
 ) -> Result<Result<Option<Made>, Vec<Ask>>, AllocError>
     ensures { let wanted = option_map asked_of question in
         IfOk result (λ r. MatchResult r (IsMadeOf table.now case.now wanted)
-            (λ asks. AreAskedAside table.now case.now wanted asks.items)) }
+        (λ asks. AreAskedAside table.now case.now wanted asks.items)) }
 {
     let Some(question) = question else {
         return Ok(Ok(None));

@@ -19,7 +19,7 @@ pub(crate) fn judged_alias(
 ) -> Result<Result<Option<Made>, Vec<Ask>>, AllocError>
     ensures { let wanted = alias_question pointer_limit case.now in
         IfOk result (λ r. MatchResult r (IsMadeOf table.now case.now wanted)
-            (λ asks. AreAskedFor table.now case.now asks.items)) }
+        (λ asks. AreAskedFor table.now case.now asks.items)) }
 {
     let question = alias_question(alloc, case)?;
     judged_aside(alloc, case, table, question)
@@ -34,7 +34,7 @@ pub(crate) fn judged_ns(
 ) -> Result<Result<Option<Made>, Vec<Ask>>, AllocError>
     ensures { let wanted = ns_question pointer_limit case.now (answer_of own.now) in
         IfOk result (λ r. MatchResult r (IsMadeOf table.now case.now wanted)
-            (λ asks. AreAskedFor table.now case.now asks.items)) }
+        (λ asks. AreAskedFor table.now case.now asks.items)) }
 {
     let question = ns_question(alloc, case, own)?;
     judged_aside(alloc, case, table, question)
@@ -50,7 +50,7 @@ pub(crate) fn judged_ds(
 ) -> Result<Result<Option<Made>, Vec<Ask>>, AllocError>
     ensures { let wanted = ds_question pointer_limit case.now (answer_of own.now) leads in
         IfOk result (λ r. MatchResult r (IsMadeOf table.now case.now wanted)
-            (λ asks. AreAskedFor table.now case.now asks.items)) }
+        (λ asks. AreAskedFor table.now case.now asks.items)) }
 {
     let question = ds_question(alloc, case, own, leads)?;
     judged_aside(alloc, case, table, question)
