@@ -12,6 +12,7 @@ use denial_fields::unix_time::UnixTime;
 use messages::names::{Name, name_from_octets};
 use messages::question::Question;
 use messages_canonical::canonical_cow;
+use names_rdata::data::ComposeRecordData;
 use names_rdata::rtype::Rtype;
 use numbers::algorithm::{DigestAlgorithm, SecurityAlgorithm};
 use numbers::class::Class;
@@ -59,7 +60,10 @@ pub fn finding_of(
 fn found(alloc: Global, signatures: &Signatures, case: &Case) -> Option<Found> {
     let mut asked: Vec<Ask> = Vec::new(alloc);
     for _ in 0..ROUNDS {
-        match find(alloc, case, &checked(alloc, signatures, &asked)?).ok()? {
+        let table = checked(alloc, signatures, &asked)?;
+        let said = find(alloc, case, &table).ok()?;
+        drop(table);
+        match said {
             Found::Asks(asks) => {
                 for ask in asks {
                     asked.push(ask).ok()?;
@@ -96,7 +100,7 @@ fn checked<'a>(
 /// The entry that asks for a signature.
 fn entry_of(alloc: Global, ask: &Ask) -> Option<Vec<u8>> {
     let mut rdata = Vec::new(alloc);
-    ask.key.compose(&mut rdata).ok()?;
+    ask.key.compose_rdata(&mut rdata).ok()?;
     let mut entry = Vec::new(alloc);
     put_part(&mut entry, 2, &rdata)?;
     put_part(&mut entry, 4, &ask.octets)?;
