@@ -136,7 +136,10 @@ def lasting(case: Answered, passing: Passing) -> tuple[int, int]:
                 continue
             signatures = [it for _, it in found if it and (it.owner, it.covered) == (owner, rtype)]
             ends += [it.inception - 1 for it in signatures if case.now < it.inception]
-            holding = (it for it in signatures if it.inception <= case.now <= it.expiration)
+            holding = [it for it in signatures if it.inception <= case.now <= it.expiration]
+            if is_keys:
+                # Keys are signed by one that a DS record names (RFC 4035, 5.2).
+                holding = [it for it in holding if it.fields[16:18] in {ds[:2] for ds in case.ds}]
             first = next((it for it in holding if passing.has(it, rrset)), None)
             if first:
                 ends.append(first.expiration)
