@@ -60,8 +60,8 @@ fn is_any_made<C: Checks>(alloc: Global, ds: &[Ds<Vec<u8>>], checks: &C) -> Resu
     Ok(false)
 }
 
-/// Whether the digest of a DS record is of a type that is made (RFC 4034, 5.1.3): that is asked with no octets, since the type
-/// alone decides it.
+/// Whether the digest of a DS record is of a type that is made (RFC 4034, 5.1.3): that is asked
+/// with no octets, since the type alone decides it.
 fn is_made<C: Checks>(alloc: Global, ds: &Ds<Vec<u8>>, checks: &C) -> Result<bool, AllocError>
     ensures { IfOk result (λ b. b ≡ is_made (C.answers checks.now) ds.now) }
 {

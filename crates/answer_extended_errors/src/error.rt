@@ -9,8 +9,9 @@ use std::fmt;
 pub enum ExtendedError {
     /// None of the others.
     Other = 0,
-    /// The zone's DS records name keys of algorithms alone that are not checked. A judge knows no list of algorithms, so
-    /// [`extended_error`](crate::extended_error) never says it: it is for callers who leave out such DS records.
+    /// The zone's DS records name keys of algorithms alone that are not checked. A judge knows no
+    /// list of algorithms, so [`extended_error`](crate::extended_error) never says it: it is for
+    /// callers who leave out such DS records.
     UnsupportedDnskeyAlgorithm = 1,
     /// The DS records have digests alone of types that are not made.
     UnsupportedDsDigestType = 2,

@@ -19,10 +19,11 @@ use messages::names::ZoneName;
 use messages::{ViewRecord, read_message_into};
 use std::alloc::{AllocError, Global};
 
-/// The extended error that says why a judge refused a case. It is for refusals alone: where the messages prove nothing, the
-/// signatures of the answer are verified once more.
+/// The extended error that says why a judge refused a case. It is for refusals alone: where the
+/// messages prove nothing, the signatures of the answer are verified once more.
 ///
-/// An error says that memory was refused; then a caller has no more to say than [`ExtendedError::Other`].
+/// An error says that memory was refused; then a caller has no more to say than
+/// [`ExtendedError::Other`].
 pub fn extended_error<C: Checks>(
     alloc: Global,
     case: &Case,

@@ -9,16 +9,17 @@ use numbers::algorithm::{DigestAlgorithm, SecurityAlgorithm};
 /// The number of SHA-384 among types of digests (RFC 6605, 2).
 const SHA384: u8 = 4;
 
-/// The extended errors for DS records of algorithms that are not checked, and of digests that are not made (RFC 8914, 4).
+/// The extended errors for DS records of algorithms that are not checked, and of digests that are
+/// not made (RFC 8914, 4).
 const UNSUPPORTED_ALGORITHM: u16 = 1;
 
 const UNSUPPORTED_DIGEST: u16 = 2;
 
-/// The records of a set that are judged by: those of algorithms that are checked, all where none is named, with digests that are
-/// made.
+/// The records of a set that are judged by: those of algorithms that are checked, all where none is
+/// named, with digests that are made.
 ///
-/// A record of another algorithm or digest leads to no key that can be checked. A zone that has no other record is insecure, and
-/// not bogus (RFC 4035, 5.2).
+/// A record of another algorithm or digest leads to no key that can be checked. A zone that has no
+/// other record is insecure, and not bogus (RFC 4035, 5.2).
 pub(crate) fn judged_ds(ds: Vec<Ds<Vec<u8>>>, algorithms: &[u8]) -> Vec<Ds<Vec<u8>>>
     ensures { result.items ≡ judged_ds algorithms.now ds.items }
 {

@@ -42,7 +42,8 @@ impl<'a> Entry<'a> for Ds<Vec<u8>> {
     }
 }
 
-/// The digest that a DS record's data spell; None where they end within the fields before the digest (RFC 4034, 5.1).
+/// The digest that a DS record's data spell; None where they end within the fields before the
+/// digest (RFC 4034, 5.1).
 fn ds_of_data(alloc: Global, rdata: &[u8]) -> Result<Option<Ds<Vec<u8>>>, AllocError>
     requires { length rdata.now ≤ 65535 }
     ensures { IfOk result (λ o. MatchOption o

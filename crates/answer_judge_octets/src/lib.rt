@@ -1,5 +1,5 @@
-//! Judging from octets: a case that octets spell, judged by a table of signatures that its caller has checked, and the reply to it
-//! in octets, for callers in other languages.
+//! Judging from octets: a case that octets spell, judged by a table of signatures that its caller
+//! has checked, and the reply to it in octets, for callers in other languages.
 #![tactic(auto)]
 
 mod ds;

@@ -8,9 +8,11 @@ use answer_judge_table::CheckedSignature;
 /// How many signatures may be checked where a case says no number.
 const MOST_SIGNATURES: u32 = 16;
 
-/// Whether so many more signatures are too many, with the entries of a table whose signatures stand in the messages.
+/// Whether so many more signatures are too many, with the entries of a table whose signatures stand
+/// in the messages.
 ///
-/// Whoever answers decides how many signatures there are, and each costs its checker work (CVE-2023-50387).
+/// Whoever answers decides how many signatures there are, and each costs its checker work
+/// (CVE-2023-50387).
 pub(crate) fn are_too_many(most: u32, case: &Case, table: &[CheckedSignature], more: usize) -> bool
     ensures { result ≡ are_too_many most case.now table.now more }
 {

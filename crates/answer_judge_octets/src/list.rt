@@ -21,7 +21,8 @@ pub(crate) trait Written {
 
 /// What is found in front of octets.
 pub(crate) trait Entry<'a>: Written + Sized {
-    /// What stands in front of octets, and what stands behind it; nothing where nothing of the kind stands there.
+    /// What stands in front of octets, and what stands behind it; nothing where nothing of the kind
+    /// stands there.
     fn split_first(alloc: Global, octets: &'a [u8]) -> Result<Option<(Self, &'a [u8])>, AllocError>
         ensures { let found = option_map (λ p. (p.0, p.1.now)) in
             IfOk result (λ o. Splits Self.fits Self.written octets.now (found o)) };

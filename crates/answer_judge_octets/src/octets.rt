@@ -31,8 +31,9 @@ pub struct OctetCase<'a> {
     pub size: usize,
     /// The name of the zone.
     pub apex: &'a [u8],
-    /// The DS set of the parent: each record's data behind its length in two octets (RFC 4034, 5.1). Of them those are judged by
-    /// that have a digest of SHA-256 or SHA-384 and one of the `algorithms`.
+    /// The DS set of the parent: each record's data behind its length in two octets (RFC 4034,
+    /// 5.1). Of them those are judged by that have a digest of SHA-256 or SHA-384 and one of the
+    /// `algorithms`.
     pub ds: &'a [u8],
     /// The answer for the DNSKEY RRset, a message.
     pub dnskey: &'a [u8],
@@ -40,7 +41,8 @@ pub struct OctetCase<'a> {
     pub answer: &'a [u8],
     /// The name that was asked for.
     pub name: &'a [u8],
-    /// The signatures that were checked, as they were asked for, each with its last octet 1 where it passes, and else 0.
+    /// The signatures that were checked, as they were asked for, each with its last octet 1 where
+    /// it passes, and else 0.
     pub checked: &'a [u8],
     /// The moment at which signatures are to hold, in seconds since 1970.
     pub moment: u64,
@@ -52,14 +54,17 @@ pub struct OctetCase<'a> {
     pub limit: u16,
     /// 1 where all signatures of the answer are to be of one inception and one expiration; else 0.
     pub one_moment: u32,
-    /// 0 where both messages are judged with names in their data in full and in lower case (RFC 4034, 6.2), as every validator
-    /// does: put in canonical form where they have to be; 1 where they are judged as their octets stand.
+    /// 0 where both messages are judged with names in their data in full and in lower case (RFC
+    /// 4034, 6.2), as every validator does: put in canonical form where they have to be; 1 where
+    /// they are judged as their octets stand.
     pub as_received: u32,
-    /// The algorithms of signatures that the caller checks, by their numbers (RFC 4034, A.1); none where it checks all.
+    /// The algorithms of signatures that the caller checks, by their numbers (RFC 4034, A.1); none
+    /// where it checks all.
     pub algorithms: &'a [u8],
     /// How many signatures of both messages are to be checked at most; 0 stands for 16.
     pub max_signatures: u32,
-    /// 1 where the answer may be one to another question of the zone, as a cached denial is (RFC 8198); else 0.
+    /// 1 where the answer may be one to another question of the zone, as a cached denial is (RFC
+    /// 8198); else 0.
     pub other_question: u32,
     /// 1 where the parent proved that there is no DS record; else 0, and `ds` has some.
     pub no_ds: u32,
@@ -86,7 +91,8 @@ pub struct Report {
     pub hashes: u64,
     /// For how many seconds the verdict may be kept (RFC 4035, 5.3.3); 0 where nothing says it.
     pub ttl: u32,
-    /// The extended error that the reply brings (RFC 8914, 4), or 0: code 0 of the RFC, which says nothing, is never brought.
+    /// The extended error that the reply brings (RFC 8914, 4), or 0: code 0 of the RFC, which says
+    /// nothing, is never brought.
     pub ede: u16,
 }
 
@@ -111,13 +117,15 @@ struct ReadCase<'a> {
     table: Vec<CheckedSignature<'a>>,
 }
 
-/// Judges as [`judge_by_table`](answer_judge_table::judge_by_table) does, from octets. The reply's octets are written to the front of `out`
-/// where there is room for them: of records their data, each behind its length in two octets; of signatures that are asked for
-/// their entries, which belong into the list with their last octets set.
+/// Judges as [`judge_by_table`](answer_judge_table::judge_by_table) does, from octets. The reply's
+/// octets are written to the front of `out` where there is room for them: of records their data,
+/// each behind its length in two octets; of signatures that are asked for their entries, which
+/// belong into the list with their last octets set.
 ///
-/// Of messages in which nothing is forged, in the form that is judged, no verdict is said but that of a version of the zone, and
-/// none of an alias: of a zone in order (nothing beside a CNAME, nothing below a DNAME), whoever signs and serves it, and
-/// whichever question the answer was given to.
+/// Of messages in which nothing is forged, in the form that is judged, no verdict is said but that
+/// of a version of the zone, and none of an alias: of a zone in order (nothing beside a CNAME,
+/// nothing below a DNAME), whoever signs and serves it, and whichever question the answer was given
+/// to.
 pub fn judge_octets(
     alloc: Global,
     case: &OctetCase,

@@ -60,7 +60,8 @@ pub enum ReplyCode {
     BadName = 37,
     /// The signatures are no list of checked signatures.
     BadSignatures = 38,
-    /// The case or the report has another size, a flag is neither 0 nor 1, or it is unclear whether there is a DS record.
+    /// The case or the report has another size, a flag is neither 0 nor 1, or it is unclear whether
+    /// there is a DS record.
     BadCase = 39,
 }
 
@@ -139,7 +140,8 @@ impl ReplyCode {
     }
 }
 
-/// What is replied: its code and its octets, how often was verified and hashed, how long a verdict lasts, and an extended error.
+/// What is replied: its code and its octets, how often was verified and hashed, how long a verdict
+/// lasts, and an extended error.
 #[derive(Debug, Drop)]
 pub(crate) struct Reply {
     pub(crate) code: ReplyCode,
@@ -168,7 +170,8 @@ impl Reply {
     }
 }
 
-/// The reply to a judgement of a moment in seconds, beside a DS set with an error that is said where none of it is judged by.
+/// The reply to a judgement of a moment in seconds, beside a DS set with an error that is said
+/// where none of it is judged by.
 pub(crate) fn reply_of_judgement(
     alloc: Global,
     second: u64,
@@ -327,7 +330,8 @@ fn put_ask(alloc: Global, ask: &Ask, octets: &mut Vec<u8>) -> Result<(), AllocEr
     Ok(())
 }
 
-/// Puts a part behind its length in two octets at the end. A longer one is refused as out of memory.
+/// Puts a part behind its length in two octets at the end. A longer one is refused as out of
+/// memory.
 fn put_short(octets: &mut Vec<u8>, part: &[u8]) -> Result<(), AllocError>
     ensures octets { OnOk result (octets.new.items ≡ octets.old.items ++ with_length part.now) }
     ensures short { OnOk result (IsShort part.now) }

@@ -1,5 +1,5 @@
-//! Plain and slow programs that compute the definitions, for tests to compare with. A name is a slice of its labels,
-//! the leftmost first, without the root's.
+//! Plain and slow programs that compute the definitions, for tests to compare with. A name is a
+//! slice of its labels, the leftmost first, without the root's.
 ghost use Rattle.std.specs.Prelude.{◌≡◌, IfOk};
 
 use std::alloc::{AllocError, Global};

@@ -13,8 +13,8 @@ use numbers::rtype::Rtype;
 use std::alloc::Global;
 use std::marker::Model;
 
-/// A set of types: windows, each a number, a length of 1 to 32, and that many octets, a bit for each type. A contract sees
-/// the octets.
+/// A set of types: windows, each a number, a length of 1 to 32, and that many octets, a bit for
+/// each type. A contract sees the octets.
 #[derive(Drop)]
 #[derive_where(PartialEq, Eq, PartialOrd, Ord, Hash)]
 pub struct RtypeBitmap<Octs: Octets> {
@@ -35,7 +35,8 @@ impl<Octs: Octets> Model for RtypeBitmap<Octs> {
 }
 
 impl<Octs: Octets> RtypeBitmap<Octs> {
-    /// The bitmap that the octets spell, its windows in any order. Octets that spell no bitmap are dropped.
+    /// The bitmap that the octets spell, its windows in any order. Octets that spell no bitmap are
+    /// dropped.
     pub fn from_octets(octets: Octs) -> Result<Self, RtypeBitmapError>
     where
         Octs: Drop,

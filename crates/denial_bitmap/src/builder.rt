@@ -11,7 +11,8 @@ use numbers::rtype::Rtype;
 use std::alloc::Global;
 use std::marker::Model;
 
-/// A set of types under construction. Its octets are the bitmap of the types at all times. A contract sees the octets.
+/// A set of types under construction. Its octets are the bitmap of the types at all times. A
+/// contract sees the octets.
 #[derive(Drop)]
 pub struct RtypeBitmapBuilder<B: BuiltOctets> {
     octets: B,
@@ -77,7 +78,8 @@ impl<B: BuiltOctets> RtypeBitmapBuilder<B> {
     }
 }
 
-/// How many octets the window of a number has at a place; 0 where another window or none stands there.
+/// How many octets the window of a number has at a place; 0 where another window or none stands
+/// there.
 fn window_len(octets: &[u8], place: usize, number: u8) -> u8
     requires { place ≤ length octets.now }
     ensures { result ≡ window_len number (drop place octets.now) }
@@ -171,7 +173,8 @@ fn new_window<B: OctetsBuilder>(
     Ok(())
 }
 
-/// Appends zeros to the window at a place, up to a length. A refused call leaves the octets as they were.
+/// Appends zeros to the window at a place, up to a length. A refused call leaves the octets as they
+/// were.
 fn longer_window<B: OctetsBuilder>(
     octets: &mut B,
     place: usize,

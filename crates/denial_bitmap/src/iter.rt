@@ -35,7 +35,8 @@ impl<'a> Model for RtypeBitmapIter<'a> {
 }
 
 impl<Octs: Octets> RtypeBitmap<Octs> {
-    /// The types, window by window as they stand, ascending in each: a built bitmap has each once, all ascending.
+    /// The types, window by window as they stand, ascending in each: a built bitmap has each once,
+    /// all ascending.
     pub fn iter(&self) -> RtypeBitmapIter<'_>
         ensures { result ≡ types_in self.now }
     {

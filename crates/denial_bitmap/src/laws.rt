@@ -14,7 +14,8 @@ pub fn no_types_are_no_octets()
     ensures { NoTypesNoOctets }
 {}
 
-/// The text of a built bitmap determines its types: bitmaps of different types have different texts.
+/// The text of a built bitmap determines its types: bitmaps of different types have different
+/// texts.
 pub fn printed_bitmap_tells_its_types()
     ensures { TextsTellTypes }
 {}

@@ -1,5 +1,5 @@
-//! A plain and slow program that computes what facts prove, for tests to compare with. A name is a slice of its labels, the
-//! leftmost first, without the root's.
+//! A plain and slow program that computes what facts prove, for tests to compare with. A name is a
+//! slice of its labels, the leftmost first, without the root's.
 ghost use Rattle.std.specs.Prelude.{◌≡◌, IfOk};
 ghost use Rattle.std.specs.Option.{option_map};
 ghost use Rattle.definitions.specs.Reference.{verdict_of};

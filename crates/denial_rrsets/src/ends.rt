@@ -11,8 +11,8 @@ use names_rdata::data::RecordData;
 use names_traits::to_name::ToName;
 use plain::record::Record;
 
-/// Where the owners of some records end: the places at which owners begin, behind the first owner of these records. The
-/// records are the last ones of `count` records.
+/// Where the owners of some records end: the places at which owners begin, behind the first owner
+/// of these records. The records are the last ones of `count` records.
 #[derive(Clone, Copy, Debug, Drop)]
 pub struct Ends<'a> {
     later: &'a [usize],
@@ -43,7 +43,8 @@ impl<'a> Ends<'a> {
         }
     }
 
-    /// The ends of what is left behind some records of the first owner, which may be all of its records.
+    /// The ends of what is left behind some records of the first owner, which may be all of its
+    /// records.
     fn left(self, are_all: bool) -> Self
         ensures later { result.later.now
             ≡ (if are_all then drop 1 self.entry.later.now else self.entry.later.now) }
@@ -143,7 +144,8 @@ pub fn split_set<'a, N: ToName, D: RecordData>(
     }
 }
 
-/// Splits off the records of the first owner and type, by the places at which owners begin. Only types are compared.
+/// Splits off the records of the first owner and type, by the places at which owners begin. Only
+/// types are compared.
 fn split_set_at<'a, N: ToName, D: RecordData>(
     slice: SliceRefsOrOwned<'a, Record<N, D>>,
     ends: Ends<'a>,

@@ -80,8 +80,8 @@ impl<'a, N: ToName, D: RecordData> OwnerRrs<'a, N, D> {
         self.records.iter()
     }
 
-    /// Whether the owner is not the apex and has an NS record, which delegates what is at and below it
-    /// (RFC 4035, 2.2).
+    /// Whether the owner is not the apex and has an NS record, which delegates what is at and below
+    /// it (RFC 4035, 2.2).
     pub fn is_zone_cut(&self, apex: &N) -> bool
         ensures { result ≡ zone_cut N.name D.type_of (N.name apex.now) self.now }
     {
@@ -118,8 +118,8 @@ impl<'a, N: ToName, D: RecordData> Model for Rrset<'a, N, D> {
 }
 
 impl<'a, N: ToName, D: RecordData> Rrset<'a, N, D> {
-    /// The records of one owner, class and type; there is at least one. They are no RRset where their TTLs differ,
-    /// except those of RRSIG records (RFC 4034, 3).
+    /// The records of one owner, class and type; there is at least one. They are no RRset where
+    /// their TTLs differ, except those of RRSIG records (RFC 4034, 3).
     pub fn new(slice: SliceRefsOrOwned<'a, Record<N, D>>) -> Result<Self, MultipleTtlValues>
         requires { IsGroup (of_one_set N.name D.type_of) (items_of slice) }
         ensures { result_ok result ≡ rrset_of D.type_of (items_of slice.entry) }
@@ -130,8 +130,8 @@ impl<'a, N: ToName, D: RecordData> Rrset<'a, N, D> {
         Ok(Rrset { slice })
     }
 
-    /// The records of one owner, class and type, by reference; there is at least one. They are no RRset where their
-    /// TTLs differ, except those of RRSIG records (RFC 4034, 3).
+    /// The records of one owner, class and type, by reference; there is at least one. They are no
+    /// RRset where their TTLs differ, except those of RRSIG records (RFC 4034, 3).
     pub fn new_from_refs(slice: &'a [&'a Record<N, D>]) -> Result<Self, MultipleTtlValues>
         requires { IsGroup (of_one_set N.name D.type_of) (map (λ r. r.now) slice.now) }
         ensures { result_ok result ≡ rrset_of D.type_of (map (λ r. r.now) slice.now) }
@@ -139,8 +139,8 @@ impl<'a, N: ToName, D: RecordData> Rrset<'a, N, D> {
         Rrset::new(SliceRefsOrOwned::new_from_refs(slice))
     }
 
-    /// The records of one owner, class and type, in a row; there is at least one. They are no RRset where their TTLs
-    /// differ, except those of RRSIG records (RFC 4034, 3).
+    /// The records of one owner, class and type, in a row; there is at least one. They are no RRset
+    /// where their TTLs differ, except those of RRSIG records (RFC 4034, 3).
     pub fn new_from_owned(slice: &'a [Record<N, D>]) -> Result<Self, MultipleTtlValues>
         requires { IsGroup (of_one_set N.name D.type_of) slice.now }
         ensures { result_ok result ≡ rrset_of D.type_of slice.now }

@@ -8,8 +8,8 @@ use names_labels::flat::is_label_start;
 use names_labels::order::common_tail;
 use names_traits::to_name::ToName;
 
-/// Whether the labels of a row end with those of another, up to ASCII case. Octets are compared from their ends, since
-/// a few octets there mostly tell different rows apart.
+/// Whether the labels of a row end with those of another, up to ASCII case. Octets are compared
+/// from their ends, since a few octets there mostly tell different rows apart.
 pub(crate) fn row_ends_with(run: &[u8], tail: &[u8]) -> bool
     requires run { IsRun run.now }
     requires tail { IsRun tail.now }

@@ -76,8 +76,8 @@ impl<'a, N: ToName, D: RecordData> RecordsIter<'a, N, D> {
         self.slice.get(0)
     }
 
-    /// Passes over the records before the first whose owner is at or below the apex; over all records where there is
-    /// none.
+    /// Passes over the records before the first whose owner is at or below the apex; over all
+    /// records where there is none.
     pub fn skip_before(&mut self, apex: &N)
         ensures { let is = λ (r : Record N D). at_or_above (N.name apex.now) (N.name r.owner) in
             self.new ≡ from_first is self.old }
@@ -126,8 +126,8 @@ impl<'a, N: ToName, D: RecordData> Iterator for RecordsIter<'a, N, D> {
     }
 }
 
-/// Records in groups by owner, class and type, as they stand together. A group whose TTLs differ is an error, and the
-/// next one comes behind it. It takes no memory.
+/// Records in groups by owner, class and type, as they stand together. A group whose TTLs differ is
+/// an error, and the next one comes behind it. It takes no memory.
 #[derive(Drop)]
 pub struct RrsetIter<'a, N: ToName, D: RecordData> {
     slice: SliceRefsOrOwned<'a, Record<N, D>>,

@@ -1,4 +1,5 @@
-//! Laws of names and of numbers in wire form. Each is a function without a parameter, whose contract is the law.
+//! Laws of names and of numbers in wire form. Each is a function without a parameter, whose
+//! contract is the law.
 
 ghost use Rattle.std.specs.Prelude.{◌≡◌, ◌^◌, ◌<◌, ℕ};
 ghost use Rattle.std.specs.Int.{w16, w32, w64, to_be_bytes, from_be_bytes};

@@ -1,5 +1,6 @@
-//! Domain names, and what stands around them in messages, under one name: names over flat octets and in messages,
-//! labels, builders and text, parsers, numbers in wire form, serial numbers, record types.
+//! Domain names, and what stands around them in messages, under one name: names over flat octets
+//! and in messages, labels, builders and text, parsers, numbers in wire form, serial numbers,
+//! record types.
 #![tactic(auto)]
 
 pub mod laws;

@@ -80,7 +80,8 @@ fn append_labels<B: OctetsBuilder, N: ToLabelIter>(
 
 /// A relative name under construction: finished labels, and one that may be open.
 ///
-/// A refused call changes nothing. Contracts see the finished labels and the octets of the open one.
+/// A refused call changes nothing. Contracts see the finished labels and the octets of the open
+/// one.
 #[derive(Drop)]
 pub struct NameBuilder<B: OctetsBuilder> {
     builder: B,
@@ -99,7 +100,8 @@ impl<B: OctetsBuilder> Model for NameBuilder<B> {
 }
 
 impl<B: OctetsBuilder> NameBuilder<B> {
-    /// Continues behind the labels that a buffer holds. A buffer that holds anything else is dropped.
+    /// Continues behind the labels that a buffer holds. A buffer that holds anything else is
+    /// dropped.
     pub fn from_builder(builder: B) -> Result<Self, RelativeNameError>
     where
         B: Drop,
@@ -166,7 +168,8 @@ impl<B: OctetsBuilder> NameBuilder<B> {
         }
     }
 
-    /// Adds octets to the open label; where no label is open, they open one. An empty slice opens none.
+    /// Adds octets to the open label; where no label is open, they open one. An empty slice opens
+    /// none.
     pub fn append_slice(&mut self, octets: &[u8]) -> Result<(), PushError>
         ensures ok { OnOk result (self.new ≡ with_octets self.old octets.now) }
         ensures long_label { IsErrOf result PushError.LongLabel ↔ IsLongLabel self.old octets.now }
@@ -281,8 +284,8 @@ impl<B: OctetsBuilder> NameBuilder<B> {
         Ok(())
     }
 
-    /// Adds symbols: octets to the open label, and at each dot a label's end. Where a symbol is refused, the call
-    /// returns its fault and adds nothing.
+    /// Adds symbols: octets to the open label, and at each dot a label's end. Where a symbol is
+    /// refused, the call returns its fault and adds nothing.
     pub fn append_symbols<S: Iterator<Item = Symbol> + Drop>(
         &mut self,
         symbols: S,
@@ -302,8 +305,8 @@ impl<B: OctetsBuilder> NameBuilder<B> {
         done
     }
 
-    /// Adds symbols: octets to the open label, and at each dot a label's end. The call stops at a symbol that is
-    /// refused, and keeps what the symbols before it added.
+    /// Adds symbols: octets to the open label, and at each dot a label's end. The call stops at a
+    /// symbol that is refused, and keeps what the symbols before it added.
     pub(crate) fn add_symbols<S: Iterator<Item = Symbol> + Drop>(
         &mut self,
         symbols: S,
@@ -356,8 +359,8 @@ impl<B: OctetsBuilder> NameBuilder<B> {
         Ok(())
     }
 
-    /// Adds the symbols that characters spell: octets to the open label, and at each dot a label's end. The call
-    /// returns the fault of the first character behind which no name can come.
+    /// Adds the symbols that characters spell: octets to the open label, and at each dot a label's
+    /// end. The call returns the fault of the first character behind which no name can come.
     pub fn append_chars<C: Iterator<Item = char> + Drop>(
         &mut self,
         chars: C,
@@ -380,8 +383,9 @@ impl<B: OctetsBuilder> NameBuilder<B> {
         done
     }
 
-    /// Adds the symbols that characters spell, behind those that a reader holds of an unfinished symbol. The call stops
-    /// at a character behind which no name can come, and keeps what the whole symbols before it added.
+    /// Adds the symbols that characters spell, behind those that a reader holds of an unfinished
+    /// symbol. The call stops at a character behind which no name can come, and keeps what the
+    /// whole symbols before it added.
     pub(crate) fn append_text<C: Iterator<Item = char> + Drop>(
         &mut self,
         reader: SymbolReader,
@@ -421,8 +425,8 @@ impl<B: OctetsBuilder> NameBuilder<B> {
         octets
     }
 
-    /// Ends the open label, and returns the wire form of the name under the root. The call is refused only for lack of
-    /// room.
+    /// Ends the open label, and returns the wire form of the name under the root. The call is
+    /// refused only for lack of room.
     pub fn into_name_octets(self) -> Result<B, ShortBuf>
     where
         B: Drop,

@@ -1,5 +1,5 @@
-//! Building names: labels one after another, octet by octet, or read from text; and why that is refused. The names
-//! themselves stand above, in `names_flat`.
+//! Building names: labels one after another, octet by octet, or read from text; and why that is
+//! refused. The names themselves stand above, in `names_flat`.
 #![tactic(auto)]
 
 pub mod builder;

@@ -32,7 +32,8 @@ impl<B: OctetsBuilder> NameBuilder<B> {
         }
     }
 
-    /// Ends the open label, and adds a label that spells the lower four bits as a hexadecimal digit.
+    /// Ends the open label, and adds a label that spells the lower four bits as a hexadecimal
+    /// digit.
     pub fn append_hex_digit_label(&mut self, nibble: u8) -> Result<(), PushError>
         ensures ok { let label = hex_digit (nibble % 16) ∷ [] in
             OnOk result (self.new ≡ with_labels self.old (label ∷ [])) }
@@ -50,8 +51,8 @@ impl<B: OctetsBuilder> NameBuilder<B> {
     }
 }
 
-/// A builder with the labels of the name under which an address is looked up. The call is refused only for lack of
-/// memory.
+/// A builder with the labels of the name under which an address is looked up. The call is refused
+/// only for lack of memory.
 pub fn reverse_labels(alloc: Global, addr: IpAddr) -> Result<NameBuilder<Vec<u8>>, PushError>
     ensures labels { IfOk result (λ b. all_labels b ≡ reverse_name addr) }
     ensures memory { IfErr result (λ e. e ≡ PushError.ShortBuf) }

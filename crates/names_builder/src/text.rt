@@ -9,7 +9,8 @@ ghost use Rattle.names_builder.specs.Fault.{OctetFault, fault_of};
 use crate::text_error::{FromStrError, PresentationError};
 use names_wire::symbol::Symbol;
 
-/// The octet that a symbol adds to a label, which is open or begins with it; `None` for a dot, which ends a label.
+/// The octet that a symbol adds to a label, which is open or begins with it; `None` for a dot,
+/// which ends a label.
 pub(crate) fn octet_of(symbol: Symbol, in_label: bool) -> Result<Option<u8>, FromStrError>
     ensures ok { let s = symbol_of symbol in let ends = (is_dot s ≡ true) × IsTrue in_label in
         IfOk result (λ octet. MatchOption octet ends (GoesOn s in_label)) }

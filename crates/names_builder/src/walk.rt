@@ -1,5 +1,5 @@
-//! Texts of names, read in one walk over their octets (RFC 1035, 5.1). The walk reports no faults: a text that it does
-//! not read is left to the reader that goes symbol by symbol.
+//! Texts of names, read in one walk over their octets (RFC 1035, 5.1). The walk reports no faults:
+//! a text that it does not read is left to the reader that goes symbol by symbol.
 
 ghost use Rattle.std.specs.Prelude.{◌≡◌, ◌≢◌, ◌<◌, ◌≤◌, ◌∷◌, Bool, true, drop, length, IfOk, IfSome};
 ghost use Rattle.definitions.specs.Text.{is_digit};
@@ -7,8 +7,8 @@ ghost use Rattle.names_builder.specs.TextWalk.{ReadsOctet, WritesLabels, SpellsT
 
 use std::alloc::{AllocError, Global};
 
-/// The wire form of the name that a text spells. `None` for a text that spells none, for a lone dot, and for a text of
-/// more than 254 characters.
+/// The wire form of the name that a text spells. `None` for a text that spells none, for a lone
+/// dot, and for a text of more than 254 characters.
 pub fn text_octets(alloc: Global, text: &[u8]) -> Result<Option<Vec<u8>>, AllocError>
     ensures { IfOk result (λ o. IfSome o (λ v. SpellsText text.now v.items)) }
 {
@@ -26,8 +26,8 @@ pub fn text_octets(alloc: Global, text: &[u8]) -> Result<Option<Vec<u8>>, AllocE
     Ok(Some(Vec::from_slice(alloc, &octets[..end])?))
 }
 
-/// The labels of the relative name that a text spells, each behind its length. `None` for a text that spells none, for
-/// an empty text, and for a text of more than 254 characters.
+/// The labels of the relative name that a text spells, each behind its length. `None` for a text
+/// that spells none, for an empty text, and for a text of more than 254 characters.
 pub fn relative_octets(alloc: Global, text: &[u8]) -> Result<Option<Vec<u8>>, AllocError>
     ensures { IfOk result (λ o. IfSome o (λ v. SpellsRelativeText text.now v.items)) }
 {
@@ -41,9 +41,10 @@ pub fn relative_octets(alloc: Global, text: &[u8]) -> Result<Option<Vec<u8>>, Al
     }
 }
 
-/// Writes the labels that a text spells, each behind its length, which stands where the dot before its label would.
-/// Returns the place behind them and the length of the last label, which is 0 behind a last dot. `None` where the text
-/// spells no labels, or there is no room for them and the root's octet.
+/// Writes the labels that a text spells, each behind its length, which stands where the dot before
+/// its label would. Returns the place behind them and the length of the last label, which is 0
+/// behind a last dot. `None` where the text spells no labels, or there is no room for them and the
+/// root's octet.
 fn write_labels(octets: &mut [u8], text: &[u8]) -> Option<(usize, usize)>
     requires room { length text.now < length octets.old }
     requires few { length octets.old ≤ 255 }
@@ -81,7 +82,8 @@ fn write_labels(octets: &mut [u8], text: &[u8]) -> Option<(usize, usize)>
     Some((place, last))
 }
 
-/// The octet that a symbol adds to a label, and how many octets the symbol takes behind its first one.
+/// The octet that a symbol adds to a label, and how many octets the symbol takes behind its first
+/// one.
 fn octet_at(first: u8, behind: &[u8], in_label: bool) -> Option<(u8, usize)>
     requires { first ≢ 46 }
     ensures symbol { IfSome result (λ r.
@@ -97,7 +99,8 @@ fn octet_at(first: u8, behind: &[u8], in_label: bool) -> Option<(u8, usize)>
     Some((first, 0))
 }
 
-/// The octet that a symbol behind a backslash adds to a label, and how many octets it takes behind the backslash.
+/// The octet that a symbol behind a backslash adds to a label, and how many octets it takes behind
+/// the backslash.
 fn escaped(text: &[u8], in_label: bool) -> Option<(u8, usize)>
     ensures symbol { IfSome result (λ r.
         ReadsOctet (92 ∷ text.now) in_label r.0 (drop r.1 text.now)) }

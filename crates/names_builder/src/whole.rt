@@ -14,8 +14,8 @@ use crate::text_error::{FromStrError, PresentationError, RelativeFromStrError};
 use names_wire::symbol::{Symbol, SymbolReader};
 use std::alloc::Global;
 
-/// A builder with the labels of the name that the symbols spell. A lone dot is the root; any other name may leave its
-/// last dot out.
+/// A builder with the labels of the name that the symbols spell. A lone dot is the root; any other
+/// name may leave its last dot out.
 pub fn read_symbols<S: Iterator<Item = Symbol> + Drop>(
     alloc: Global,
     symbols: S,
@@ -46,8 +46,8 @@ pub fn read_symbols<S: Iterator<Item = Symbol> + Drop>(
     Ok(builder)
 }
 
-/// A builder with the labels of the name that the characters spell, made with room for `room` octets. A lone dot is the
-/// root; any other name may leave its last dot out.
+/// A builder with the labels of the name that the characters spell, made with room for `room`
+/// octets. A lone dot is the root; any other name may leave its last dot out.
 ///
 /// Reading stops at the first character behind which no name can come.
 pub fn read_chars<C: Iterator<Item = char> + Drop>(
@@ -82,8 +82,9 @@ pub fn read_chars<C: Iterator<Item = char> + Drop>(
     Ok(builder)
 }
 
-/// A builder with the labels of the relative name that the characters spell, made with room for `room` octets. Without
-/// characters it has no labels. A last dot is refused; a lone dot is refused as an empty label.
+/// A builder with the labels of the relative name that the characters spell, made with room for
+/// `room` octets. Without characters it has no labels. A last dot is refused; a lone dot is refused
+/// as an empty label.
 pub fn read_relative<C: Iterator<Item = char> + Drop>(
     alloc: Global,
     room: usize,

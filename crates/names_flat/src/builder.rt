@@ -18,7 +18,8 @@ pub trait Finish<B: BuiltOctets>: Sized {
     fn finish(self) -> RelativeName<B>
         ensures { result ≡ all_labels (building self) };
 
-    /// Ends the open label, and returns the name under the root. The call is refused only for lack of room.
+    /// Ends the open label, and returns the name under the root. The call is refused only for lack
+    /// of room.
     fn into_name(self) -> Result<Name<B>, PushNameError>
     where
         B: Drop,

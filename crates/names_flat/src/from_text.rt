@@ -18,7 +18,8 @@ use names_wire::symbol::Symbol;
 use std::alloc::Global;
 
 impl Name<Vec<u8>> {
-    /// The name that the symbols spell. A lone dot is the root; any other name may leave its last dot out.
+    /// The name that the symbols spell. A lone dot is the root; any other name may leave its last
+    /// dot out.
     pub fn from_symbols<S: Iterator<Item = Symbol> + Drop>(
         alloc: Global,
         symbols: S,
@@ -34,8 +35,8 @@ impl Name<Vec<u8>> {
         Ok(read_symbols(alloc, symbols)?.into_name()?)
     }
 
-    /// The name that the characters spell. A lone dot is the root; any other name may leave its last dot out. Reading
-    /// stops at the first character behind which no name can come.
+    /// The name that the characters spell. A lone dot is the root; any other name may leave its
+    /// last dot out. Reading stops at the first character behind which no name can come.
     pub fn from_chars<C: Iterator<Item = char> + Drop>(
         alloc: Global,
         chars: C,
@@ -82,7 +83,8 @@ impl Name<Vec<u8>> {
         }
     }
 
-    /// The name that a text spells, read in one walk; `None` where it has to be read symbol by symbol.
+    /// The name that a text spells, read in one walk; `None` where it has to be read symbol by
+    /// symbol.
     fn read_at_once(alloc: Global, text: &str) -> Result<Option<Self>, FromStrError>
         ensures ok { IfOk result (λ o.
             IfSome o (λ n. name_of_text (chars_of text.now) ≡ Some n)) }
@@ -97,8 +99,8 @@ impl Name<Vec<u8>> {
 }
 
 impl RelativeName<Vec<u8>> {
-    /// The relative name that the characters spell; the empty name where there are none. A last dot is refused; a lone
-    /// dot is refused as an empty label.
+    /// The relative name that the characters spell; the empty name where there are none. A last dot
+    /// is refused; a lone dot is refused as an empty label.
     pub fn from_chars<C: Iterator<Item = char> + Drop>(
         alloc: Global,
         chars: C,
@@ -154,7 +156,8 @@ impl RelativeName<Vec<u8>> {
         }
     }
 
-    /// The relative name that a text spells, read in one walk; `None` where it has to be read symbol by symbol.
+    /// The relative name that a text spells, read in one walk; `None` where it has to be read
+    /// symbol by symbol.
     fn read_at_once(alloc: Global, text: &str) -> Result<Option<Self>, FromStrError>
         ensures ok { IfOk result (λ o.
             IfSome o (λ n. relative_of_text (chars_of text.now) ≡ Some n)) }
@@ -168,7 +171,8 @@ impl RelativeName<Vec<u8>> {
     }
 }
 
-/// The number of octets that a name of a text this long takes, at most that of the longest name (RFC 1035, 2.3.4).
+/// The number of octets that a name of a text this long takes, at most that of the longest name
+/// (RFC 1035, 2.3.4).
 fn room_for(text: &str) -> usize
     ensures { result ≤ 255 }
 {

@@ -5,7 +5,8 @@ ghost use Rattle.std.specs.Ordering.{eq_by_cmp, is_gt};
 ghost use Rattle.std.specs.Cmp.{IsEquivalence, IsTotalOrder};
 ghost use Rattle.definitions.specs.Name.{Name, same, name_cmp, at_or_above};
 
-/// Canonical order is total up to ASCII case, and two names are equal in it exactly where they are the same.
+/// Canonical order is total up to ASCII case, and two names are equal in it exactly where they are
+/// the same.
 pub fn canonical_order_is_total()
     ensures total { IsTotalOrder name_cmp }
     ensures same { IsEquivalence same }

@@ -1,5 +1,6 @@
-//! Names over flat octets: absolute and relative ones, their parts and their text. Their builder stands below, in
-//! `names_builder`; what any two names have in common, however they are kept, above, in `names_traits`.
+//! Names over flat octets: absolute and relative ones, their parts and their text. Their builder
+//! stands below, in `names_builder`; what any two names have in common, however they are kept,
+//! above, in `names_traits`.
 #![tactic(auto)]
 
 pub mod builder;

@@ -194,7 +194,8 @@ impl Name<&'static [u8]> {
 }
 
 impl<'a> Name<CowSlice<'a, u8>> {
-    /// The name over octets that are known to spell one (`from_slice` tests this). The octets are borrowed.
+    /// The name over octets that are known to spell one (`from_slice` tests this). The octets are
+    /// borrowed.
     pub fn borrowed(octets: &'a [u8]) -> Self
         requires { IsFlat octets.now }
         ensures { result ≡ name_in octets.now }
@@ -215,8 +216,8 @@ impl Name<Vec<u8>> {
         }
     }
 
-    /// The name over a copy of octets that are known to spell one (`from_slice` tests this). The call is refused only
-    /// for lack of memory.
+    /// The name over a copy of octets that are known to spell one (`from_slice` tests this). The
+    /// call is refused only for lack of memory.
     pub fn copied(alloc: Global, octets: &[u8]) -> Result<Self, AllocError>
         requires { IsFlat octets.now }
         ensures { IfOk result (λ n. n ≡ name_in octets.now) }

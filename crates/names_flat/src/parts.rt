@@ -64,7 +64,8 @@ impl<Octs: Octets> Name<Octs> {
         Name::of_octets(name)
     }
 
-    /// The name from a place on, at which a label begins (`is_label_start`), as a slice of the octets.
+    /// The name from a place on, at which a label begins (`is_label_start`), as a slice of the
+    /// octets.
     pub fn slice_from(&self, begin: usize) -> Name<&[u8]>
         requires { StartsLabel self.now begin }
         ensures { SpellsName (drop begin (wire self.now)) result }
@@ -72,7 +73,8 @@ impl<Octs: Octets> Name<Octs> {
         self.range_from(begin)
     }
 
-    /// The labels in front of a place at which a label begins (`is_label_start`), and the name from there on.
+    /// The labels in front of a place at which a label begins (`is_label_start`), and the name from
+    /// there on.
     pub fn split(&self, mid: usize) -> (RelativeName<&[u8]>, Name<&[u8]>)
         requires { StartsLabel self.now mid }
         ensures parts { result.0 ++ result.1 ≡ self.now }
@@ -145,8 +147,8 @@ impl<Octs: Octets> RelativeName<Octs> {
         RelativeName::of_octets(part)
     }
 
-    /// The labels in front of a place and those from there on. A label begins there or the last one ends
-    /// (`is_label_start`).
+    /// The labels in front of a place and those from there on. A label begins there or the last one
+    /// ends (`is_label_start`).
     pub fn split(&self, mid: usize) -> (RelativeName<&[u8]>, RelativeName<&[u8]>)
         requires { StartsLabel self.now mid }
         ensures parts { result.0 ++ result.1 ≡ self.now }

@@ -152,7 +152,8 @@ impl<Octs: BuiltOctets> RelativeName<Octs> {
         self.octets.as_mut_slice().make_ascii_lowercase();
     }
 
-    /// Keeps the labels in front of a place. A label begins there or the last one ends (`is_label_start`).
+    /// Keeps the labels in front of a place. A label begins there or the last one ends
+    /// (`is_label_start`).
     pub fn truncate(&mut self, len: usize)
         requires { StartsLabel self.old len }
         ensures parts { (rest : List (List ℕ)) × (self.new ++ rest ≡ self.old) }
@@ -196,7 +197,8 @@ impl RelativeName<Vec<u8>> {
         RelativeName::empty_vec(alloc)
     }
 
-    /// The name of the label `*`, with octets of its own. `wildcard_ref` gives it without taking memory.
+    /// The name of the label `*`, with octets of its own. `wildcard_ref` gives it without taking
+    /// memory.
     pub fn wildcard(alloc: Global) -> Result<Self, ShortBuf>
         ensures { IfOk result (λ n. n ≡ (42 ∷ []) ∷ []) }
     {
@@ -210,7 +212,8 @@ impl RelativeName<Vec<u8>> {
         NameBuilder::new(alloc).finish()
     }
 
-    /// The name of the label `*`, with octets of its own. The call is refused only for lack of memory.
+    /// The name of the label `*`, with octets of its own. The call is refused only for lack of
+    /// memory.
     pub fn wildcard_vec(alloc: Global) -> Result<Self, ShortBuf>
         ensures { IfOk result (λ n. n ≡ (42 ∷ []) ∷ []) }
     {

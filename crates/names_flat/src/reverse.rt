@@ -11,8 +11,9 @@ use std::alloc::Global;
 use std::net::IpAddr;
 
 impl Name<Vec<u8>> {
-    /// The name under which an address is looked up: its octets backwards, in decimal under `in-addr.arpa` or four bits
-    /// a label under `ip6.arpa`. The call is refused only for lack of memory.
+    /// The name under which an address is looked up: its octets backwards, in decimal under
+    /// `in-addr.arpa` or four bits a label under `ip6.arpa`. The call is refused only for lack of
+    /// memory.
     pub fn reverse_from_addr(alloc: Global, addr: IpAddr) -> Result<Self, PushError>
         ensures name { IfOk result (λ n. n ≡ reverse_name addr) }
         ensures memory { IfErr result (λ e. e ≡ PushError.ShortBuf) }

@@ -32,8 +32,8 @@ pub(crate) fn split_last_label(run: &[u8]) -> Option<(&[u8], Label<'_>)>
     Some((&run[..start], last))
 }
 
-/// Splits a row of labels in two. The second part has the labels at the end that take at most 32 octets, or the last
-/// label alone; the first part has the labels in front.
+/// Splits a row of labels in two. The second part has the labels at the end that take at most 32
+/// octets, or the last label alone; the first part has the labels in front.
 pub(crate) fn split_near_end(run: &[u8]) -> (&[u8], &[u8])
     requires { IsRun run.now }
     ensures parts { SplitsRun run.now result.0.now result.1.now }
@@ -91,7 +91,8 @@ pub fn label_at(run: &[u8], index: usize) -> Option<Label<'_>>
     Some(label)
 }
 
-/// The place at which the label of an index begins, counted from the left; the end of the row past the last label.
+/// The place at which the label of an index begins, counted from the left; the end of the row past
+/// the last label.
 pub fn place_of(run: &[u8], index: usize) -> usize
     requires { IsRun run.now }
     ensures { result ≡ length (spelled (take index (labels_in run.now))) }
@@ -114,8 +115,8 @@ pub fn is_label_start(run: &[u8], place: usize) -> bool
     run.len() - rest.len() == place
 }
 
-/// Whether two rows have the same labels, up to ASCII case. Then their octets are the same up to case too, since no
-/// length octet is a letter.
+/// Whether two rows have the same labels, up to ASCII case. Then their octets are the same up to
+/// case too, since no length octet is a letter.
 pub fn runs_eq(run: &[u8], other: &[u8]) -> bool
     requires run { IsRun run.now }
     requires other { IsRun other.now }

@@ -11,7 +11,8 @@ use std::marker::Model;
 
 /// The labels of a name over flat octets, from both ends. It takes no memory.
 ///
-/// A label at the back is found by a walk from the left. To keep these walks short, labels near the end are kept apart.
+/// A label at the back is found by a walk from the left. To keep these walks short, labels near the
+/// end are kept apart.
 #[derive(Drop)]
 pub struct NameIter<'a> {
     run: &'a [u8],

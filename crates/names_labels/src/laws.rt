@@ -5,8 +5,8 @@ ghost use Rattle.names_labels.specs.Octets.{AreOctets};
 ghost use Rattle.definitions.specs.Name.{Name, IsName};
 ghost use Rattle.definitions.specs.Text.{name_of_text, relative_of_text, text_of_name, text_of_relative, dotted_text_of_name};
 
-/// A printed name reads as the same labels, octet for octet (RFC 1035, 5.1). This holds for an absolute name, with or
-/// without its last dot, and for a relative name, also an empty one.
+/// A printed name reads as the same labels, octet for octet (RFC 1035, 5.1). This holds for an
+/// absolute name, with or without its last dot, and for a relative name, also an empty one.
 pub fn printed_name_is_read_back()
     ensures absolute { (n : Name) → IsName n → AreOctets n
         → name_of_text (text_of_name n) ≡ Some n }

@@ -1,5 +1,5 @@
-//! Labels in a row: whether octets spell them, labels by place, orders, their text, and what they feed a hasher. The
-//! types of names are built on these.
+//! Labels in a row: whether octets spell them, labels by place, orders, their text, and what they
+//! feed a hasher. The types of names are built on these.
 #![tactic(auto)]
 
 pub mod check;

@@ -35,8 +35,8 @@ fn label_cmp(a: Label<'_>, b: Label<'_>, case: Case) -> Ordering
 
 /// Canonical order of two names, from the root's side, labels in lower case (RFC 4034, 6.1).
 ///
-/// The labels that a longer name has in front are skipped. Then both names are walked once, and the last difference
-/// decides.
+/// The labels that a longer name has in front are skipped. Then both names are walked once, and the
+/// last difference decides.
 pub fn labels_cmp<A: Labels, B: Labels>(name: &A, other: &B) -> Ordering
     ensures { result ≡ name_cmp (A.labels name.now) (B.labels other.now) }
 {
@@ -53,10 +53,12 @@ pub fn labels_cmp<A: Labels, B: Labels>(name: &A, other: &B) -> Ordering
     order.then(count.cmp(&other_count))
 }
 
-/// Canonical order of two names whose labels stand in rows, from the root's side, labels in lower case.
+/// Canonical order of two names whose labels stand in rows, from the root's side, labels in lower
+/// case.
 ///
-/// Each row is walked up to the octets that both have in common at their ends. Then the longer of the two rests is
-/// walked on until both are equally long. The last labels before these rests decide.
+/// Each row is walked up to the octets that both have in common at their ends. Then the longer of
+/// the two rests is walked on until both are equally long. The last labels before these rests
+/// decide.
 fn runs_cmp(run: &[u8], other: &[u8]) -> Ordering
     requires run { IsRun run.now }
     requires other { IsRun other.now }
@@ -81,8 +83,8 @@ fn runs_cmp(run: &[u8], other: &[u8]) -> Ordering
     label.cmp(&other_label)
 }
 
-/// Walks a row until at most `tail` octets are left. Returns the last label that was passed, if there is one, and what
-/// is left.
+/// Walks a row until at most `tail` octets are left. Returns the last label that was passed, if
+/// there is one, and what is left.
 fn walk_to(run: &[u8], tail: usize) -> (Option<Label<'_>>, &[u8])
     requires { IsRun run.now }
     ensures { WalksTo run.now tail result.0 result.1.now }
@@ -177,8 +179,8 @@ fn labels_composed_cmp<A: Labels, B: Labels>(name: &A, other: &B, case: Case) ->
     }
 }
 
-/// Canonical order of two absolute names: labels from the root on, in lower case; an absent label comes first (RFC 4034,
-/// 6.1).
+/// Canonical order of two absolute names: labels from the root on, in lower case; an absent label
+/// comes first (RFC 4034, 6.1).
 pub fn name_cmp<A: Absolute, B: Absolute>(name: &A, other: &B) -> Ordering
     ensures { result ≡ name_cmp (A.name name.now) (B.name other.now) }
 {

@@ -77,8 +77,8 @@ fn without_last(characters: &[u8]) -> &str
     unsafe { str::from_utf8_unchecked(&characters[..characters.len() - 1]) }
 }
 
-/// Writes the labels of a row with a dot between each two. Short names are gathered in a small buffer, since a buffer
-/// is first filled with zeros.
+/// Writes the labels of a row with a dot between each two. Short names are gathered in a small
+/// buffer, since a buffer is first filled with zeros.
 pub fn write_labels<W: fmt::Write>(f: &mut fmt::Formatter<W>, run: &[u8]) -> fmt::Result
     requires run { IsRun run.now }
     requires short { length run.now ≤ 255 }
@@ -185,8 +185,8 @@ fn write_character(characters: &mut [u8], place: usize, character: u8)
     characters[place] = character;
 }
 
-/// Whether an octet is printed as itself: any from `!` to `~` but the dot and the backslash. Small letters are tested
-/// first, since most octets are small letters.
+/// Whether an octet is printed as itself: any from `!` to `~` but the dot and the backslash. Small
+/// letters are tested first, since most octets are small letters.
 fn is_plain(octet: u8) -> bool
     ensures { result ≡ is_plain octet }
 {

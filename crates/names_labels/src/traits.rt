@@ -12,7 +12,8 @@ use crate::flat::{behind, runs_eq, split_label};
 use names_wire::label::Label;
 use std::marker::Model;
 
-/// Labels that are reached by place, the leftmost first. An absolute name has the root's empty label last.
+/// Labels that are reached by place, the leftmost first. An absolute name has the root's empty
+/// label last.
 pub trait Labels {
     /// The labels in their order.
     ghost labels: { Self → Name };
@@ -38,8 +39,8 @@ pub trait Labels {
         requires { index ≤ length (labels self.now) }
         ensures { reaches self.now result index };
 
-    /// The label at an index, and a place from which the next label is reached, so that a walk over the labels need not
-    /// start from the first label each time.
+    /// The label at an index, and a place from which the next label is reached, so that a walk over
+    /// the labels need not start from the first label each time.
     fn label_onward(&self, place: usize, index: usize) -> Option<(Label<'_>, usize)>
         requires { reaches self.now place index }
         ensures { let found = slice_get (labels self.now) index in
@@ -119,7 +120,8 @@ pub fn labels_eq<A: Labels, B: Labels>(name: &A, other: &B) -> bool
         )
 }
 
-/// How many octets the labels of a name take in wire form. Labels that stand in a row take as many as the row has.
+/// How many octets the labels of a name take in wire form. Labels that stand in a row take as many
+/// as the row has.
 fn labels_len<N: Labels>(name: &N) -> u16
     ensures { result ≡ length (spelled (N.labels name.now)) }
 {

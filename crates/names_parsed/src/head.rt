@@ -21,7 +21,8 @@ enum Head {
 pub(crate) struct Walked {
     /// How many labels it has, the root's included.
     pub(crate) labels: u8,
-    /// How many octets of its wire form stand in a row, without a pointer; 0 where a pointer is followed.
+    /// How many octets of its wire form stand in a row, without a pointer; 0 where a pointer is
+    /// followed.
     pub(crate) row: u8,
     /// The place behind it: behind its first pointer or its root octet.
     pub(crate) behind: usize,
@@ -63,8 +64,8 @@ pub(crate) fn walk(message: &[u8], start: usize) -> Result<Walked, ParseError>
     }
 }
 
-/// The number of labels of a name whose first pointer leads to a place. `before` labels stand before the pointer, and
-/// `left` octets are left for labels ahead of the root's.
+/// The number of labels of a name whose first pointer leads to a place. `before` labels stand
+/// before the pointer, and `left` octets are left for labels ahead of the root's.
 fn labels_beyond(message: &[u8], start: usize, left: usize, before: u8) -> Result<u8, ParseError>
     requires inside { start < length message.now }
     requires short { left ≤ 254 }
@@ -89,8 +90,8 @@ fn labels_beyond(message: &[u8], start: usize, left: usize, before: u8) -> Resul
     }
 }
 
-/// What stands at a place, where `pointers` pointers may still be followed and `room` octets are left ahead of the
-/// root's.
+/// What stands at a place, where `pointers` pointers may still be followed and `room` octets are
+/// left ahead of the root's.
 fn head_at(message: &[u8], place: usize, pointers: u8, room: usize) -> Result<Head, ParseError>
     requires inside { place < length message.now }
     requires short { room ≤ 254 }

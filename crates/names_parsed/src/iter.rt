@@ -48,7 +48,8 @@ impl<'a> ParsedNameIter<'a> {
 }
 
 impl<'a> ParsedNameIter<'a> {
-    /// The labels of the name at a place, without the root's. The name has `left` labels, the root's included.
+    /// The labels of the name at a place, without the root's. The name has `left` labels, the
+    /// root's included.
     pub(crate) fn without_root(message: &'a [u8], place: usize, left: u8) -> Self
         requires stands { stands_at message.now place ≡ true }
         requires all { left ≡ length (name_from message.now place) }

@@ -19,14 +19,16 @@ use names_parser::parser::Parser;
 use names_wire::label::Label;
 use names_wire::labels::label_at;
 
-/// An absolute name that stands in a message, possibly through pointers. It borrows the message and copies nothing.
+/// An absolute name that stands in a message, possibly through pointers. It borrows the message and
+/// copies nothing.
 #[derive(Clone, Copy)]
 pub struct ParsedName<'a> {
     message: &'a [u8],
     start: usize,
     /// How many labels the name has, the root's included.
     labels: u8,
-    /// How many octets of its wire form stand in a row there, without a pointer; 0 where that is not known.
+    /// How many octets of its wire form stand in a row there, without a pointer; 0 where that is
+    /// not known.
     row: u8,
     ghost there: { stands_at message.now start ≡ true },
     ghost counted: { labels ≡ length (name_from message.now start) + 1 },
@@ -65,10 +67,12 @@ impl<'a> ParsedName<'a> {
         self.suffix(start, self.labels - count)
     }
 
-    /// Reads the name that stands where the parser is, and goes behind it: behind its first pointer or its root octet.
+    /// Reads the name that stands where the parser is, and goes behind it: behind its first pointer
+    /// or its root octet.
     ///
-    /// A name has at most 255 octets, its root's included. At most 255 pointers are followed, each to a place before its
-    /// own. It ends by the parser's end. A refused call leaves the parser where it was.
+    /// A name has at most 255 octets, its root's included. At most 255 pointers are followed, each
+    /// to a place before its own. It ends by the parser's end. A refused call leaves the parser
+    /// where it was.
     #[inline(always)]
     pub fn parse(parser: &mut Parser<'a>) -> Result<Self, ParseError>
         ensures ok { IfOk result (ReadsName parser.old parser.new) }
@@ -97,8 +101,9 @@ impl<'a> ParsedName<'a> {
         ParsedName::parse(parser)
     }
 
-    /// Passes over a name: up to its root octet or its first pointer, which is not followed, so what it leads to is not
-    /// looked at. Labels past 255 octets are refused, and a refused call leaves the parser where it was.
+    /// Passes over a name: up to its root octet or its first pointer, which is not followed, so
+    /// what it leads to is not looked at. Labels past 255 octets are refused, and a refused call
+    /// leaves the parser where it was.
     pub fn skip(parser: &mut Parser<'_>) -> Result<(), ParseError>
         ensures ok { OnOk result (Skips parser.old parser.new) }
         ensures refused { OnErr result (NothingToSkip parser.old) }

@@ -8,7 +8,8 @@ ghost use Rattle.names_parsed.specs.Walking.{StepsTo};
 use names_wire::label::{Label, SplitLabelError};
 use names_wire::labels::label_at;
 
-/// The first label of a name, and the place behind it; for the root's label the place of that label.
+/// The first label of a name, and the place behind it; for the root's label the place of that
+/// label.
 pub(crate) fn label_from(message: &[u8], start: usize) -> (Label<'_>, usize)
     requires { stands_at message.now start ≡ true }
     ensures { StepsTo message.now start (octets_of result.0) result.1 }

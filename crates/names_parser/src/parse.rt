@@ -1,4 +1,5 @@
-//! Values that are read from a fixed number of octets (RFC 1035, 2.3.2: numbers with the highest octet first).
+//! Values that are read from a fixed number of octets (RFC 1035, 2.3.2: numbers with the highest
+//! octet first).
 
 ghost use Rattle.std.specs.Prelude.{◌≡◌, ℕ, List, [], ◌∷◌, slice_index};
 ghost use Rattle.std.specs.Int.{w8, w16, w32, w64, from_be_bytes, cast_signed};
@@ -17,7 +18,8 @@ pub trait Parse: Sized {
     /// The octets are those of the value.
     ghost spells: { List ℕ → Self → Type 0 };
 
-    /// Reads the next octets. The call is refused only where there are too few, and then it reads nothing.
+    /// Reads the next octets. The call is refused only where there are too few, and then it reads
+    /// nothing.
     fn parse(parser: &mut Parser<'_>) -> Result<Self, ParseError>
         ensures { Takes width spells parser.old parser.new result };
 }

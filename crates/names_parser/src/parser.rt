@@ -6,8 +6,8 @@ ghost use Rattle.names_parser.specs.Reader.{Takes, moved};
 use crate::error::ParseError;
 use std::marker::Model;
 
-/// The octets of a message, the place of the next one that is read, and where reading ends: at the message's end, or
-/// before it where only a part is read.
+/// The octets of a message, the place of the next one that is read, and where reading ends: at the
+/// message's end, or before it where only a part is read.
 #[derive(Debug, Drop)]
 pub struct Parser<'a> {
     octets: &'a [u8],
@@ -96,7 +96,8 @@ impl<'a> Parser<'a> {
         Ok(&octets[pos..pos + len])
     }
 
-    /// A parser of the next `len` octets alone, over the whole message. This parser goes behind them.
+    /// A parser of the next `len` octets alone, over the whole message. This parser goes behind
+    /// them.
     pub fn parse_parser(&mut self, len: usize) -> Result<Parser<'a>, ParseError>
         ensures { Takes len (λ _ p. p ≡ record self.old { end = self.old.place + len })
             self.old self.new result }

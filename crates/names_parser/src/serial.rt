@@ -19,8 +19,8 @@ use std::fmt;
 use std::num::ParseIntError;
 use std::str::FromStr;
 
-/// A serial number: 32 bits that go round. One is before another where the way up to it is less than 2^31
-/// (RFC 1982, 3).
+/// A serial number: 32 bits that go round. One is before another where the way up to it is less
+/// than 2^31 (RFC 1982, 3).
 #[derive(Clone, Copy, Debug, PartialEq, Eq, Hash)]
 pub struct Serial(pub u32);
 
@@ -41,7 +41,8 @@ impl Serial {
         self.0
     }
 
-    /// The number that is `other` further round the circle. `other` is at most 2^31 - 1 (RFC 1982, 3.1).
+    /// The number that is `other` further round the circle. `other` is at most 2^31 - 1 (RFC 1982,
+    /// 3.1).
     pub fn add(self, other: u32) -> Self
         requires { other ≤ 2147483647 }
         ensures { result.0 ≡ serial_add self.0 other }
@@ -49,7 +50,8 @@ impl Serial {
         Serial(self.0.wrapping_add(other))
     }
 
-    /// Whether this number equals the other or is less than half the circle before it (RFC 1982, 3.2).
+    /// Whether this number equals the other or is less than half the circle before it (RFC 1982,
+    /// 3.2).
     pub fn is_at_or_before(&self, other: &Self) -> bool
         ensures { result ≡ serial_le self.now.0 other.now.0 }
     {

@@ -37,8 +37,8 @@ pub trait ComposeRecordData: RecordData {
     /// Whether a target that compresses names may write fewer octets.
     ghost compressible: { Self → Bool };
 
-    /// How many octets the data take, where that is known before they are written. It is not known of data with names
-    /// that `compress` allows to be compressed.
+    /// How many octets the data take, where that is known before they are written. It is not known
+    /// of data with names that `compress` allows to be compressed.
     fn rdlen(&self, compress: bool) -> Option<u16>
         ensures unknown { IsNone result ↔ (IsTrue compress × IsTrue (compressible self.now)) }
         ensures len { IfSome result (λ n. n ≡ length (Self.rdata self.now)) };
@@ -51,7 +51,8 @@ pub trait ComposeRecordData: RecordData {
         ensures left { let n = length (Self.rdata self.now) in
             OnOk result (LeavesRoom B.lacks_room target.old target.new n) };
 
-    /// Appends the octets in canonical form (RFC 4034, 6.2). A refused call leaves the target as it was.
+    /// Appends the octets in canonical form (RFC 4034, 6.2). A refused call leaves the target as it
+    /// was.
     fn compose_canonical_rdata<B: Composer>(&self, target: &mut B) -> Result<(), ShortBuf>
         ensures ok { let octets = Self.canonical_rdata self.now in
             OnOk result (B.bytes target.new ≡ B.bytes target.old ++ octets) }
@@ -104,8 +105,8 @@ pub trait ComposeRecordData: RecordData {
     }
 }
 
-/// Data of some types, read in a message. The parser's end is that of the data; names in them are read in the whole
-/// message.
+/// Data of some types, read in a message. The parser's end is that of the data; names in them are
+/// read in the whole message.
 pub trait ParseRecordData<'a>: RecordData + Sized {
     /// Whether data of a type are read.
     ghost is_read: { ℕ → Bool };
@@ -113,8 +114,8 @@ pub trait ParseRecordData<'a>: RecordData + Sized {
     /// What is read of data of a type, or why nothing is.
     ghost reading: { ℕ → Reader → Result (List ℕ) ReadFault };
 
-    /// Reads the data up to the parser's end; `None` where they are of a type that isn't read. A refused call leaves
-    /// the parser where it was.
+    /// Reads the data up to the parser's end; `None` where they are of a type that isn't read. A
+    /// refused call leaves the parser where it was.
     fn parse_rdata(rtype: Rtype, parser: &mut Parser<'a>) -> Result<Option<Self>, ParseError>
         ensures read { let found = reading rtype parser.old in
             ReadsType (is_read rtype) found Self.rdata parser.old parser.new result }

@@ -1,10 +1,12 @@
-//! Laws of names and data that were written. Each is a function without a parameter, whose contract is the law.
+//! Laws of names and data that were written. Each is a function without a parameter, whose contract
+//! is the law.
 
 ghost use Rattle.std.specs.Prelude.{ℕ, List, ◌≤◌, length};
 ghost use Rattle.names_rdata.specs.Reading.{limited, rest_part};
 ghost use Rattle.names_rdata.specs.ReadBack.{NamesAreReadBack, IsReadBack};
 
-/// A name in wire form is read as that name wherever it stands in a message, and ends behind its octets.
+/// A name in wire form is read as that name wherever it stands in a message, and ends behind its
+/// octets.
 pub fn names_are_read_back()
     ensures { NamesAreReadBack }
 {}

@@ -1,5 +1,6 @@
-//! What record data have in common: record types, how data are read and written, their canonical order and longest
-//! length, octets that compare by what they are, and data of types that are not known.
+//! What record data have in common: record types, how data are read and written, their canonical
+//! order and longest length, octets that compare by what they are, and data of types that are not
+//! known.
 #![tactic(auto)]
 
 pub mod canonical;

@@ -5,7 +5,8 @@ ghost use Rattle.std.specs.Prelude.{◌≡◌};
 use names_wire::octets::Octets;
 use std::marker::Model;
 
-/// Octets that compare, order and hash by their values, whatever type holds them. A contract sees the octets.
+/// Octets that compare, order and hash by their values, whatever type holds them. A contract sees
+/// the octets.
 #[derive(Drop)]
 pub struct FieldOctets<Octs: Octets> {
     octets: Octs,

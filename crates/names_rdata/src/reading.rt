@@ -37,7 +37,8 @@ pub fn parse_rest<'a>(parser: &mut Parser<'a>) -> Result<&'a [u8], ParseError>
     parser.parse_octets(len)
 }
 
-/// The value that was read, where the data end behind it. Otherwise the parser goes back to where the data begin.
+/// The value that was read, where the data end behind it. Otherwise the parser goes back to where
+/// the data begin.
 pub fn closed<T: Drop>(
     parser: &mut Parser<'_>,
     start: usize,

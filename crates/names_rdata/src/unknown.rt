@@ -21,7 +21,8 @@ use std::cmp::Ordering;
 use std::fmt;
 use std::marker::Model;
 
-/// Record data of any type, kept as octets: at most 65,535. A contract sees the number of the type and the octets.
+/// Record data of any type, kept as octets: at most 65,535. A contract sees the number of the type
+/// and the octets.
 #[derive(Drop)]
 pub struct UnknownRecordData<Octs: Octets> {
     rtype: Rtype,
@@ -75,8 +76,8 @@ impl<Octs: Octets> UnknownRecordData<Octs> {
 }
 
 impl<'a> UnknownRecordData<&'a [u8]> {
-    /// Reads all octets up to the parser's end as data of the type. More than 65,535 are refused, and a refused call
-    /// leaves the parser where it was.
+    /// Reads all octets up to the parser's end as data of the type. More than 65,535 are refused,
+    /// and a refused call leaves the parser where it was.
     pub fn parse_any_rdata(rtype: Rtype, parser: &mut Parser<'a>) -> Result<Self, ParseError>
         ensures read { let found = data_at (limited rest_part) parser.old in
             ReadsData found (λ d. d.octets) parser.old parser.new result }
@@ -150,7 +151,8 @@ impl<Octs: Octets> CanonicalOrd for UnknownRecordData<Octs> {
     }
 }
 
-/// `\#`, the number of octets, and the octets in lower-case hexadecimal, if there are any (RFC 3597, 5).
+/// `\#`, the number of octets, and the octets in lower-case hexadecimal, if there are any (RFC
+/// 3597, 5).
 impl<Octs: Octets> fmt::Display for UnknownRecordData<Octs> {
     ghost output = { λ d. Some (opaque_text d.octets) };
 

@@ -67,7 +67,8 @@ impl<L: Relative, R: ChainEnd> Model for Chain<L, R> {
 }
 
 impl<L: Relative, R: ChainEnd> Chain<L, R> {
-    /// One name in front of another: at most 254 octets before the root's. Refused names are dropped.
+    /// One name in front of another: at most 254 octets before the root's. Refused names are
+    /// dropped.
     pub fn new(left: L, right: R) -> Result<Self, LongChainError>
     where
         L: Drop,

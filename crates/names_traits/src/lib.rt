@@ -1,5 +1,5 @@
-//! What any two names have in common, however they are kept: over octets of their own or in messages:
-//! comparing, copying, printing with the last dot; and names in chains.
+//! What any two names have in common, however they are kept: over octets of their own or in
+//! messages: comparing, copying, printing with the last dot; and names in chains.
 #![tactic(auto)]
 
 pub mod chain;

@@ -26,7 +26,8 @@ pub trait ToName: Absolute {
         labels_eq(self, other)
     }
 
-    /// Canonical order: labels from the root on, in lower case; an absent label comes first (RFC 4034, 6.1).
+    /// Canonical order: labels from the root on, in lower case; an absent label comes first (RFC
+    /// 4034, 6.1).
     fn name_cmp<N: Absolute>(&self, other: &N) -> Ordering
         ensures { result ≡ name_cmp (Self.name self.now) (N.name other.now) }
     {
@@ -58,8 +59,8 @@ pub trait ToName: Absolute {
         DisplayWithDot::new(self)
     }
 
-    /// The name copied to octets of its own, ASCII letters lowered (RFC 4034, 6.2). The call is refused only for lack
-    /// of memory.
+    /// The name copied to octets of its own, ASCII letters lowered (RFC 4034, 6.2). The call is
+    /// refused only for lack of memory.
     fn to_canonical_name(&self, alloc: Global) -> Result<Name<Vec<u8>>, ShortBuf>
         ensures { IfOk result (λ n. n ≡ low (Self.name self.now)) }
     {
@@ -93,8 +94,8 @@ pub trait ToName: Absolute {
         self.to_vec(alloc)
     }
 
-    /// The name over borrowed octets where its labels stand in a row, and otherwise over a copy. The call is refused
-    /// only for lack of memory.
+    /// The name over borrowed octets where its labels stand in a row, and otherwise over a copy.
+    /// The call is refused only for lack of memory.
     fn to_cow(&self, alloc: Global) -> Result<Name<CowSlice<'_, u8>>, ShortBuf>
         ensures { IfOk result (λ n. n ≡ Self.name self.now) }
     {

@@ -26,7 +26,8 @@ pub trait ToRelativeName: Relative {
         labels_eq(self, other)
     }
 
-    /// Canonical order: labels from the right, in lower case; an absent label comes first (RFC 4034, 6.1).
+    /// Canonical order: labels from the right, in lower case; an absent label comes first (RFC
+    /// 4034, 6.1).
     fn name_cmp<N: Relative>(&self, other: &N) -> Ordering
         ensures { result ≡ name_cmp (Self.labels self.now) (N.labels other.now) }
     {

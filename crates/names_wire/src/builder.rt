@@ -20,8 +20,8 @@ pub struct ShortBuf;
 pub trait OctetsBuilder {
     ghost bytes: { Self → List ℕ };
 
-    /// The builder has no room for this number of further octets: a fixed buffer is full, or a growing one needs more
-    /// memory.
+    /// The builder has no room for this number of further octets: a fixed buffer is full, or a
+    /// growing one needs more memory.
     ghost lacks_room: { Self → ℕ → Type 0 };
 
     /// The builder with its octets replaced by others of the same number.

@@ -122,10 +122,11 @@ impl<'a> Label<'a> {
         }
     }
 
-    /// The labels of octets from a place on, through pointers: up to the root's label, or to what is no label.
+    /// The labels of octets from a place on, through pointers: up to the root's label, or to what
+    /// is no label.
     ///
-    /// There are none where the place is not within the octets. At most 255 pointers are followed, each to a
-    /// place before its own (RFC 1035, 4.1.4).
+    /// There are none where the place is not within the octets. At most 255 pointers are followed,
+    /// each to a place before its own (RFC 1035, 4.1.4).
     pub fn iter_slice(slice: &'a [u8], start: usize) -> SliceLabelsIter<'a>
         ensures { result ≡ labels_along pointer_limit slice.now start }
     {
@@ -179,7 +180,8 @@ impl<'a> Label<'a> {
         }
     }
 
-    /// Compares the labels as they stand in a message, each behind its length octet, with ASCII letters lowered.
+    /// Compares the labels as they stand in a message, each behind its length octet, with ASCII
+    /// letters lowered.
     pub fn lowercase_composed_cmp(&self, other: &Label<'_>) -> Ordering
         ensures { let octets = wire_label (lowered self.now) in
             result ≡ slice_cmp nat_cmp octets (wire_label (lowered other.now)) }
@@ -202,8 +204,8 @@ impl<'a> Label<'a> {
         target.append_slice(OwnedLabel::from_label(*self).as_wire_slice())
     }
 
-    /// Appends the octets behind their number, ASCII letters lowered (RFC 4034, 6.2). A refused call leaves the target as it
-    /// was.
+    /// Appends the octets behind their number, ASCII letters lowered (RFC 4034, 6.2). A refused
+    /// call leaves the target as it was.
     pub fn compose_canonical<B: OctetsBuilder>(&self, target: &mut B) -> Result<(), ShortBuf>
         ensures ok { let more = wire_label (lowered self.now) in
             OnOk result (B.bytes target.new ≡ B.bytes target.old ++ more) }

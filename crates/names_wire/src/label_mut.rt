@@ -17,8 +17,8 @@ pub struct LabelMut<'a> {
 impl<'a> LabelMut<'a> {
     ghost use Rattle.names_wire.specs.Writable.{mut_octets, mut_name};
 
-    /// The label of at most 63 octets. What is written through it stands in the slice at the end, and a
-    /// caller's proof knows so.
+    /// The label of at most 63 octets. What is written through it stands in the slice at the end,
+    /// and a caller's proof knows so.
     pub fn new(slice: &'a mut [u8]) -> LabelMut<'a>
         requires { length slice.old ≤ 63 }
         ensures same_octets { mut_name result ≡ slice.entry.ghost_name }
@@ -27,8 +27,8 @@ impl<'a> LabelMut<'a> {
         LabelMut { octets: slice }
     }
 
-    /// The label of these octets. What is written through it is written in the slice, but no caller's proof
-    /// knows so (see `new`).
+    /// The label of these octets. What is written through it is written in the slice, but no
+    /// caller's proof knows so (see `new`).
     pub fn from_slice_mut(slice: &'a mut [u8]) -> Result<LabelMut<'a>, LongLabelError>
         ensures same_octets { IfOk result (λ label. mut_name label ≡ slice.entry.ghost_name) }
         ensures ok { IfOk result (λ label. mut_octets label ≡ slice.old) }
@@ -42,8 +42,8 @@ impl<'a> LabelMut<'a> {
 
     /// Splits the label in front, with its length octet, from what stands behind it.
     ///
-    /// A pointer is refused and not followed. What is written through either part is written in the slice, but no
-    /// caller's proof knows so (see `new`).
+    /// A pointer is refused and not followed. What is written through either part is written in the
+    /// slice, but no caller's proof knows so (see `new`).
     pub fn split_from_mut(
         slice: &'a mut [u8],
     ) -> Result<(LabelMut<'a>, &'a mut [u8]), SplitLabelError>

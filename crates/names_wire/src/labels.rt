@@ -13,7 +13,8 @@ use std::marker::Model;
 /// How many pointers are followed from one label to the next and on.
 const MAX_POINTERS: u8 = 255;
 
-/// The labels of octets from a place on, through pointers: up to the root's label, or to what is no label.
+/// The labels of octets from a place on, through pointers: up to the root's label, or to what is no
+/// label.
 ///
 /// At most 255 pointers are followed, each to a place before its own (RFC 1035, 4.1.4).
 #[derive(Drop)]

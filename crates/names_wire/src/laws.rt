@@ -21,8 +21,8 @@ pub fn spelled_symbols_are_read()
         → Spells text symbols → symbols_of text ≡ Some symbols }
 {}
 
-/// The labels of octets from a place on, through pointers, end with the root's label exactly where a name stands there,
-/// and are its labels (RFC 1035, 4.1.4).
+/// The labels of octets from a place on, through pointers, end with the root's label exactly where
+/// a name stands there, and are its labels (RFC 1035, 4.1.4).
 pub fn labels_along_are_names()
     ensures { AlongNames }
 {}

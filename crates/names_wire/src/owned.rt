@@ -65,10 +65,11 @@ impl OwnedLabel {
         OwnedLabel { wire }
     }
 
-    /// The label that the characters spell: 1 to 63 symbols without a dot that separates (RFC 1035, 5.1).
+    /// The label that the characters spell: 1 to 63 symbols without a dot that separates (RFC 1035,
+    /// 5.1).
     ///
-    /// Reading stops at the first character behind which no label can come. The digits of an escape are judged at the
-    /// last one.
+    /// Reading stops at the first character behind which no label can come. The digits of an escape
+    /// are judged at the last one.
     pub fn from_chars<C: Iterator<Item = char> + Drop>(
         chars: C,
     ) -> Result<OwnedLabel, LabelFromStrError>

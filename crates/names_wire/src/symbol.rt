@@ -10,10 +10,11 @@ use std::fmt;
 use std::marker::Model;
 use thiserror::Error;
 
-/// A symbol: a character, a character behind a backslash, or an octet as three digits behind a backslash.
+/// A symbol: a character, a character behind a backslash, or an octet as three digits behind a
+/// backslash.
 ///
-/// Any value can be made, but only the printable characters from a blank to a tilde are symbols: not a bare
-/// backslash, and no digit behind one.
+/// Any value can be made, but only the printable characters from a blank to a tilde are symbols:
+/// not a bare backslash, and no digit behind one.
 #[derive(Clone, Copy, Debug, PartialEq, Eq)]
 pub enum Symbol {
     Char(char),

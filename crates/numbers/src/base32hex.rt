@@ -1,4 +1,5 @@
-//! base32hex: unpadded and in lower case, eight digits for five octets (RFC 4648, 7; RFC 5155, 3.3).
+//! base32hex: unpadded and in lower case, eight digits for five octets (RFC 4648, 7; RFC 5155,
+//! 3.3).
 
 ghost use Rattle.std.specs.Prelude.{◌≡◌, ◌==◌, ◌<◌, ◌++◌, ◌∷◌, [], length, not, position, slice_index_or, take, IsTrue, OnOk, OnErr, IfOk, IfErr, MatchBool, MatchOption, ◌↔◌};
 ghost use Rattle.std.specs.Char.{to_ascii_lowercase};

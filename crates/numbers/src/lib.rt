@@ -1,5 +1,5 @@
-//! The numbers of the domain name system, with names of their own: record types, classes, times to live, algorithms;
-//! and octets as base32hex.
+//! The numbers of the domain name system, with names of their own: record types, classes, times to
+//! live, algorithms; and octets as base32hex.
 #![tactic(auto)]
 
 pub mod algorithm;

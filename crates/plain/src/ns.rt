@@ -21,7 +21,8 @@ use names_rdata::rtype::Rtype;
 use names_wire::builder::ShortBuf;
 use std::cmp::Ordering;
 
-/// NS data: the name of a server of the zone. NS data are equal, ordered and hashed as their names are.
+/// NS data: the name of a server of the zone. NS data are equal, ordered and hashed as their names
+/// are.
 #[derive(Clone, Copy, Debug, PartialEq, Eq, PartialOrd, Ord, Hash, Drop)]
 pub struct Ns<N> {
     nsdname: N,

@@ -15,8 +15,8 @@ use numbers::class::Class;
 use numbers::ttl::Ttl;
 use std::cmp::Ordering;
 
-/// A record: its owner, its class, its TTL, and its data, which determine the type. Records are equal, ordered and
-/// hashed by owner, class and data, whatever their TTL.
+/// A record: its owner, its class, its TTL, and its data, which determine the type. Records are
+/// equal, ordered and hashed by owner, class and data, whatever their TTL.
 #[derive(Clone, Copy, Debug, Drop)]
 #[derive_where(PartialEq, Eq, PartialOrd, Ord, Hash; N, D)]
 pub struct Record<N, D> {
@@ -92,8 +92,8 @@ impl<N: Absolute, D: ComposeRecordData> Record<N, D> {
         or_undone(target, len, done)
     }
 
-    /// Appends the record in canonical form, with the TTL that it has (RFC 4034, 6.2). A refused call leaves the target
-    /// as it was.
+    /// Appends the record in canonical form, with the TTL that it has (RFC 4034, 6.2). A refused
+    /// call leaves the target as it was.
     pub fn compose_canonical<B: Composer>(&self, target: &mut B) -> Result<(), ShortBuf>
         ensures ok { let octets = record_canonical N.name D.type_of D.canonical_rdata self.now in
             OnOk result (B.bytes target.new ≡ B.bytes target.old ++ octets) }

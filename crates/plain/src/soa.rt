@@ -76,8 +76,9 @@ pub struct Soa<N> {
 }
 
 impl<N> Soa<N> {
-    /// The primary name server, the mailbox of the person responsible (as a name), the serial number, the refresh,
-    /// retry and expire intervals, and the TTL of negative answers (RFC 2308, 4).
+    /// The primary name server, the mailbox of the person responsible (as a name), the serial
+    /// number, the refresh, retry and expire intervals, and the TTL of negative answers (RFC 2308,
+    /// 4).
     pub fn new(
         mname: N,
         rname: N,

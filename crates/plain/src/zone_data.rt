@@ -20,14 +20,15 @@ use names_rdata::unknown::UnknownRecordData;
 use names_wire::builder::ShortBuf;
 use names_wire::octets::Octets;
 
-/// Data of a zone's record. Data of one variant are equal, ordered and hashed as that variant's are. SOA data come
-/// first, then NS data, then others by their type.
+/// Data of a zone's record. Data of one variant are equal, ordered and hashed as that variant's
+/// are. SOA data come first, then NS data, then others by their type.
 #[derive(Drop)]
 #[derive_where(PartialEq, Eq, PartialOrd, Ord, Hash; N)]
 pub enum ZoneRecordData<Octs: Octets, N> {
     Soa(Soa<N>),
     Ns(Ns<N>),
-    /// Data of any type, as octets. Data that are read of SOA and NS records never have this variant.
+    /// Data of any type, as octets. Data that are read of SOA and NS records never have this
+    /// variant.
     Unknown(UnknownRecordData<Octs>),
 }
 

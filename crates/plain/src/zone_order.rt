@@ -1,5 +1,5 @@
-//! The canonical order of the data of a zone's records (RFC 4034, 6.3): the order of their octets in canonical form,
-//! which are not written out for it.
+//! The canonical order of the data of a zone's records (RFC 4034, 6.3): the order of their octets
+//! in canonical form, which are not written out for it.
 
 ghost use Rattle.std.specs.Prelude.{◌≡◌};
 ghost use Rattle.std.specs.Ordering.{nat_cmp};
@@ -20,8 +20,8 @@ use names_wire::octets::Octets;
 use names_wire::owned::OwnedLabel;
 use std::cmp::Ordering;
 
-/// The octets behind a name in canonical form, where the octets begin with that name. Otherwise the order of the name
-/// and the octets, whatever stands behind the name.
+/// The octets behind a name in canonical form, where the octets begin with that name. Otherwise the
+/// order of the name and the octets, whatever stands behind the name.
 fn strip_canonical_name<'a, N: Absolute>(name: &N, octets: &'a [u8]) -> Result<&'a [u8], Ordering>
     ensures { Strips (wire (low (N.name name.now))) octets.now (λ rest. rest.now) result }
 {

@@ -4,11 +4,14 @@
 //! Names are labels between dots, octets hexadecimal digits, numbers decimal, `-` is none of them:
 //!
 //! - `zone NAME`: begins a zone; `rr OWNER TYPE OCTETS`: a record of it; `made`: makes it.
-//! - `says NAME TYPE`, `says-opt-out NAME TYPE`: the verdict of the zone, without and with opt-out; `exists NAME`.
-//! - `nsec keys NAME`, `nsec none NAME`, and so `nsec3`: the types of the owner's record, where keys are assumed or not.
-//! - `order NAME NAME`: how a name stands to another; `covers APEX OWNER NEXT NAME`, `hash-covers OWNER NEXT HASH`: whether a
-//!   link covers what is last.
-//! - `name OCTETS PLACE POINTERS`: the place behind the name at a place, read with so many pointers at most, and its labels.
+//! - `says NAME TYPE`, `says-opt-out NAME TYPE`: the verdict of the zone, without and with opt-out;
+//!   `exists NAME`.
+//! - `nsec keys NAME`, `nsec none NAME`, and so `nsec3`: the types of the owner's record, where
+//!   keys are assumed or not.
+//! - `order NAME NAME`: how a name stands to another; `covers APEX OWNER NEXT NAME`, `hash-covers
+//!   OWNER NEXT HASH`: whether a link covers what is last.
+//! - `name OCTETS PLACE POINTERS`: the place behind the name at a place, read with so many pointers
+//!   at most, and its labels.
 //! - `bitmap TYPES`: the bitmap of types; `types OCTETS`: the types below 2000 of a bitmap.
 //!
 //! Each line is printed, and the answer behind it. Lines that begin with `#` and empty ones are

@@ -1,16 +1,18 @@
-//! Reads lines of refused answers, and prints the extended error of each refusal (RFC 8914), so that it is compared with what the
-//! RFC says of messages that another program made.
+//! Reads lines of refused answers, and prints the extended error of each refusal (RFC 8914), so
+//! that it is compared with what the RFC says of messages that another program made.
 //!
-//! Names are texts, octets hexadecimal digits, moments seconds since 1970. A signature is a copy of the octets that it is made
-//! over, a digest of type 2 the octet 7; digests of other types are not made. Names are hashed by SHA-1.
+//! Names are texts, octets hexadecimal digits, moments seconds since 1970. A signature is a copy of
+//! the octets that it is made over, a digest of type 2 the octet 7; digests of other types are not
+//! made. Names are hashed by SHA-1.
 //!
-//! - `zone APEX`: begins a zone; `ds LIST`: its DS set, each record a tag and a type of digest, as `1054:2`; `keys OCTETS`: its
-//!   DNSKEY answer.
+//! - `zone APEX`: begins a zone; `ds LIST`: its DS set, each record a tag and a type of digest, as
+//!   `1054:2`; `keys OCTETS`: its DNSKEY answer.
 //! - `answer OCTETS`: holds an answer.
-//! - `error NAME TYPE MOMENT LIMIT`: judges the answer that is held, with a limit of iterations, and says why it is refused, and
-//!   how many signatures are verified to find that out.
+//! - `error NAME TYPE MOMENT LIMIT`: judges the answer that is held, with a limit of iterations,
+//!   and says why it is refused, and how many signatures are verified to find that out.
 //!
-//! Each line is printed without octets of messages, or not at all where it has nothing else, and behind it what is said.
+//! Each line is printed without octets of messages, or not at all where it has nothing else, and
+//! behind it what is said.
 #![tactic(auto)]
 
 mod case;

@@ -23,8 +23,8 @@ impl Between {
     }
 }
 
-/// Words, something between two. Once memory is lacking for one of them, or something doesn't hold that has to, there is
-/// no answer, whatever is added.
+/// Words, something between two. Once memory is lacking for one of them, or something doesn't hold
+/// that has to, there is no answer, whatever is added.
 #[derive(Drop)]
 pub struct Answer {
     alloc: Global,

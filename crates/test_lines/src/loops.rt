@@ -31,7 +31,8 @@ pub fn answer_each_line<F: Fn(Global, &mut Answer, &str) -> Option<()>>(
     Ok(())
 }
 
-/// Prints each line of the input, and its answer behind it on a line of its own; an empty one or a comment alone.
+/// Prints each line of the input, and its answer behind it on a line of its own; an empty one or a
+/// comment alone.
 pub fn reply_to_each_line<F: FnMut(Global, &str) -> Option<String>>(
     rt: &(impl Input + Print),
     alloc: Global,

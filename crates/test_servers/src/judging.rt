@@ -9,7 +9,8 @@ use test_lines::{first_word, text};
 /// The class IN (RFC 1035, 3.2.4).
 pub const IN: u16 = 1;
 
-/// The size of the buffer that is handed in at first; a larger one is handed in where it is too small.
+/// The size of the buffer that is handed in at first; a larger one is handed in where it is too
+/// small.
 const ROOM: usize = 64;
 
 /// A reply that asks for nothing more.
@@ -20,7 +21,8 @@ struct LastReply {
     report: Report,
 }
 
-/// The reply to a case, once each signature that was asked for was looked up; `checked` of the case is not looked at.
+/// The reply to a case, once each signature that was asked for was looked up; `checked` of the case
+/// is not looked at.
 fn last_reply(alloc: Global, signatures: &Signatures, case: &OctetCase) -> Option<LastReply> {
     let mut checked = Vec::new(alloc);
     let mut out = Vec::from_elem(alloc, 0, ROOM).ok()?;
@@ -95,8 +97,8 @@ fn put_all_answered(checked: &mut Vec<u8>, signatures: &Signatures, entries: &[u
     Some(())
 }
 
-/// How many octets the first entry has: key and signature behind their lengths in two octets, what is signed behind its length
-/// in four, and one.
+/// How many octets the first entry has: key and signature behind their lengths in two octets, what
+/// is signed behind its length in four, and one.
 fn entry_len(entries: &[u8]) -> Option<usize> {
     let (len, rest) = entries.split_first_chunk::<2>()?;
     let rest = rest.get(usize::from(u16::from_be_bytes(*len))..)?;
@@ -121,7 +123,8 @@ pub struct Outcome {
     pub text: String,
 }
 
-/// What the judge says, beside what the zone says, how often was verified and hashed, and the extended error, if any.
+/// What the judge says, beside what the zone says, how often was verified and hashed, and the
+/// extended error, if any.
 pub fn outcome_of(
     alloc: Global,
     signatures: &Signatures,

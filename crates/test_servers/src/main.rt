@@ -1,25 +1,30 @@
-//! Reads lines of what name servers answered, and prints what the judge says of each answer, so that it is compared with what
-//! the rules say of it by a program in another language, and with what the zone says.
+//! Reads lines of what name servers answered, and prints what the judge says of each answer, so
+//! that it is compared with what the rules say of it by a program in another language, and with
+//! what the zone says.
 //!
-//! Names are texts, octets hexadecimal digits, numbers decimal, lists joined by commas, moments seconds since 1970. A signature
-//! that the judge asks for passes where it is in the table that the first lines make. All is judged from octets to octets, as
-//! callers in other languages do.
+//! Names are texts, octets hexadecimal digits, numbers decimal, lists joined by commas, moments
+//! seconds since 1970. A signature that the judge asks for passes where it is in the table that the
+//! first lines make. All is judged from octets to octets, as callers in other languages do.
 //!
-//! - `key FLAGS PROTOCOL ALGORITHM OCTETS`: a key; `passes SIGNATURE OCTETS`: a signature of these octets that passes under it.
-//! - `zone APEX LIMIT MOMENT`: begins a zone, whose answers are judged at that moment with that limit of iterations; `ds LIST`: its
-//!   DS set, each record a tag, an algorithm, a type of digest and a digest, as `1054:13:2:07`; `keys OCTETS`: its DNSKEY answer.
-//! - `ask NAME TYPE VERDICT`, `ask NAME TYPE VERDICT DATA,..`: a question, and what the zone says of it.
+//! - `key FLAGS PROTOCOL ALGORITHM OCTETS`: a key; `passes SIGNATURE OCTETS`: a signature of these
+//!   octets that passes under it.
+//! - `zone APEX LIMIT MOMENT`: begins a zone, whose answers are judged at that moment with that
+//!   limit of iterations; `ds LIST`: its DS set, each record a tag, an algorithm, a type of digest
+//!   and a digest, as `1054:13:2:07`; `keys OCTETS`: its DNSKEY answer.
+//! - `ask NAME TYPE VERDICT`, `ask NAME TYPE VERDICT DATA,..`: a question, and what the zone says
+//!   of it.
 //! - `message OCTETS`: holds an answer; `answer OCTETS`: holds it, and judges it.
-//! - The answer that is held is judged altered by `altered KIND OCTETS` (other octets in its place), `cut COUNT` (without so many
-//!   octets at its end), `at MOMENT` (at another moment) and `beside LIST` (beside another DS set, `-` for none). As it is it is
-//!   judged `with one-moment`, all its signatures of one inception and expiration; `with as-received`, as its octets stand; `with
-//!   other-question`, where it may answer another question; `with algorithms LIST`, DS records of others left out; and `with
-//!   max-signatures COUNT`.
+//! - The answer that is held is judged altered by `altered KIND OCTETS` (other octets in its
+//!   place), `cut COUNT` (without so many octets at its end), `at MOMENT` (at another moment) and
+//!   `beside LIST` (beside another DS set, `-` for none). As it is it is judged `with one-moment`,
+//!   all its signatures of one inception and expiration; `with as-received`, as its octets stand;
+//!   `with other-question`, where it may answer another question; `with algorithms LIST`, DS
+//!   records of others left out; and `with max-signatures COUNT`.
 //! - `find`: what is found of the answer that is held, beyond the judge's verdict.
 //! - `tally`: how many were judged, and what was said.
 //!
-//! Each line is printed without octets of messages, keys and signatures, or not at all where it has nothing else, and behind
-//! it what is said.
+//! Each line is printed without octets of messages, keys and signatures, or not at all where it has
+//! nothing else, and behind it what is said.
 #![tactic(auto)]
 
 mod desk;

@@ -5,7 +5,8 @@ use std::alloc::Global;
 use std::collections::HashSet;
 use test_lines::octets_of;
 
-/// Signatures that pass, each as the entry that asks for it, and the key whose signatures are handed in.
+/// Signatures that pass, each as the entry that asks for it, and the key whose signatures are
+/// handed in.
 #[derive(Drop)]
 pub struct Signatures {
     signer: Vec<u8>,

@@ -1,5 +1,6 @@
-//! The library for C and for all that calls C: a judgement from octets to octets, and what its replies say in words.
-//! `include/zermuita.h` declares it, and has the calls over it that C programs make.
+//! The library for C and for all that calls C: a judgement from octets to octets, and what its
+//! replies say in words. `include/zermuita.h` declares it, and has the calls over it that C
+//! programs make.
 #![tactic(auto)]
 
 mod texts;
@@ -12,7 +13,8 @@ use answer_judge_octets::{OctetCase, ReplyCode, Report, judge_octets};
 use std::alloc::Global;
 use texts::text_of;
 
-/// The version of the library: major, minor and patch, as the header and docs/use/CHANGES.md have them.
+/// The version of the library: major, minor and patch, as the header and docs/use/CHANGES.md have
+/// them.
 const VERSION: [u32; 3] = [0, 2, 0];
 
 /// Octets that stand as long as the program runs.
@@ -22,7 +24,8 @@ pub struct Text {
     pub octets: &'static [u8],
 }
 
-/// Judges as [`judge_octets`] does, and gives the number of its code. It takes memory by the caller's `malloc`, and keeps none.
+/// Judges as [`judge_octets`] does, and gives the number of its code. It takes memory by the
+/// caller's `malloc`, and keeps none.
 #[unsafe(no_mangle)]
 pub extern "C" fn zermuita_judge_case(
     alloc: Global,
@@ -57,7 +60,8 @@ pub extern "C" fn zermuita_is_refusal(reply: u32) -> u32
     }
 }
 
-/// Writes where the text of a reply stands: its name in C and a sentence, and behind them an octet 0.
+/// Writes where the text of a reply stands: its name in C and a sentence, and behind them an octet
+/// 0.
 #[unsafe(no_mangle)]
 pub extern "C" fn zermuita_reply_text(reply: u32, text: &mut Text)
     ensures { IsTextOf reply text.new.octets.now }

@@ -11,8 +11,8 @@ use crate::reference::zone::{PlainRecord, PlainZone};
 use crate::reference::{DNSKEY, DS, NS, NSEC, NSEC3PARAM, Octets, RRSIG};
 use std::alloc::{AllocError, Global};
 
-/// The window at the front, its number and its octets, and what is behind it; None where there is none of 1 to 32
-/// octets.
+/// The window at the front, its number and its octets, and what is behind it; None where there is
+/// none of 1 to 32 octets.
 fn split_window(octets: &[u8]) -> Option<(u8, &[u8], &[u8])>
     ensures value { option_map (λ w. split w.0 w.1.now w.2.now) result ≡ first_window octets.now }
     ensures shorter { IfSome result (λ w. length w.2.now < length octets.now) }
@@ -64,7 +64,8 @@ fn bit_in(window: &[u8], rtype: u16) -> bool
 }
 
 impl PlainZone {
-    /// The types of an owner's NSEC record, with or without DNSKEY at the apex (RFC 4034, 4.1.2; RFC 4035, 2.3).
+    /// The types of an owner's NSEC record, with or without DNSKEY at the apex (RFC 4034, 4.1.2;
+    /// RFC 4035, 2.3).
     pub fn nsec_types(
         &self,
         alloc: Global,
@@ -137,7 +138,8 @@ fn types_among(
     Ok(types)
 }
 
-/// The octets of a set of types, the windows ascending and without zeros at their ends (RFC 4034, 4.1.2).
+/// The octets of a set of types, the windows ascending and without zeros at their ends (RFC 4034,
+/// 4.1.2).
 #[tactic(auto, unfolding(crate::specs::Bitmap::window_count))]
 pub fn bitmap(alloc: Global, types: &[u16]) -> Result<Vec<u8>, AllocError>
     ensures { IfOk result (λ v. v.items ≡ bitmap types.now) }

@@ -125,8 +125,8 @@ fn octets_before(a: &[u8], b: &[u8]) -> bool
     a.cmp(b).is_lt()
 }
 
-/// Whether an NSEC3 record of a hash and a next hash covers a hash: what lies between them on a circle (RFC 5155, 3
-/// and 8.3).
+/// Whether an NSEC3 record of a hash and a next hash covers a hash: what lies between them on a
+/// circle (RFC 5155, 3 and 8.3).
 pub fn hash_covers(owner: &[u8], next: &[u8], hash: &[u8]) -> bool
     ensures { result ≡ hash_covers owner.now next.now hash.now }
 {

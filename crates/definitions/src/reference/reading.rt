@@ -46,7 +46,8 @@ enum RunEnd {
     To(usize),
 }
 
-/// Labels up to a root octet or a pointer, the place behind it, and the octets of room that are left.
+/// Labels up to a root octet or a pointer, the place behind it, and the octets of room that are
+/// left.
 #[derive(Debug, Drop)]
 struct LabelRun {
     labels: Vec<Octets>,
@@ -55,7 +56,8 @@ struct LabelRun {
     room: usize,
 }
 
-/// The name at a place of a message, and the place behind it. At most `pointers` pointers are followed.
+/// The name at a place of a message, and the place behind it. At most `pointers` pointers are
+/// followed.
 pub fn name_at(
     alloc: Global,
     message: &[u8],

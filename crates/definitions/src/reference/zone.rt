@@ -172,7 +172,8 @@ impl PlainZone {
         at_or_above(self.apex(), name) && self.cut_above(name).is_none()
     }
 
-    /// Whether a name is live; where they are excluded, a delegation without DS is left out (RFC 5155, 6).
+    /// Whether a name is live; where they are excluded, a delegation without DS is left out (RFC
+    /// 5155, 6).
     fn is_kept(&self, excluding: bool, name: &[Octets]) -> bool
         ensures { result ≡ is_kept self.now excluding name.now }
     {

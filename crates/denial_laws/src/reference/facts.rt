@@ -19,7 +19,8 @@ pub trait NameHash {
         ensures { IfOk result (λ h. h ≡ hash_of self.now (low name.now)) };
 }
 
-/// The RRset of the question: its data, ascending, and the label count of the signature that verified it.
+/// The RRset of the question: its data, ascending, and the label count of the signature that
+/// verified it.
 #[derive(Debug, Drop)]
 pub struct PlainRrset {
     datas: Vec<Octets>,

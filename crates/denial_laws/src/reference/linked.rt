@@ -37,7 +37,8 @@ fn lacks(bits: &[u8], rtype: u16) -> bool
     !bitmap_has(bits, rtype) && !bitmap_has(bits, CNAME)
 }
 
-/// Whether a wildcard's record proves that a type is missing there: a delegation's of DS alone, since the rest is the child's.
+/// Whether a wildcard's record proves that a type is missing there: a delegation's of DS alone,
+/// since the rest is the child's.
 pub(super) fn star_lacks(bits: &[u8], rtype: u16) -> bool
     ensures { result ≡ star_lacks bits.now rtype }
 {
@@ -174,7 +175,8 @@ impl PlainLink {
         }
     }
 
-    /// Whether the record covers the name, and the closest encloser that it shows has so many labels.
+    /// Whether the record covers the name, and the closest encloser that it shows has so many
+    /// labels.
     fn encloses(&self, apex: &[Octets], name: &[Octets], labels: u8) -> bool
         ensures { result ≡ (link_covers apex.now self.now name.now
             && not (strictly_above name.now self.now.next)
