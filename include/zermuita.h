@@ -28,9 +28,19 @@ extern "C" {
 /* What a call answers. The comment behind each is what zermuita_strerror says of it. */
 enum zermuita_reply {
     /*
-     * Verdicts: secure, but for the last two. With ZERMUITA_RECORDS and ZERMUITA_WILDCARD the library writes the records' data. A
-     * verdict vouches for the RRset that was asked for and for NSEC and NSEC3 records alone: no SOA record beside a denial and no
-     * NS set of a referral is verified.
+     * Verdicts: secure, but for ZERMUITA_OPTOUT and ZERMUITA_INSECURE. What is written:
+     *
+     *   ZERMUITA_RECORDS, ZERMUITA_WILDCARD      the records' data (zermuita_next_record)
+     *   ZERMUITA_ALIAS, ZERMUITA_WILDCARD_ALIAS  the target, a name in wire form (zermuita_next_name)
+     *   ZERMUITA_DNAME                           the DNAME's owner, and the name that the question's becomes; the owner alone where
+     *                                            that name would have more than 255 octets: YXDOMAIN (RFC 6672, 2.2)
+     *   ZERMUITA_REFERRAL                        the cut's name, and behind it its DS set, in the form of `ds`
+     *   ZERMUITA_DELEGATED                       the name of the topmost delegation, where the answer proves which; else nothing
+     *   others                                   nothing
+     *
+     * A verdict vouches for the RRset that was asked for, for that of an alias or a DNAME, for the DS set of a referral and for NSEC
+     * and NSEC3 records alone: no SOA record beside a denial and no NS set of a referral is verified, nor the CNAME that servers
+     * make of a DNAME. Of an alias nothing is said but where it leads: ask for the target next.
      */
     ZERMUITA_RECORDS = 0,         /* the name has records of the type */
     ZERMUITA_NODATA = 1,          /* the name has no records of the type */
@@ -40,8 +50,12 @@ enum zermuita_reply {
     ZERMUITA_DELEGATED = 5,       /* the name is at or below a delegation */
     ZERMUITA_OPTOUT = 6,          /* an opt-out chain leaves open what is there */
     ZERMUITA_INSECURE = 7,        /* no DS record can be checked, so nothing vouches for the zone's keys */
+    ZERMUITA_ALIAS = 8,           /* the name has a CNAME record */
+    ZERMUITA_WILDCARD_ALIAS = 9,  /* a wildcard stands for the name and has a CNAME record */
+    ZERMUITA_DNAME = 10,          /* a name above has a DNAME record */
+    ZERMUITA_REFERRAL = 11,       /* the name is at or below a delegation with DS records */
 
-    /* Refusals: why there is no verdict. An alias that is not proved, and all that is reached through it, is bogus. */
+    /* Refusals: why there is no verdict. `ede` says whether the answer is bogus, and how. */
     ZERMUITA_QUESTION_NOT_ALLOWED = 16,   /* the name is not in the zone, the class is not IN, or the type is not judged */
     ZERMUITA_BAD_DNSKEY_MESSAGE = 17,     /* the DNSKEY answer is not a message */
     ZERMUITA_BAD_ANSWER_MESSAGE = 18,     /* the answer is not a message */
@@ -103,9 +117,20 @@ struct zermuita_case {
     uint32_t no_ds;                    /* 1: the parent proved that there is no DS record; 0: `ds` has some */
 };
 
+/* Whether a name that has no DS record is a delegation. */
+enum zermuita_delegates {
+    ZERMUITA_DELEGATES_UNKNOWN = 0, /* nothing is said of it */
+    ZERMUITA_DELEGATES_YES = 1,     /* the name is a delegation, to a zone that is not signed */
+    ZERMUITA_DELEGATES_NO = 2       /* the name is none: the zone itself answers for it */
+};
+
 /*
  * What is said beside a reply. A verdict may be kept for `ttl` seconds, and not beyond the second `until`; both are 0 with
- * ZERMUITA_INSECURE, which no record says, and without a verdict.
+ * ZERMUITA_INSECURE, which no record says, and without a verdict. Where a verdict rests on two judgements of the answer, as the
+ * cut of ZERMUITA_DELEGATED and `delegates` do, they are the least of both.
+ *
+ * `ede` is 1 or 2 with ZERMUITA_INSECURE where there are DS records (RFC 8914, 4.2 and 4.3); with a refusal it says why (7: a
+ * signature expired, 10: there is none, 12: a denial is missing, ..), and 0 where the answer is not bogus or nothing is known.
  */
 struct zermuita_report {
     size_t size;            /* sizeof(struct zermuita_report), set before the call */
@@ -115,6 +140,7 @@ struct zermuita_report {
     uint64_t hashes;        /* with a verdict or a refusal: how many names were hashed */
     uint32_t ttl;           /* for how many seconds the verdict may be kept (RFC 4035, 5.3.3) */
     uint16_t ede;           /* the code of an extended error (RFC 8914); 0: none, since code 0 says nothing and is never meant */
+    uint16_t delegates;     /* with ZERMUITA_NODATA for DS: a number of enum zermuita_delegates; else 0 */
 };
 
 /* The library's own functions. They take no null pointer: call zermuita_judge and zermuita_strerror below in their place. */
@@ -214,10 +240,32 @@ static inline int zermuita_next_part(struct zermuita_octets *rest, size_t width,
 
 /*
  * Takes the data of one record off the front of `rest`, which begins as the octets of a reply that is ZERMUITA_RECORDS or
- * ZERMUITA_WILDCARD. Gives 0 where there are no more. Records come in canonical order.
+ * ZERMUITA_WILDCARD, or behind the name of a ZERMUITA_REFERRAL. Gives 0 where there are no more. Records come in canonical order.
  */
 static inline int zermuita_next_record(struct zermuita_octets *rest, struct zermuita_octets *rdata) {
     return zermuita_next_part(rest, 2, rdata);
+}
+
+/*
+ * Takes a name in wire form, without pointers, off the front of `rest`: labels of up to 63 octets behind their lengths, the root
+ * label last, 255 octets in all (RFC 1035, 3.1). Gives 0 where there is none.
+ */
+static inline int zermuita_next_name(struct zermuita_octets *rest, struct zermuita_octets *name) {
+    size_t len = 0;
+    while (len < rest->len && rest->data[len] != 0) {
+        if (rest->data[len] > 63) {
+            return 0;
+        }
+        len += 1 + (size_t)rest->data[len];
+    }
+    if (len >= rest->len || len >= 255) {
+        return 0;
+    }
+    name->data = rest->data;
+    name->len = len + 1;
+    rest->data += len + 1;
+    rest->len -= len + 1;
+    return 1;
 }
 
 /* A signature that is to be checked. Its octets are those of the reply, and valid until `out` is written or freed. */
