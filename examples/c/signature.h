@@ -114,4 +114,12 @@ static bool signature_passes(const struct zermuita_ask *ask) {
     }
 }
 
+/* Answers all signatures that a reply asks for. */
+static inline void answer_all(uint8_t *asks, size_t len) {
+    struct zermuita_ask ask;
+    while (zermuita_next_ask(&asks, &len, &ask)) {
+        zermuita_answer(&ask, signature_passes(&ask));
+    }
+}
+
 #endif

@@ -6,6 +6,7 @@
  */
 #include "signature.h"
 
+#include <ctype.h>
 #include <inttypes.h>
 #include <stdio.h>
 #include <stdlib.h>
@@ -37,6 +38,42 @@ static struct zermuita_octets name_of_text(const char *text, uint8_t name[256]) 
     }
     name[len] = 0;
     return (struct zermuita_octets){name, *text == 0 || strcmp(text, ".") == 0 ? len + 1 : 0};
+}
+
+/* What the names are that stand in front of a reply's octets. */
+static const char *const names_of[][2] = {
+    [ZERMUITA_DELEGATED] = {"cut", NULL},
+    [ZERMUITA_ALIAS] = {"target", NULL},
+    [ZERMUITA_WILDCARD_ALIAS] = {"target", NULL},
+    [ZERMUITA_DNAME] = {"owner", "target"},
+    [ZERMUITA_REFERRAL] = {"cut", NULL},
+};
+
+/* Prints a name, all but letters, digits, hyphens and underscores escaped (RFC 1035, 5.1). */
+static void print_name(const char *what, struct zermuita_octets name) {
+    printf("%s ", what);
+    for (struct zermuita_octets rest = name, label; zermuita_next_part(&rest, 1, &label) && label.len > 0; putchar('.')) {
+        for (size_t i = 0; i < label.len; i++) {
+            uint8_t octet = label.data[i];
+            printf((octet < 128 && isalnum(octet)) || octet == '-' || octet == '_' ? "%c" : "\\%03u", octet);
+        }
+    }
+    puts(name.len == 1 ? "." : "");
+}
+
+/* Prints the names and the data that a verdict has written. */
+static void print_octets(enum zermuita_reply reply, struct zermuita_octets rest) {
+    struct zermuita_octets part;
+    for (size_t i = 0; i < 2 && reply < sizeof names_of / sizeof *names_of && names_of[reply][i] != NULL; i++) {
+        if (zermuita_next_name(&rest, &part)) {
+            print_name(names_of[reply][i], part);
+        }
+    }
+    while (zermuita_next_record(&rest, &part)) {
+        for (size_t i = 0; i < part.len; i++) {
+            printf("%02x%s", part.data[i], i + 1 < part.len ? "" : "\n");
+        }
+    }
 }
 
 int main(int argc, char **argv) {
@@ -76,11 +113,11 @@ int main(int argc, char **argv) {
     if (report.ede > 0) {
         printf("EDE %u\n", (unsigned)report.ede);
     }
-    struct zermuita_octets rest = {out, report.len}, rdata;
-    while ((reply == ZERMUITA_RECORDS || reply == ZERMUITA_WILDCARD) && zermuita_next_record(&rest, &rdata)) {
-        for (size_t i = 0; i < rdata.len; i++) {
-            printf("%02x%s", rdata.data[i], i + 1 < rdata.len ? "" : "\n");
-        }
+    if (report.delegates > 0) {
+        puts(report.delegates == ZERMUITA_DELEGATES_YES ? "a delegation" : "no delegation");
+    }
+    if (zermuita_is_verdict(reply)) {
+        print_octets(reply, (struct zermuita_octets){out, report.len});
     }
     return zermuita_is_verdict(reply) ? 0 : zermuita_is_refusal(reply) ? 1 : 2;
 }
