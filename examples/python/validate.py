@@ -64,6 +64,23 @@ def extended_error(ede: int) -> list[str]:
     return [f"EDE {ede}"] if ede else []
 
 
+def text(name: bytes) -> str:
+    """A name, all but letters, digits, hyphens and underscores escaped (RFC 1035, 5.1)."""
+    labels = []
+    while name[0]:
+        label, name = name[1 : 1 + name[0]], name[1 + name[0] :]
+        labels.append("".join(chr(it) if it < 128 and (chr(it).isalnum() or it in b"-_") else f"\\{it:03}" for it in label) + ".")
+    return "".join(labels) or "."
+
+
+def details(judgement: zermuita.Judgement) -> list[str]:
+    """What a verdict says besides: whether there is a delegation, names, data."""
+    said = [] if judgement.delegates is None else ["a delegation" if judgement.delegates else "no delegation"]
+    names = {"owner": judgement.owner, "cut": judgement.cut, "target": judgement.target}
+    said += [f"{what} {text(name)}" for what, name in names.items() if name is not None]
+    return said + [data.hex() for data in judgement.records + judgement.ds]
+
+
 def wire(name: str) -> bytes:
     return b"".join(zermuita.behind_length(label.encode(), 1) for label in name.split(".") if label) + b"\0"
 
@@ -84,9 +101,8 @@ def main(apex: str, ds: str, dnskey: str, name: str, rtype: str, answer: str, mo
     except zermuita.Refused as refused:
         print(refused, *extended_error(refused.ede), sep="\n")
         return 1
-    print(library.strerror(judgement.verdict), *lasting(judgement), *extended_error(judgement.ede), sep="\n")
-    for record in judgement.records:
-        print(record.hex())
+    lines = *lasting(judgement), *extended_error(judgement.ede), *details(judgement)
+    print(library.strerror(judgement.verdict), *lines, sep="\n")
     return 0
 
 

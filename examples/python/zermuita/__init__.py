@@ -4,9 +4,9 @@
     judgement = library.judge(zermuita.Case(apex, ds, dnskey, answer, name, rtype=1), passes)
 
 `passes` is asked of each signature that is to be checked: a function of an `Ask` that says whether it passes, by a library of the
-caller's. A judgement has a verdict, how long it lasts and, of records, their data. Where the messages prove none, `Refused` is
-raised; a case that can't be read raises `ValueError`, and `MemoryError` is raised where memory ran out. Calls may be made in any
-number of threads at once.
+caller's. A judgement has a verdict, how long it lasts and what it says besides: records, where an alias leads, a cut with its DS set.
+Where the messages prove none, `Refused` is raised; a case that can't be read raises `ValueError`, and `MemoryError` is raised where
+memory ran out. Calls may be made in any number of threads at once.
 """
 
 from __future__ import annotations
@@ -16,12 +16,15 @@ import dataclasses
 import enum
 import time
 from collections.abc import Callable, Iterator, Sequence
+from typing import Any
 
 __all__ = ["SONAME", "Ask", "Case", "Judgement", "Library", "Refused", "Verdict"]
 
 # The shared object that this module is written for. A version that may break it has another name.
 SONAME = "libzermuita.so.0.2"
 ASK, BUFFER_TOO_SMALL, OUT_OF_MEMORY, TOO_MANY_SIGNATURES = 32, 34, 26, 29
+# What `enum zermuita_delegates` says of a name.
+DELEGATES = (None, True, False)
 # What the library may read of a case and write of a report, whatever the sizes that this module knows.
 CASE_ROOM, REPORT_ROOM = 256, 128
 
@@ -37,12 +40,16 @@ class Verdict(enum.IntEnum):
     DELEGATED = 5
     OPTOUT = 6
     INSECURE = 7
+    ALIAS = 8
+    WILDCARD_ALIAS = 9
+    DNAME = 10
+    REFERRAL = 11
 
 
 class Refused(Exception):
     """No verdict, which is bogus for most reasons: docs/use/CALLING.md has the table of replies.
 
-    `reply` is the number of the reason, and `ede` the code of an extended error (RFC 8914), or 0 for none.
+    `reply` is the number of the reason, and `ede` the code of an extended error (RFC 8914), or 0 where there is none.
     """
 
     def __init__(self, reply: int, text: str, ede: int = 0) -> None:
@@ -106,9 +113,11 @@ class Case:
 
 @dataclasses.dataclass(frozen=True)
 class Judgement:
+    """A verdict, and what it says besides. Names are in wire form."""
+
     verdict: Verdict
     records: list[bytes]
-    """The data of the records, where the verdict has some."""
+    """With RECORDS and WILDCARD, the data of the records."""
     verifications: int
     hashes: int
     ttl: int
@@ -119,6 +128,17 @@ class Judgement:
     """With INSECURE, why no DS record can be checked: an extended error (RFC 8914), or 0 where there is none."""
     checked: bytes
     """The signatures that were checked: entries, which another call may begin with."""
+    target: bytes | None = None
+    """With ALIAS and WILDCARD_ALIAS, the name that the alias leads to. With DNAME, the name that the question's becomes, or None where
+    that would be too long (RFC 6672, 2.2)."""
+    owner: bytes | None = None
+    """With DNAME, its owner."""
+    cut: bytes | None = None
+    """With REFERRAL, the delegation; with DELEGATED, the topmost one, or None where the answer does not prove which that is."""
+    ds: list[bytes] = dataclasses.field(default_factory=list)
+    """With REFERRAL, the data of the delegation's DS records."""
+    delegates: bool | None = None
+    """With NODATA for DS, whether the name is a delegation, where the answer proves that; else None."""
 
 
 class _Octets(ctypes.Structure):
@@ -146,7 +166,7 @@ class _Report(ctypes.Structure):
         *((name, ctypes.c_size_t) for name in ("size", "len")),
         *((name, ctypes.c_uint64) for name in ("until", "verifications", "hashes")),
         ("ttl", ctypes.c_uint32),
-        ("ede", ctypes.c_uint16),
+        *((name, ctypes.c_uint16) for name in ("ede", "delegates")),
     ]
 
 
@@ -170,6 +190,31 @@ def _parts(octets: bytes, widths: Sequence[int], gap: int = 0) -> Iterator[list[
             row.append(octets[begin:at])
         at += gap
         yield row
+
+
+def _names(octets: bytes, count: int) -> tuple[list[bytes], bytes]:
+    """At most so many names in wire form from the front of octets, and what is behind them."""
+    names: list[bytes] = []
+    while octets and len(names) < count:
+        end = 0
+        while octets[end]:
+            end += 1 + octets[end]
+        names.append(octets[: end + 1])
+        octets = octets[end + 1 :]
+    return names, octets
+
+
+def _said(verdict: Verdict, octets: bytes) -> dict[str, Any]:
+    """What the octets of a verdict say, as fields of a judgement."""
+    if verdict in (Verdict.RECORDS, Verdict.WILDCARD):
+        return {"records": [row[0] for row in _parts(octets, (2,))]}
+    names, rest = _names(octets, 2 if verdict == Verdict.DNAME else 1)
+    first, second = [*names, None, None][:2]
+    if verdict in (Verdict.ALIAS, Verdict.WILDCARD_ALIAS):
+        return {"records": [], "target": first}
+    if verdict == Verdict.DNAME:
+        return {"records": [], "owner": first, "target": second}
+    return {"records": [], "cut": first, "ds": [row[0] for row in _parts(rest, (2,))]}
 
 
 class Library:
@@ -218,9 +263,9 @@ class Library:
             raise Refused(reply, self.strerror(reply), report.ede)
         if not self._is_verdict(reply):
             raise ValueError(self.strerror(reply))
-        records = [row[0] for row in _parts(octets, (2,))]
-        counts = report.verifications, report.hashes
-        return Judgement(Verdict(reply), records, *counts, report.ttl, report.until, report.ede, checked)
+        verdict = Verdict(reply)
+        numbers = {name: getattr(report, name) for name in ("verifications", "hashes", "ttl", "until", "ede")}
+        return Judgement(verdict, checked=checked, **numbers, **_said(verdict, octets), delegates=DELEGATES[report.delegates])
 
     def _call(self, case: Case, now: int, checked: bytes) -> tuple[int, bytes, _Report]:
         """One call, made again where the reply has more octets than there is room for."""
