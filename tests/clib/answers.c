@@ -1,5 +1,5 @@
 /* Judges answers of name servers, their signatures checked by OpenSSL, and prints a line for each: reply, counts, calls,
- * TTL, until, extended error, octets. */
+ * TTL, until, extended error, what is said of a delegation, octets. */
 #include "cases.h"
 #include "text.h"
 
@@ -19,7 +19,7 @@ int main(void) {
         judge(case_of(&cases.all[i]), passes, &judgement);
         const struct zermuita_report *report = &judgement.report;
         printf("%d %" PRIu64 " %" PRIu64 " %u ", (int)judgement.reply, report->verifications, report->hashes, judgement.calls);
-        printf("%" PRIu32 " %" PRIu64 " %u ", report->ttl, report->until, (unsigned)report->ede);
+        printf("%" PRIu32 " %" PRIu64 " %u %u ", report->ttl, report->until, (unsigned)report->ede, (unsigned)report->delegates);
         print_hex(judgement.octets.data, judgement.octets.len);
         puts("");
     }

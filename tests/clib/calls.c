@@ -35,7 +35,7 @@ static struct zermuita_report report_of_nines(void) {
 /* Whether a report says nothing. */
 static int is_empty(const struct zermuita_report *report) {
     return report->len == 0 && report->until == 0 && report->verifications == 0 && report->hashes == 0 && report->ttl == 0
-        && report->ede == 0;
+        && report->ede == 0 && report->delegates == ZERMUITA_DELEGATES_UNKNOWN;
 }
 
 /* A question for the address of a name, beside no DS record and no messages. */
@@ -203,6 +203,39 @@ static void walk_over_replies(void) {
     }
 }
 
+/* A name of labels of a length, cut where the octets are to end. Gives how many octets of it are a name. */
+static size_t name_taken(uint8_t label, size_t len) {
+    uint8_t octets[300];
+    memset(octets, 'n', sizeof octets);
+    struct zermuita_octets rest = of(octets, len), taken = of(NULL, 0);
+    for (size_t at = 0; at < sizeof octets; at += 1 + (size_t)label) {
+        octets[at] = label;
+    }
+    if (len > 0) {
+        octets[len - 1] = 0;
+    }
+    int is_taken = zermuita_next_name(&rest, &taken);
+    expect(rest.len == len - taken.len && rest.data == octets + taken.len, "what is behind a name, or all where there is none");
+    expect(is_taken ? taken.data == octets && taken.len > 0 : taken.len == 0, "a name that is taken, or none");
+    return taken.len;
+}
+
+/* Names in front of octets: of the lengths that names and labels may have (RFC 1035, 3.1). */
+static void walk_over_names(void) {
+    static const uint8_t two[] = {1, 'a', 0, 0, 0, 1, 7}, pointer[] = {1, 'a', 0xc0, 0, 0}, endless[] = {1, 'a', 1, 'b'};
+    struct zermuita_octets rest = of(two, sizeof two), name_of_two;
+    expect(zermuita_next_name(&rest, &name_of_two) && name_of_two.data == two && name_of_two.len == 3, "a name");
+    expect(zermuita_next_name(&rest, &name_of_two) && name_of_two.data == two + 3 && name_of_two.len == 1, "the root");
+    expect(zermuita_next_record(&rest, &name_of_two) && name_of_two.len == 1 && rest.len == 0, "a record behind names");
+    expect(!zermuita_next_name(&rest, &name_of_two), "no octets are no name");
+    rest = of(pointer, sizeof pointer);
+    expect(!zermuita_next_name(&rest, &name_of_two) && rest.data == pointer, "a pointer is none");
+    rest = of(endless, sizeof endless);
+    expect(!zermuita_next_name(&rest, &name_of_two) && rest.len == sizeof endless, "nor octets without an end");
+    expect(name_taken(63, 65) == 65 && name_taken(64, 66) == 0, "labels of 63 octets, and of 64");
+    expect(name_taken(1, 255) == 255 && name_taken(1, 257) == 0, "names of 255 octets, and of more");
+}
+
 int main(void) {
     call_with_null();
     call_with_sizes();
@@ -210,10 +243,11 @@ int main(void) {
     call_with_flags();
     call_with_ds();
     walk_over_replies();
+    walk_over_names();
     expect(zermuita_version() == ZERMUITA_VERSION_NUMBER, "the version");
     for (int reply = 0; reply < 64; reply++) {
         uint32_t number = (uint32_t)reply;
-        expect(zermuita_is_verdict(number) == (number <= ZERMUITA_INSECURE), "verdicts");
+        expect(zermuita_is_verdict(number) == (number <= ZERMUITA_REFERRAL), "verdicts");
         expect(zermuita_is_refusal(number) == (16 <= number && number <= ZERMUITA_TOO_MANY_SIGNATURES), "refusals");
         printf("%d %s\n", reply, zermuita_strerror((enum zermuita_reply)reply));
     }

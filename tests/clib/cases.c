@@ -3,10 +3,11 @@
 
 #include "text.h"
 
+#include <ctype.h>
 #include <stdio.h>
 #include <stdlib.h>
 
-enum { SLOTS = 4096 };
+enum { SLOTS = 4096, OCTETS = 6 };
 
 /* The signatures that pass, by a hash of their octets: each in the first free slot behind its own. */
 static struct buffer table[SLOTS];
@@ -60,16 +61,41 @@ static uint64_t next_number(char **rest) {
     return strtoull(next_word(rest), NULL, 10);
 }
 
+/* What octets a case has, in the order of its line. */
+static void octets_in(struct answered *it, struct buffer *octets[OCTETS]) {
+    octets[0] = &it->algorithms;
+    octets[1] = &it->apex;
+    octets[2] = &it->name;
+    octets[3] = &it->ds;
+    octets[4] = &it->dnskey;
+    octets[5] = &it->answer;
+}
+
+static void take_saying(struct saying *saying, char *word) {
+    saying->reply = (enum zermuita_reply)strtoull(strsep(&word, ":"), NULL, 10);
+    char *octets = strsep(&word, ":");
+    if (octets == NULL || word == NULL || !octets_of_hex(octets, &saying->octets)) {
+        fail("what may be replied");
+    }
+    saying->delegates = (uint16_t)strtoull(word, NULL, 10);
+}
+
 static void take_case(struct answered *answered, char *rest) {
     memset(answered, 0, sizeof *answered);
-    answered->verdict = (enum zermuita_reply)next_number(&rest);
-    next_octets(&rest, &answered->data);
+    char *words = next_word(&rest);
+    for (char *word; (word = strsep(&words, ",")) != NULL && answered->may_be_len < MOST_REPLIES;) {
+        take_saying(&answered->may_be[answered->may_be_len++], word);
+    }
     answered->rtype = (uint16_t)next_number(&rest);
     answered->limit = (uint16_t)next_number(&rest);
     answered->now = next_number(&rest);
-    answered->other_question = (uint32_t)next_number(&rest);
-    struct buffer *octets[] = {&answered->apex, &answered->name, &answered->ds, &answered->dnskey, &answered->answer};
-    for (size_t i = 0; i < sizeof octets / sizeof *octets; i++) {
+    uint32_t *flags[] = {&answered->one_moment, &answered->as_received, &answered->other_question, &answered->max_signatures};
+    for (size_t i = 0; i < sizeof flags / sizeof *flags; i++) {
+        *flags[i] = (uint32_t)next_number(&rest);
+    }
+    struct buffer *octets[OCTETS];
+    octets_in(answered, octets);
+    for (size_t i = 0; i < OCTETS; i++) {
         next_octets(&rest, octets[i]);
     }
 }
@@ -107,10 +133,13 @@ struct cases read_cases(void) {
 
 void cases_free(struct cases *cases) {
     for (size_t i = 0; i < cases->len; i++) {
-        struct answered *it = &cases->all[i];
-        struct buffer *octets[] = {&it->data, &it->apex, &it->name, &it->ds, &it->dnskey, &it->answer};
-        for (size_t j = 0; j < sizeof octets / sizeof *octets; j++) {
+        struct buffer *octets[OCTETS];
+        octets_in(&cases->all[i], octets);
+        for (size_t j = 0; j < OCTETS; j++) {
             buffer_free(octets[j]);
+        }
+        for (size_t j = 0; j < cases->all[i].may_be_len; j++) {
+            buffer_free(&cases->all[i].may_be[j].octets);
         }
     }
     free(cases->all);
@@ -131,14 +160,63 @@ struct zermuita_case case_of(const struct answered *answered) {
         .rtype = answered->rtype,
         .rclass = 1,
         .max_nsec3_iterations = answered->limit,
+        .one_moment = answered->one_moment,
+        .as_received = answered->as_received,
+        .algorithms = octets_of(&answered->algorithms),
+        .max_signatures = answered->max_signatures,
         .other_question = answered->other_question,
         .no_ds = answered->ds.len == 0,
     };
+}
+
+/* How many names stand in front of a reply's octets at most. */
+static size_t names_of(enum zermuita_reply reply) {
+    switch (reply) {
+    case ZERMUITA_DELEGATED:
+    case ZERMUITA_ALIAS:
+    case ZERMUITA_WILDCARD_ALIAS:
+    case ZERMUITA_REFERRAL:
+        return 1;
+    case ZERMUITA_DNAME:
+        return 2;
+    default:
+        return 0;
+    }
+}
+
+static bool are_same_octets(struct zermuita_octets one, struct zermuita_octets other) {
+    return one.len == other.len && memcmp(one.data, other.data, one.len) == 0;
+}
+
+/* Whether names are the same, whatever the case of their letters. Lengths of labels are no letters. */
+static bool are_same_names(struct zermuita_octets one, struct zermuita_octets other) {
+    bool are_same = one.len == other.len;
+    for (size_t i = 0; are_same && i < one.len; i++) {
+        are_same = tolower(one.data[i]) == tolower(other.data[i]);
+    }
+    return are_same;
+}
+
+static bool is_said(const struct saying *saying, const struct judgement *judgement) {
+    struct zermuita_octets one = octets_of(&saying->octets), other = octets_of(&judgement->octets), name, other_name;
+    if (judgement->reply != saying->reply || judgement->report.delegates != saying->delegates) {
+        return false;
+    }
+    for (size_t i = 0; i < names_of(saying->reply) && zermuita_next_name(&one, &name); i++) {
+        if (!zermuita_next_name(&other, &other_name) || !are_same_names(name, other_name)) {
+            return false;
+        }
+    }
+    return are_same_octets(one, other);
 }
 
 bool is_zones(const struct answered *answered, const struct judgement *judgement) {
     if (judgement->reply == ZERMUITA_INSECURE) {
         return answered->ds.len == 0 || judgement->report.ede != 0;
     }
-    return judgement->reply == answered->verdict && has(&answered->data, octets_of(&judgement->octets));
+    bool is_one = false;
+    for (size_t i = 0; i < answered->may_be_len; i++) {
+        is_one |= is_said(&answered->may_be[i], judgement);
+    }
+    return is_one;
 }

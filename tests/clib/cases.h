@@ -2,22 +2,31 @@
  * Answers of name servers that are to be judged, as the script in this folder hands them in: a line each, of words.
  *
  * - `passes ENTRY`: a signature that passes, as an entry without its last octet.
- * - `case VERDICT DATA TYPE LIMIT MOMENT OTHER APEX NAME DS DNSKEY ANSWER`: what the zone says of a question, a number and the data
- *   of records as a reply has them; the question, and whether the answer may be one to another, 1 or 0; and what is judged. Octets
- *   are hexadecimal digits, "-" for none.
+ * - `case MAY_BE TYPE LIMIT MOMENT ONE_MOMENT AS_RECEIVED OTHER MOST ALGORITHMS APEX NAME DS DNSKEY ANSWER`: what may be replied, by
+ *   what the zone says, with commas between replies: each a number, octets, and what it says of a delegation, with colons between
+ *   them; the question; the flags; and what is judged. Octets are hexadecimal digits, "-" for none.
  */
 #ifndef CASES_H
 #define CASES_H
 
 #include "judgement.h"
 
+enum { MOST_REPLIES = 4 };
+
+/* What may be replied. */
+struct saying {
+    enum zermuita_reply reply;
+    struct buffer octets;
+    uint16_t delegates;
+};
+
 struct answered {
-    enum zermuita_reply verdict;
-    struct buffer data;
+    struct saying may_be[MOST_REPLIES];
+    size_t may_be_len;
     uint16_t rtype, limit;
     uint64_t now;
-    uint32_t other_question;
-    struct buffer apex, name, ds, dnskey, answer;
+    uint32_t one_moment, as_received, other_question, max_signatures;
+    struct buffer algorithms, apex, name, ds, dnskey, answer;
 };
 
 struct cases {
@@ -32,7 +41,7 @@ void cases_free(struct cases *cases);
 
 struct zermuita_case case_of(const struct answered *answered);
 
-/* Whether a verdict is the zone's, data and all; or that the zone is insecure, where no DS record can be checked. */
+/* Whether a verdict is one that may be replied, octets and all; or that the zone is insecure, where no DS record can be checked. */
 bool is_zones(const struct answered *answered, const struct judgement *judgement);
 
 /* Whether a signature is among those that pass. */

@@ -5,7 +5,7 @@ from __future__ import annotations
 import dataclasses
 from collections.abc import Iterator
 
-from answers import Answered
+from answers import Answered, above
 
 IN, NSEC, DNSKEY, NSEC3, RRSIG = 1, 47, 48, 50, 46
 # The types whose data have names that may be compressed: behind so many octets, so many names (RFC 4034, 6.2).
@@ -16,13 +16,14 @@ NAPTR, A6 = 35, 38
 
 @dataclasses.dataclass(frozen=True)
 class Record:
-    """A record, its names in full; letters in lower case, in owner and data."""
+    """A record, its names in full; letters in lower case, in owner and data. Its data as they stand, too."""
 
     owner: bytes
     rtype: int
     rclass: int
     ttl: int
     rdata: bytes
+    raw: bytes
 
 
 @dataclasses.dataclass(frozen=True)
@@ -75,7 +76,7 @@ def records(message: bytes) -> Iterator[tuple[Record, Signature | None]]:
         for _ in range(count):
             name, place = name_at(message, place)
             rdata += name
-        record = Record(owner, rtype, rclass, ttl, rdata + message[place:at].lower())
+        record = Record(owner, rtype, rclass, ttl, rdata + message[place:at].lower(), message[begin:at])
         yield record, signature_of(message, owner, begin, at) if rtype == RRSIG else None
 
 
@@ -88,10 +89,10 @@ def signature_of(message: bytes, owner: bytes, begin: int, end: int) -> Signatur
 
 
 class Passing:
-    """The signatures that pass, each with the data that it is made over, letters in lower case."""
+    """The signatures that pass, each with the owner and the data that it is made over, letters in lower case."""
 
     def __init__(self, entries: list[bytes]) -> None:
-        self.found: set[tuple[bytes, bytes, frozenset[bytes]]] = set()
+        self.found: set[tuple[bytes, bytes, bytes, frozenset[bytes]]] = set()
         for entry in entries:
             parts = []
             for width in (2, 4, 2):
@@ -99,7 +100,8 @@ class Passing:
                 parts.append(entry[width:end])
                 entry = entry[end:]
             signer, at = name_at(parts[1], 18)
-            self.found.add((parts[2], parts[1][:18] + signer, frozenset(self.data(parts[1], at))))
+            owner = name_at(parts[1], at)[0]
+            self.found.add((parts[2], parts[1][:18] + signer, owner, frozenset(self.data(parts[1], at))))
 
     @staticmethod
     def data(octets: bytes, at: int) -> Iterator[bytes]:
@@ -110,7 +112,15 @@ class Passing:
             at = end
 
     def has(self, signature: Signature, rrset: list[Record]) -> bool:
-        return (signature.signature, signature.fields, frozenset(it.rdata for it in rrset)) in self.found
+        owner = signed_owner(rrset[0].owner, signature.fields[3])
+        return (signature.signature, signature.fields, owner, frozenset(it.rdata for it in rrset)) in self.found
+
+
+def signed_owner(owner: bytes, count: int) -> bytes:
+    """The owner that is signed, a wildcard where an owner has more labels than the signature counts (RFC 4035, 5.3.2)."""
+    names = above(owner)
+    at = len(names) - 1 - count
+    return owner if at <= 0 or owner.startswith(b"\1*") and at == 1 else b"\1*" + names[at]
 
 
 def is_sought(case: Answered, owner: bytes, rtype: int, rrset: list[Record]) -> bool:
@@ -125,7 +135,13 @@ def is_sought(case: Answered, owner: bytes, rtype: int, rrset: list[Record]) -> 
     return False
 
 
-def lasting(case: Answered, passing: Passing) -> tuple[int, int]:
+def lasting(cases: list[Answered], passing: Passing) -> tuple[int, int]:
+    """TTL and last second of a reply, the least of all questions that it rests on."""
+    each = [lasting_of(it, passing) for it in cases]
+    return min(ttl for ttl, _ in each), min(end for _, end in each)
+
+
+def lasting_of(case: Answered, passing: Passing) -> tuple[int, int]:
     """TTL and last second of a verdict: of the RRsets that it rests on, and of the keys, whose TTL plays no part."""
     ttls, ends = [], []
     for message, is_keys in ((case.dnskey, True), (case.answer, False)):

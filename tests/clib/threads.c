@@ -13,7 +13,7 @@ static struct judgement *alone;
 static bool is_same(const struct judgement *one, const struct judgement *other) {
     return one->reply == other->reply && one->octets.len == other->octets.len
         && memcmp(one->octets.data, other->octets.data, one->octets.len) == 0
-        && one->report.verifications == other->report.verifications && one->report.hashes == other->report.hashes;
+        && memcmp(&one->report, &other->report, sizeof one->report) == 0;
 }
 
 /* How many judgements of a thread are unlike those of one alone, written where its number stood. */
