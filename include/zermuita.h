@@ -109,7 +109,7 @@ struct zermuita_case {
     uint16_t rtype;                    /* the type that was asked for */
     uint16_t rclass;                   /* the class that was asked for: 1 */
     uint16_t max_nsec3_iterations;     /* how many iterations of a name's hash are allowed (RFC 9276, 3.2) */
-    uint32_t one_moment;               /* 1: the answer's signatures must have one inception and one expiration; 0: any */
+    uint32_t one_moment;               /* 1: the signatures of `answer` must have one inception and one expiration; 0: any */
     uint32_t as_received;              /* 1: messages are judged as they came; 0: names in data in canonical form first */
     struct zermuita_octets algorithms; /* the algorithms that the caller checks, an octet each; none: all */
     uint32_t max_signatures;           /* how many signatures of both messages are to be checked at most; 0: 16 */
@@ -134,11 +134,11 @@ enum zermuita_delegates {
  */
 struct zermuita_report {
     size_t size;            /* sizeof(struct zermuita_report), set before the call */
-    size_t len;             /* how many octets the reply has */
+    size_t len;             /* how many octets the reply has; of one that there is no room for, what all else here is of too */
     uint64_t until;         /* the last second, since 1970, in which the verdict stands */
     uint64_t verifications; /* with a verdict or a refusal: how many signatures were looked up in `checked` */
     uint64_t hashes;        /* with a verdict or a refusal: how many names were hashed */
-    uint32_t ttl;           /* for how many seconds the verdict may be kept (RFC 4035, 5.3.3) */
+    uint32_t ttl;           /* for how many seconds from its message's arrival the verdict may be kept (RFC 4035, 5.3.3) */
     uint16_t ede;           /* the code of an extended error (RFC 8914); 0: none, since code 0 says nothing and is never meant */
     uint16_t delegates;     /* with ZERMUITA_NODATA for DS: a number of enum zermuita_delegates; else 0 */
 };

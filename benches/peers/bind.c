@@ -62,13 +62,13 @@ static void deny_wild(struct proof *proof, dns_name_t *owner, dns_rdataset_t *se
     }
 }
 
-/* Which zone the hashed records are of. */
+/* Finds the zone that the hashed records are of. */
 static void find_zone(struct proof *proof, dns_name_t *owner, dns_rdataset_t *set) {
     dns_nsec3_noexistnodata(proof->rtype, proof->question, owner, set, proof->zone, NULL, NULL, NULL, NULL, NULL, NULL, NULL,
                             NULL, keep_silent, NULL);
 }
 
-/* Which name encloses the question, and whether the name below it is not there. */
+/* Finds the name that encloses the question, and whether the name below it is not there. */
 static void deny_hashed_name(struct proof *proof, dns_name_t *owner, dns_rdataset_t *set) {
     bool exists = true, data = true, optout = false, unknown = false, is_closest = false, is_nearest = false;
     if (dns_nsec3_noexistnodata(proof->rtype, proof->question, owner, set, proof->zone, &exists, &data, &optout, &unknown,

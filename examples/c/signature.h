@@ -73,7 +73,7 @@ static bool verifies(EVP_PKEY *key, const EVP_MD *digest, struct zermuita_octets
     return passes;
 }
 
-/* The same of a curve's signature: two numbers of so many octets (RFC 6605, 4). */
+/* Whether a curve's signature passes, which is two numbers of `width` octets each (RFC 6605, 4). */
 static bool ecdsa_verifies(const char *curve, size_t width, const EVP_MD *digest, const struct zermuita_ask *ask) {
     if (ask->signature.len != 2 * width) {
         return false;

@@ -12,7 +12,7 @@ struct data {
     bool failed;
 };
 
-/* So many octets, which are passed over. */
+/* Takes octets off the data, which fail where there are fewer. */
 static struct zermuita_octets take(struct data *data, size_t len) {
     data->failed |= len > data->end - data->at;
     struct zermuita_octets taken = {data->octets.data + data->at, data->failed ? 0 : len};
