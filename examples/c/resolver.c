@@ -91,8 +91,9 @@ static void resolve(const struct zone *root, struct zermuita_octets name, uint16
     for (int alias = 0; alias < ALIASES; alias++) {
         const struct kept *it = answered(*root, name, rtype, most);
         struct zermuita_octets rest = {it->octets, it->report.len};
+        long left = it->end > time(NULL) ? (long)(it->end - time(NULL)) : 0;
         ns_name_ntop(it->name, text, sizeof text);
-        printf("%s %u: %s; TTL %u, EDE %u\n", text, it->rtype, zermuita_strerror(it->reply), it->report.ttl, it->report.ede);
+        printf("%s %u: %s; TTL %ld, EDE %u\n", text, it->rtype, zermuita_strerror(it->reply), left, it->report.ede);
         if (it->reply < ZERMUITA_ALIAS || it->reply > ZERMUITA_DNAME || !zermuita_next_name(&rest, &name)
             || (it->reply == ZERMUITA_DNAME && !zermuita_next_name(&rest, &name))) {
             return;

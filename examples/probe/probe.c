@@ -10,7 +10,7 @@
 #include <time.h>
 #include <unistd.h>
 
-enum { PROVEN = 0, NOT_PROVEN = 1, FAILED = 2 };
+enum { PROVEN = 0, NOT_PROVEN = 1, FAILED = 2, DS = 43 };
 
 /* The DS set of the parent, each record's data behind their length. */
 struct ds_set {
@@ -44,9 +44,9 @@ static int usage(void) {
           "-t      when signatures are to hold, in seconds since 1970: now, if it is left out\n"
           "-l      how many iterations of NSEC3 are allowed: 100, if it is left out\n"
           "\n"
-          "Prints a line: records, wildcard, NODATA, wildcard NODATA, NXDOMAIN, delegated, opt-out, insecure or bogus, with the\n"
-          "records or the reason. The status is 0 where the answer proves what the line says, 1 where it doesn't, and 2 where there\n"
-          "is no answer or the call cannot be read.\n",
+          "Prints a line: records, wildcard, NODATA, wildcard NODATA, NXDOMAIN, delegated, opt-out, insecure, alias, wildcard alias,\n"
+          "DNAME, referral or bogus, with records, names or the reason. The status is 0 where the answer proves what the line says,\n"
+          "1 where it doesn't, and 2 where there is no answer or the call cannot be read.\n",
           stderr);
     return FAILED;
 }
@@ -117,13 +117,53 @@ static void judge(struct zermuita_case handed, struct judgement *judgement) {
     } while (judgement->reply == ZERMUITA_ASK && check(judgement));
 }
 
+/* What stands before the names of a reply. */
+static const char *const before_names[][2] = {
+    [ZERMUITA_DELEGATED] = {" at ", NULL},
+    [ZERMUITA_ALIAS] = {" to ", NULL},
+    [ZERMUITA_WILDCARD_ALIAS] = {" to ", NULL},
+    [ZERMUITA_DNAME] = {" at ", " to "},
+    [ZERMUITA_REFERRAL] = {" at ", NULL},
+};
+
+/* Prints the names and the records of a verdict. */
+static void tell_octets(const struct judgement *judgement, uint16_t rtype) {
+    struct zermuita_octets rest = {judgement->out, judgement->report.len}, part;
+    const char *separator = judgement->reply == ZERMUITA_REFERRAL ? ": " : " ";
+    if (judgement->reply < sizeof before_names / sizeof *before_names) {
+        for (size_t i = 0; i < 2 && before_names[judgement->reply][i] != NULL && zermuita_next_name(&rest, &part); i++) {
+            fputs(before_names[judgement->reply][i], stdout);
+            print_name(stdout, part, 0);
+        }
+    }
+    while (zermuita_next_record(&rest, &part)) {
+        fputs(separator, stdout);
+        print_data(stdout, judgement->reply == ZERMUITA_REFERRAL ? DS : rtype, part, 0, part.len);
+        separator = ", ";
+    }
+}
+
+/* Prints a verdict, or why there is none. */
+static void tell_reply(const struct judgement *judgement, uint16_t rtype) {
+    static const char *const verdicts[] = {
+        "records", "NODATA",   "NXDOMAIN", "wildcard",       "wildcard NODATA", "delegated",
+        "opt-out", "insecure", "alias",    "wildcard alias", "DNAME",           "referral",
+    };
+    static const char *const delegates[] = {"", ", at a delegation", ", at no delegation"};
+    if (judgement->reply >= sizeof verdicts / sizeof *verdicts) {
+        printf("bogus: %s", zermuita_strerror(judgement->reply));
+        return;
+    }
+    fputs(verdicts[judgement->reply], stdout);
+    fputs(delegates[judgement->report.delegates % 3], stdout);
+    tell_octets(judgement, rtype);
+    if (judgement->reply == ZERMUITA_INSECURE && judgement->report.ede != 0) {
+        fputs(": no DS record has an algorithm and a digest that are known here", stdout);
+    }
+}
+
 /* Prints what is said, and gives the status. */
 static int tell(const struct judgement *judgement, uint16_t rtype) {
-    static const char *const verdicts[] = {
-        "records", "NODATA", "NXDOMAIN", "wildcard", "wildcard NODATA", "delegated", "opt-out", "insecure",
-    };
-    struct zermuita_octets rest = {judgement->out, judgement->report.len}, data;
-    const char *separator = " ";
     if (judgement->reply == ZERMUITA_QUESTION_NOT_ALLOWED || judgement->reply == ZERMUITA_OUT_OF_MEMORY) {
         fprintf(stderr, "probe: not judged: %s\n", zermuita_strerror(judgement->reply));
         return FAILED;
@@ -134,19 +174,9 @@ static int tell(const struct judgement *judgement, uint16_t rtype) {
         printf("bogus: more signatures than are checked; %u signatures checked\n", judgement->signatures);
         return NOT_PROVEN;
     }
-    bool is_proven = zermuita_is_verdict(judgement->reply);
-    if (is_proven) {
-        fputs(verdicts[judgement->reply], stdout);
-    } else {
-        printf("bogus: %s", zermuita_strerror(judgement->reply));
-    }
-    while ((judgement->reply == ZERMUITA_RECORDS || judgement->reply == ZERMUITA_WILDCARD) && zermuita_next_record(&rest, &data)) {
-        fputs(separator, stdout);
-        print_data(stdout, rtype, data, 0, data.len);
-        separator = ", ";
-    }
+    tell_reply(judgement, rtype);
     if (judgement->report.ede != 0) {
-        printf(": no DS record has an algorithm and a digest that are known here (EDE %u)", judgement->report.ede);
+        printf(" (EDE %u)", judgement->report.ede);
     }
     printf("; %u signatures checked, %llu looked up, %llu names hashed", judgement->signatures,
            (unsigned long long)judgement->report.verifications, (unsigned long long)judgement->report.hashes);
@@ -154,7 +184,7 @@ static int tell(const struct judgement *judgement, uint16_t rtype) {
         printf("; TTL %lu, until %llu", (unsigned long)judgement->report.ttl, (unsigned long long)judgement->report.until);
     }
     puts("");
-    return is_proven ? PROVEN : NOT_PROVEN;
+    return zermuita_is_verdict(judgement->reply) ? PROVEN : NOT_PROVEN;
 }
 
 static void show_answer(const char *what, const struct answer *answer, const struct judgement *judgement) {
