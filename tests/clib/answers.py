@@ -116,11 +116,8 @@ def told(printed: str) -> tuple[tuple[int, int, int], int]:
     said, counts = printed.split(": ", 1)[1].split("; ")
     numbers = [int(number) for number in re.findall(r"\d+", counts)]
     verifications, hashes, ede = (*numbers, 0)[:3]
-    words = said.split(" ")
-    if words[0] == "refused":
-        return (NUMBERS[words[1]], verifications, hashes), ede
-    if words[0] == "Unsigned" or said.endswith(" as the zone says"):
-        return (NUMBERS[words[0]], verifications, hashes), ede
+    if ", not as the zone says" not in said:
+        return (NUMBERS[said.removeprefix("refused ").split(" ")[0]], verifications, hashes), ede
     raise ValueError(printed)
 
 

@@ -132,7 +132,7 @@ def hinted_cut(it: Answered) -> bytes | None:
 
 def replied_to(it: Answered, said: Reply | None, zone: Zone, passing: Passing) -> Reply:
     """What is to be replied, by what the judge itself says."""
-    judged = it.told[0]
+    judged = NOT_PROVEN if it.told[0] in (ALIAS, WILDCARD_ALIAS, DNAME, REFERRAL) else it.told[0]
     if said:
         return said
     if judged == INSECURE or judged > INSECURE and judged != NOT_PROVEN:
