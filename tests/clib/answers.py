@@ -92,7 +92,7 @@ class Answered:
     dnskey: bytes
     answer: bytes
     said: str = ""
-    told: tuple[int, int, int] = (0, 0, 0)
+    told: tuple[int, int | None, int | None] = (0, 0, 0)
     reply: Reply = Reply(0)
     ede: int = 0
     may_be: tuple[Reply, ...] = ()
@@ -111,14 +111,19 @@ class Answered:
         return " ".join(["case", may_be, *map(str, numbers), *(it.hex() or "-" for it in octets)])
 
 
-def told(printed: str) -> tuple[tuple[int, int, int], int]:
-    """What a line says of a judgement: the reply and both counts; an extended error, or 0."""
-    said, counts = printed.split(": ", 1)[1].split("; ")
-    numbers = [int(number) for number in re.findall(r"\d+", counts)]
-    verifications, hashes, ede = (*numbers, 0)[:3]
-    if ", not as the zone says" not in said:
-        return (NUMBERS[said.removeprefix("refused ").split(" ")[0]], verifications, hashes), ede
-    raise ValueError(printed)
+def told(printed: str) -> tuple[tuple[int, int | None, int | None], int]:
+    """What a line says of a judgement: the reply and both counts, where one judgement alone says it; an extended error, or 0."""
+    said, _, counts = printed.split(": ", 1)[1].partition("; ")
+    verifications, hashes, ede = ([int(number) for number in re.findall(r"\d+", counts)] + [0])[:3] if counts else (None, None, 0)
+    if "not as the zone says" in said:
+        raise ValueError(printed)
+    return (NUMBERS[said.removeprefix("refused ").split(" ")[0]], verifications, hashes), ede
+
+
+def beyond(printed: str) -> Reply | None:
+    """What a line says beyond a judge's verdict, of an alias or a delegation."""
+    said = printed.partition(": ")[2].removesuffix(", as the zone says")
+    return found(f": {said}") if said.split(" ")[0] in ("Delegated", "Alias", "WildcardAlias", "Dname", "Referral") else None
 
 
 def flag(words: list[str]) -> dict:

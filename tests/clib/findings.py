@@ -11,7 +11,7 @@ import sys
 from collections.abc import Iterator
 
 from answers import ALIAS, CNAME_TYPE, DELEGATED, DNAME, DNAME_TYPE, DS_TYPE, INSECURE, NODATA, NOT_PROVEN, NS_TYPE, RECORDS, REFERRAL
-from answers import WILDCARD, WILDCARD_ALIAS, Answered, Reply, above, entries, found, labels, part
+from answers import WILDCARD, WILDCARD_ALIAS, Answered, Reply, above, beyond, entries, found, labels, part
 from lasting import IN, Passing, Record, records
 
 sys.path.append(str(pathlib.Path(__file__).resolve().parents[1] / "aliases"))
@@ -158,6 +158,9 @@ def replied(judged: list[tuple[Answered, Reply | None]]) -> Iterator[Answered]:
     for it, said in judged:
         zone = known[it.apex]
         reply = replied_to(it, said, zone, passing)
+        line = beyond(it.said) if it.said.endswith(", as the zone says") else None
+        if line and (line.number, line.octets.lower()) != (reply.number, reply.octets.lower()):
+            raise ValueError(f"{it.said}, and by the zone {reply}")
         yield dataclasses.replace(it, reply=reply, may_be=tuple(sorted(set(may_be(it, zone)))))
 
 
