@@ -8,7 +8,7 @@ import hashlib
 import pathlib
 from collections.abc import Iterator
 
-from answers import Answered, Reply, part, wire
+from answers import Answered, Reply, wire
 from findings import rrsets
 from lasting import DNSKEY, NSEC, NSEC3, Passing, Record, Signature, is_sought, records
 
