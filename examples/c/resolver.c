@@ -47,7 +47,7 @@ static const struct kept *said(const struct zone *zone, struct zermuita_octets n
     struct zermuita_case handed = {
         .size = sizeof handed, .apex = zone->apex, .ds = zone->ds, .dnskey = ask(zone->server, zone->apex, DNSKEY_TYPE, dnskey),
         .answer = ask(zone->server, name, rtype, answer), .name = name, .now = (uint64_t)now, .rtype = rtype, .rclass = 1,
-        .max_nsec3_iterations = 50, .algorithms = {signature_algorithms, sizeof signature_algorithms}, .checked = {checked, 0},
+        .max_nsec3_iterations = 100, .algorithms = {signature_algorithms, sizeof signature_algorithms}, .checked = {checked, 0},
     };
     it->report.size = sizeof it->report;
     while ((it->reply = zermuita_judge(&handed, it->octets, ROOM, &it->report)) == ZERMUITA_ASK
