@@ -1,10 +1,11 @@
 -- What a search comes to.
-use Rattle.std.specs.Prelude.{◌≡◌, ◌⊎◌, ℕ, true, List, Result, Ok, Err}
+use Rattle.std.specs.Prelude.{◌≡◌, ◌⊎◌, ℕ, true, List, Option, None, Result, Ok, Err}
 use Rattle.std.specs.Option.{is_some}
 use Rattle.definitions.specs.Limits.{pointer_limit}
 use Rattle.definitions.specs.Name.{at_or_above}
 use Rattle.messages.specs.Message.{Asked}
 use Rattle.answer_judge_keys.specs.Judging.{Handing, answer_of}
+use Rattle.answer_judge_keys.specs.declared.verdict.Lasting.{Lasting}
 use Rattle.answer_judge_keys.specs.declared.verdict.Refusal.{Refusal}
 use Rattle.answer_judge_table.specs.Asking.{AreAsked}
 use Rattle.answer_judge_table.specs.Outcomes.{IsJudgedBy}
@@ -13,26 +14,28 @@ use Rattle.answer_findings.specs.declared.finding.Found.{Found}
 use Rattle.answer_findings.specs.declared.finding.Found.TheVariants as f
 use Rattle.answer_findings.specs.declared.made.Judgements.{Judgements}
 use Rattle.answer_findings.specs.Judgements.{IsMadeOf, alias_question, aside, ds_question, ns_question}
+use Rattle.answer_findings.specs.Lasts.{lasting_by, lasting_found, lastings_of}
 use Rattle.answer_findings.specs.Seen.{Seen, found_by, hashed_by, lead_found, seen, verified_by}
 
 -- judgements of a case's messages: of the case itself, and of the questions that are sought
 pub record AreJudgements (table : List Checked) (h : Handing) (js : Judgements) : Type 0 where
   pub own : IsJudgedBy table h js.own
-  pub alias : IsMadeOf table h (alias_question pointer_limit h) js.alias
+  pub alias : IsMadeOf table h (alias_question pointer_limit h (answer_of js.own)) js.alias
   pub ns : IsMadeOf table h (ns_question pointer_limit h (answer_of js.own)) js.ns
   pub ds : IsMadeOf table h (ds_question pointer_limit h (answer_of js.own) (is_some (lead_found h js.alias))) js.ds
 
--- what they come to, and how often was verified and hashed for all of them
-pub record IsFoundBy (table : List Checked) (h : Handing) (said : Result Seen Refusal) (verifications hashes : ℕ) : Type 0 where
+-- what they come to, how long that lasts, and how often was verified and hashed for all of them
+pub record IsFoundBy (table : List Checked) (h : Handing) (said : Result Seen Refusal) (lasting : Option Lasting) (verifications hashes : ℕ) : Type 0 where
   pub judgements : Judgements
   pub are : AreJudgements table h judgements
   pub says : said ≡ found_by h judgements
+  pub lasts : lasting ≡ lasting_found judgements said
   pub verified : verifications ≡ verified_by judgements
   pub hashed : hashes ≡ hashed_by judgements
 
--- what some judgements come to, and their counts
+-- what some judgements come to, how long that lasts, and their counts
 abbrev pub ComesTo : Handing → Judgements → Found → Type 0
-ComesTo h js (f.Finds finding verifications hashes) = (found_by h js ≡ Ok (seen finding)) × (verifications ≡ verified_by js) × (hashes ≡ hashed_by js)
+ComesTo h js (f.Finds finding lasting verifications hashes) = (found_by h js ≡ Ok (seen finding)) × (lasting ≡ lasting_by (lastings_of js) (seen finding)) × (verifications ≡ verified_by js) × (hashes ≡ hashed_by js)
 ComesTo h js (f.Refused refusal verifications hashes) = (found_by h js ≡ Err refusal) × (verifications ≡ verified_by js) × (hashes ≡ hashed_by js)
 ComesTo h js (f.Asks asks) = ⊥
 
@@ -49,6 +52,6 @@ AreAskedFor table h asks = AreAsked table h asks ⊎ ((asked : Asked) × IsBesid
 
 -- what comes of a search
 abbrev pub IsFound : List Checked → Handing → Found → Type 0
-IsFound table h (f.Finds finding verifications hashes) = IsFoundBy table h (Ok (seen finding)) verifications hashes
-IsFound table h (f.Refused refusal verifications hashes) = IsFoundBy table h (Err refusal) verifications hashes
+IsFound table h (f.Finds finding lasting verifications hashes) = IsFoundBy table h (Ok (seen finding)) lasting verifications hashes
+IsFound table h (f.Refused refusal verifications hashes) = IsFoundBy table h (Err refusal) None verifications hashes
 IsFound table h (f.Asks asks) = AreAskedFor table h asks.items

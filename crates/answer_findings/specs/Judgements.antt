@@ -72,17 +72,26 @@ is_unproven (Refuses e) = is_not_proven e
 
 -- ---- which are made
 
--- An alias is sought where the answer has a DNAME above the name, or a CNAME at it. A server sends a made CNAME beside a DNAME,
+-- An alias is suggested where the answer has a DNAME above the name, or a CNAME at it. A server sends a made CNAME beside a DNAME,
 -- which nothing signs.
-abbrev pub alias_question : ℕ → Handing → Option Asked
-alias_question k h = elim (owner_hint k h hint.Dname) [
+abbrev pub alias_hint : ℕ → Handing → Option Asked
+alias_hint k h = elim (owner_hint k h hint.Dname) [
   | Some owner ↦ Some (asking h owner 39)
   | None ↦ if at_or_above h.apex h.asked.name && not (h.asked.rtype == 5) && has_cname_hint k h then Some (asking h h.asked.name 5) else None
 ]
 
+-- it is sought where the case itself proves nothing
+abbrev pub alias_question : ℕ → Handing → Answer → Option Asked
+alias_question k h own = if is_unproven own then alias_hint k h else None
+
 -- a question at the cut that the answer's NS records suggest
 abbrev pub cut_question : ℕ → Handing → ℕ → Option Asked
 cut_question k h t = option_map (λ c. asking h c t) (owner_hint k h hint.Cut)
+
+-- What may prove more than the case itself: the alias that is suggested, or else DS at the cut. While signatures are missing it says
+-- which, so that nothing is asked for in vain.
+abbrev pub first_question : ℕ → Handing → Option Asked
+first_question k h = elim (alias_hint k h) [ Some asked ↦ Some asked | None ↦ cut_question k h 43 ]
 
 -- whether a name below the apex that has no DS record is delegated is sought
 abbrev pub seeks_delegation : Handing → Answer → Bool

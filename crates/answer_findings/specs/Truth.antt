@@ -75,5 +75,5 @@ IsTruly table h said =
     → AreTrue (passes_in table) passes → AreHonestBeside (answers_with passes) pointer_limit h versions → IsSo h versions said
 
 abbrev pub FindsTruly : List Checked → Handing → Found → Type 0
-FindsTruly table h (f.Finds finding verifications hashes) = IsTruly table h (seen finding)
+FindsTruly table h (f.Finds finding lasting verifications hashes) = IsTruly table h (seen finding)
 FindsTruly table h _ = Unit {0}

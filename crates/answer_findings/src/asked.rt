@@ -1,32 +1,69 @@
 //! Which other questions a case's messages are judged for.
-ghost use Rattle.std.specs.Prelude.{◌≡◌, IfOk};
+ghost use Rattle.std.specs.Prelude.{◌≡◌, IfOk, map};
 ghost use Rattle.std.specs.Option.{option_map};
 ghost use Rattle.definitions.specs.Limits.{pointer_limit};
 ghost use Rattle.messages.specs.Questions.{asked_of};
+ghost use Rattle.messages.specs.Record.{spelled};
 ghost use Rattle.answer_judge_keys.specs.Judging.{answer_of};
 ghost use Rattle.answer_judge_rules.specs.Rules.{verdict_of};
-ghost use Rattle.answer_findings.specs.Judgements.{alias_question, asking, cut_question, ds_question, is_delegated, is_no_type, is_unproven, ns_question, says_delegated, seeks_delegation};
+ghost use Rattle.answer_findings.specs.Hints.{answer_records};
+ghost use Rattle.answer_findings.specs.Judgements.{alias_hint, alias_question, asking, cut_question, ds_question, first_question, is_delegated, is_no_type, is_unproven, ns_question, says_delegated, seeks_delegation};
 
-use crate::hints::{Hint, has_cname_hint, owner_hint};
+use crate::hints::{Hint, answer_records, has_cname, owner_among};
 use answer_judge::{Case, Judgement, Refusal, Refused, Verdict};
+use messages::ViewRecord;
 use messages::names::{Name, copy_name, is_above, is_at_or_above};
 use messages::question::Question;
 use names_rdata::rtype::Rtype;
 use std::alloc::{AllocError, Global};
 
-/// The question whose answer proves that the name is an alias, if the answer suggests one: for the
-/// DNAME above the name, else for its CNAME.
-pub(crate) fn alias_question(alloc: Global, case: &Case) -> Result<Option<Question>, AllocError>
+/// The question that may prove more than the case itself, if the answer suggests one: that of an
+/// alias, else for DS at a cut.
+pub(crate) fn first_question(alloc: Global, case: &Case) -> Result<Option<Question>, AllocError>
     ensures { IfOk result
-        (λ q. option_map asked_of q ≡ alias_question pointer_limit case.now) }
+        (λ q. option_map asked_of q ≡ first_question pointer_limit case.now) }
 {
-    if let Some(owner) = owner_hint(alloc, case, Hint::Dname)? {
+    let records = answer_records(alloc, case)?;
+    match alias_hint(alloc, case, &records)? {
+        Some(question) => Ok(Some(question)),
+        None => cut_among(alloc, case, Rtype::DS, &records),
+    }
+}
+
+/// The question whose answer proves that the name is an alias, where the case itself proves nothing
+/// and its answer suggests one.
+pub(crate) fn alias_question(
+    alloc: Global,
+    case: &Case,
+    own: &Result<Judgement, Refused>,
+) -> Result<Option<Question>, AllocError>
+    ensures { let said = answer_of own.now in
+        IfOk result (λ q. option_map asked_of q ≡ alias_question pointer_limit case.now said) }
+{
+    if !is_unproven(own) {
+        return Ok(None);
+    }
+    let records = answer_records(alloc, case)?;
+    alias_hint(alloc, case, &records)
+}
+
+/// The question for the DNAME above the name, else for its CNAME, if the answer's records suggest
+/// it.
+fn alias_hint(
+    alloc: Global,
+    case: &Case,
+    records: &[ViewRecord],
+) -> Result<Option<Question>, AllocError>
+    requires read { map spelled records.now ≡ answer_records pointer_limit case.now }
+    ensures { IfOk result (λ q. option_map asked_of q ≡ alias_hint pointer_limit case.now) }
+{
+    if let Some(owner) = owner_among(alloc, case, Hint::Dname, records)? {
         return Ok(Some(asking(case, owner, Rtype::DNAME)));
     }
     let question = case.question;
     if is_at_or_above(case.apex, &question.name)
         && question.rtype != Rtype::CNAME
-        && has_cname_hint(case)
+        && has_cname(case, records)
     {
         let name = copy_name(alloc, &question.name)?;
         return Ok(Some(asking(case, name, Rtype::CNAME)));
@@ -76,7 +113,21 @@ fn cut_question(alloc: Global, case: &Case, rtype: Rtype) -> Result<Option<Quest
     ensures { IfOk result
         (λ q. option_map asked_of q ≡ cut_question pointer_limit case.now rtype) }
 {
-    match owner_hint(alloc, case, Hint::Cut)? {
+    let records = answer_records(alloc, case)?;
+    cut_among(alloc, case, rtype, &records)
+}
+
+fn cut_among(
+    alloc: Global,
+    case: &Case,
+    rtype: Rtype,
+    records: &[ViewRecord],
+) -> Result<Option<Question>, AllocError>
+    requires read { map spelled records.now ≡ answer_records pointer_limit case.now }
+    ensures { IfOk result
+        (λ q. option_map asked_of q ≡ cut_question pointer_limit case.now rtype) }
+{
+    match owner_among(alloc, case, Hint::Cut, records)? {
         Some(cut) => Ok(Some(asking(case, cut, rtype))),
         None => Ok(None),
     }

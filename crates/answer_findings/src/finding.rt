@@ -1,5 +1,5 @@
 //! What is found.
-use answer_judge::{DataList, Refusal, Verdict};
+use answer_judge::{DataList, Lasting, Refusal, Verdict};
 use answer_judge_table::Ask;
 use messages::names::Name;
 
@@ -34,9 +34,11 @@ pub enum Finding {
 /// What comes of a search.
 #[derive(Debug, Drop)]
 pub enum Found {
-    /// What is found, and how often was verified and hashed for it.
+    /// What is found, how long that lasts, and how often was verified and hashed for it.
     Finds {
         finding: Finding,
+        /// The least of the judgements that it rests on; beside an empty DS set nothing says it.
+        lasting: Option<Lasting>,
         verifications: u64,
         hashes: u64,
     },

@@ -1,14 +1,14 @@
 //! Which records of an answer suggest other questions to judge it for. Nothing of them is verified.
-ghost use Rattle.std.specs.Prelude.{◌≡◌, IfOk};
+ghost use Rattle.std.specs.Prelude.{◌≡◌, IfOk, map};
 ghost use Rattle.std.specs.List.{find, list_any};
 ghost use Rattle.std.specs.Option.{option_map};
 ghost use Rattle.definitions.specs.Limits.{pointer_limit};
 ghost use Rattle.messages.specs.Record.{spelled};
-ghost use Rattle.answer_findings.specs.Hints.{has_cname_hint, hints_at, owner_hint};
+ghost use Rattle.answer_findings.specs.Hints.{answer_records, hints_at};
 
 use answer_judge::Case;
 use messages::names::{Name, ToName, copy_name, is_above, is_at_or_above};
-use messages::{Records, ViewRecord, read_message};
+use messages::{ViewRecord, read_message_into};
 use names_rdata::rtype::Rtype;
 use numbers::class::Class;
 use std::alloc::{AllocError, Global};
@@ -24,37 +24,29 @@ pub(crate) enum Hint {
     Cut,
 }
 
-/// Whether the answer has a CNAME record at the question's name.
-pub(crate) fn has_cname_hint(case: &Case) -> bool
-    ensures { result ≡ has_cname_hint pointer_limit case.now }
-{
-    match read_message(case.answer) {
-        Ok(view) => any_hints(case, view.records()),
-        Err(_) => false,
-    }
-}
-
-/// The owner of the first such record of the answer.
-pub(crate) fn owner_hint(
+/// The records of the answer; none where it isn't read.
+pub(crate) fn answer_records<'a>(
     alloc: Global,
-    case: &Case,
-    hint: Hint,
-) -> Result<Option<Name<Vec<u8>>>, AllocError>
-    ensures { IfOk result (λ o. o ≡ owner_hint pointer_limit case.now hint) }
+    case: &Case<'a>,
+) -> Result<Vec<ViewRecord<'a>>, AllocError>
+    ensures { IfOk result
+        (λ v. map spelled v.items ≡ answer_records pointer_limit case.now) }
 {
-    match read_message(case.answer) {
-        Ok(view) => owner_among(alloc, case, hint, view.records()),
-        Err(_) => Ok(None),
-    }
+    let mut records = Vec::new(alloc);
+    let Ok((_view, in_memory)) = read_message_into(case.answer, &mut records) else {
+        return Ok(Vec::new(alloc));
+    };
+    in_memory?;
+    Ok(records)
 }
 
 /// Whether a CNAME record at the question's name is among records.
-fn any_hints(case: &Case, records: Records) -> bool
-    ensures { result ≡ list_any (hints_at case.now Hint.Cname) records.entry }
+pub(crate) fn has_cname(case: &Case, records: &[ViewRecord]) -> bool
+    ensures { let is = hints_at case.now Hint.Cname in
+        result ≡ list_any is (map spelled records.now) }
 {
-    let mut records = records;
-    while let Some(record) = records.next() {
-        if hints_at(case, Hint::Cname, &record) {
+    for record in records {
+        if hints_at(case, Hint::Cname, record) {
             return true;
         }
     }
@@ -62,18 +54,17 @@ fn any_hints(case: &Case, records: Records) -> bool
 }
 
 /// The owner of the first record that hints so.
-fn owner_among(
+pub(crate) fn owner_among(
     alloc: Global,
     case: &Case,
     hint: Hint,
-    records: Records,
+    records: &[ViewRecord],
 ) -> Result<Option<Name<Vec<u8>>>, AllocError>
-    ensures { let found = find (hints_at case.now hint) records.entry in
+    ensures { let found = find (hints_at case.now hint) (map spelled records.now) in
         IfOk result (λ o. o ≡ option_map (λ r. r.owner) found) }
 {
-    let mut records = records;
-    while let Some(record) = records.next() {
-        if hints_at(case, hint, &record) {
+    for record in records {
+        if hints_at(case, hint, record) {
             return Ok(Some(copy_name(alloc, record.owner.name())?));
         }
     }

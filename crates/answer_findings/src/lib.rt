@@ -7,6 +7,7 @@ mod asked;
 pub mod finding;
 pub mod finds;
 mod hints;
+mod lasting;
 pub mod laws;
 mod leads;
 mod made;

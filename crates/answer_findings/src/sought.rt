@@ -3,25 +3,41 @@ ghost use Rattle.std.specs.Prelude.{IfOk, MatchResult};
 ghost use Rattle.definitions.specs.Limits.{pointer_limit};
 ghost use Rattle.answer_judge_keys.specs.Judging.{answer_of};
 ghost use Rattle.answer_findings.specs.Found.{AreAskedFor};
-ghost use Rattle.answer_findings.specs.Judgements.{IsMadeOf, alias_question, ds_question, ns_question};
+ghost use Rattle.answer_findings.specs.Judgements.{IsMadeOf, alias_question, ds_question, first_question, ns_question};
 
-use crate::asked::{alias_question, ds_question, ns_question};
+use crate::asked::{alias_question, ds_question, first_question, ns_question};
 use crate::made::{Made, judged_aside};
 use answer_judge::{Case, Judgement, Refused};
 use answer_judge_table::{Ask, CheckedSignature};
 use std::alloc::{AllocError, Global};
+
+/// The judgement that may prove more than the case itself, if one is suggested; or the signatures
+/// that it wants.
+pub(crate) fn judged_first(
+    alloc: Global,
+    case: &Case,
+    table: &[CheckedSignature],
+) -> Result<Result<Option<Made>, Vec<Ask>>, AllocError>
+    ensures { let wanted = first_question pointer_limit case.now in
+        IfOk result (λ r. MatchResult r (IsMadeOf table.now case.now wanted)
+        (λ asks. AreAskedFor table.now case.now asks.items)) }
+{
+    let question = first_question(alloc, case)?;
+    judged_aside(alloc, case, table, question)
+}
 
 /// The judgement that proves an alias, if one is sought; or the signatures that it wants.
 pub(crate) fn judged_alias(
     alloc: Global,
     case: &Case,
     table: &[CheckedSignature],
+    own: &Result<Judgement, Refused>,
 ) -> Result<Result<Option<Made>, Vec<Ask>>, AllocError>
-    ensures { let wanted = alias_question pointer_limit case.now in
+    ensures { let wanted = alias_question pointer_limit case.now (answer_of own.now) in
         IfOk result (λ r. MatchResult r (IsMadeOf table.now case.now wanted)
         (λ asks. AreAskedFor table.now case.now asks.items)) }
 {
-    let question = alias_question(alloc, case)?;
+    let question = alias_question(alloc, case, own)?;
     judged_aside(alloc, case, table, question)
 }
 

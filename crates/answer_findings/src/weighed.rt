@@ -8,6 +8,7 @@ ghost use Rattle.answer_findings.specs.Seen.{answers_ds, cut_found, delegates_fo
 
 use crate::asked::{is_delegated, is_no_type, says_delegated};
 use crate::finding::{Finding, Found};
+use crate::lasting::Lastings;
 use crate::made::{Judgements, Made};
 use answer_judge::{Case, Judgement, Refusal, Refused, Verdict};
 use messages::names::{Name, ToName, copy_name};
@@ -27,8 +28,10 @@ pub(crate) fn weighed(
 {
     let verifications = verified_by(&judgements);
     let hashes = hashed_by(&judgements);
+    let lastings = Lastings::of_judgements(&judgements);
     match answer_found(alloc, case, judgements, lead)? {
         Ok(finding) => Ok(Found::Finds {
+            lasting: lastings.of_finding(&finding),
             finding,
             verifications,
             hashes,
