@@ -1,5 +1,5 @@
 -- Which questions a case's messages are judged for besides its own.
-use Rattle.std.proofs.Common.{◌≡◌, ℕ, Bool, true, false, ◌&&◌, ◌||◌, not, List, [], ◌∷◌, Option, Some, None, refl, subst, ◌⊎◌, inl, inr}
+use Rattle.std.proofs.Common.{◌≡◌, ℕ, Bool, true, false, ◌&&◌, ◌||◌, not, List, [], ◌∷◌, Option, Some, None, refl, subst, ◌∙◌, ◌⊎◌, inl, inr}
 use Rattle.std.specs.Prelude.{◌==◌, cond, if◌then◌else◌}
 use Rattle.std.specs.List.{find}
 use Rattle.std.specs.Option.{option_map}
@@ -12,7 +12,7 @@ use Rattle.answer_judge_keys.specs.Judging.{Answer, Handing}
 use Rattle.answer_findings.specs.declared.hints.Hint.TheVariants as hint
 use Rattle.answer_findings.specs.Found.{IsBeside}
 use Rattle.answer_findings.specs.Hints.{answer_records, has_cname_hint, hints_at, owner_hint, stands_at}
-use Rattle.answer_findings.specs.Judgements.{alias_question, asking, cut_question, ds_question, is_unproven, ns_question, says_delegated, says_no_type, seeks_delegation}
+use Rattle.answer_findings.specs.Judgements.{alias_hint, alias_question, asking, cut_question, ds_question, first_question, is_unproven, ns_question, says_delegated, says_no_type, seeks_delegation}
 
 -- ---- hints
 
@@ -56,7 +56,7 @@ pub record SeeksCname (h : Handing) (asked : Asked) : Type 0 where
   pub other : (h.asked.rtype == 5) ≡ false
   pub is : asking h h.asked.name 5 ≡ asked
 
-pub seeks_alias : (k : ℕ) (h : Handing) (asked : Asked) → alias_question k h ≡ Some asked → SeeksDname h asked ⊎ SeeksCname h asked
+pub seeks_alias : (k : ℕ) (h : Handing) (asked : Asked) → alias_hint k h ≡ Some asked → SeeksDname h asked ⊎ SeeksCname h asked
 seeks_alias k h asked e = go (owner_hint k h hint.Dname) refl e
   where
     cname : (b : Bool) → (at_or_above h.apex h.asked.name && not (h.asked.rtype == 5) && has_cname_hint k h) ≡ b
@@ -85,11 +85,18 @@ dname_beside h owner inside above = record { above = strictly_at owner h.asked.n
 pub cname_beside : (h : Handing) → at_or_above h.apex h.asked.name ≡ true → IsBeside h (asking h h.asked.name 5)
 cname_beside h inside = record { above = above_itself h.asked.name; inside = inside; class = refl; rtype = inr (inl refl) }
 
-pub alias_beside : (k : ℕ) (h : Handing) (asked : Asked) → alias_question k h ≡ Some asked → IsBeside h asked
-alias_beside k h asked e = elim (seeks_alias k h asked e) [
+hint_beside : (k : ℕ) (h : Handing) (asked : Asked) → alias_hint k h ≡ Some asked → IsBeside h asked
+hint_beside k h asked e = elim (seeks_alias k h asked e) [
   | inl s ↦ subst (IsBeside h) s.is (dname_beside h s.owner s.inside s.above)
   | inr s ↦ subst (IsBeside h) s.is (cname_beside h s.inside)
 ]
+
+pub alias_beside : (k : ℕ) (h : Handing) (own : Answer) (asked : Asked) → alias_question k h own ≡ Some asked → IsBeside h asked
+alias_beside k h own asked e = go (is_unproven own) e
+  where
+    go : (b : Bool) → (if b then alias_hint k h else None) ≡ Some asked → IsBeside h asked
+    go true e = hint_beside k h asked e
+    go false e = absurd cc
 
 -- a question at the cut that the answer suggests
 pub record SeeksCut (k : ℕ) (h : Handing) (t : ℕ) (asked : Asked) : Type 0 where
@@ -109,6 +116,13 @@ cut_ns_beside k h c e = let at = cut_above k h c e in record { above = at.1; ins
 
 pub cut_ds_beside : (k : ℕ) (h : Handing) (c : Name) → owner_hint k h hint.Cut ≡ Some c → IsBeside h (asking h c 43)
 cut_ds_beside k h c e = let at = cut_above k h c e in record { above = at.1; inside = strictly_at h.apex c at.0; class = refl; rtype = inr (inr (inr refl)) }
+
+pub first_beside : (k : ℕ) (h : Handing) (asked : Asked) → first_question k h ≡ Some asked → IsBeside h asked
+first_beside k h asked e = go (alias_hint k h) refl e
+  where
+    go : (o : Option Asked) → alias_hint k h ≡ o → (elim o as (λ _. Option Asked) [ Some a ↦ Some a | None ↦ cut_question k h 43 ]) ≡ Some asked → IsBeside h asked
+    go (Some a) f e = hint_beside k h asked (f ∙ e)
+    go None f e = let s = seeks_cut k h 43 asked e in subst (IsBeside h) s.is (cut_ds_beside k h s.cut s.hint)
 
 pub name_ns_beside : (h : Handing) → strictly_above h.apex h.asked.name ≡ true → IsBeside h (asking h h.asked.name 2)
 name_ns_beside h below = record { above = above_itself h.asked.name; inside = strictly_at h.apex h.asked.name below; class = refl; rtype = inl refl }

@@ -1,5 +1,5 @@
 -- What a search comes to.
-use Rattle.std.proofs.Common.{◌≡◌, Bool, List, Option, Some, None, Result, Ok, Err, IfOk, MatchResult, ap, subst, sym, ◌∙◌, inr}
+use Rattle.std.proofs.Common.{◌≡◌, Bool, List, Option, Some, None, Result, Ok, Err, IfOk, MatchResult, refl, ap, subst, sym, ◌∙◌, inr}
 use Rattle.std.specs.Global.{Vec}
 use Rattle.std.specs.Option.{is_some, option_map}
 use Rattle.std.specs.declared.alloc.AllocError.{AllocError}
@@ -18,22 +18,22 @@ use Rattle.answer_findings.specs.declared.finding.Found.TheVariants as f
 use Rattle.answer_findings.specs.declared.made.Judgements.{Judgements}
 use Rattle.answer_findings.specs.declared.made.Made.{Made}
 use Rattle.answer_findings.specs.Found.{AreAskedFor, AreJudgements, ComesTo, IsBeside, IsFound}
-use Rattle.answer_findings.specs.Judgements.{AreAskedAside, IsMadeOf, alias_question, ds_question, ns_question}
+use Rattle.answer_findings.specs.Judgements.{AreAskedAside, IsMadeOf, alias_question, ds_question, first_question, ns_question}
 use Rattle.answer_findings.specs.Seen.{Seen, lead_found, seen}
 use Rattle.answer_findings.specs.Truth.{FindsTruly}
-use Rattle.answer_findings.proofs.Beside.{alias_beside, ds_beside, ns_beside}
+use Rattle.answer_findings.proofs.Beside.{alias_beside, ds_beside, first_beside, ns_beside}
 use Rattle.answer_findings.proofs.Truly.{found_so}
 
 -- what is found is so of the zone
 pub found_truly : (table : List Checked) (h : Handing) (found : Found) → IsFound table h found → FindsTruly table h found
-found_truly table h (f.Finds finding verifications hashes) is = λ passes versions t x. found_so table h passes t versions x is.judgements is.are (seen finding) is.says
+found_truly table h (f.Finds finding lasting verifications hashes) is = λ passes versions t x. found_so table h passes t versions x is.judgements is.are (seen finding) is.says
 found_truly table h (f.Refused refusal verifications hashes) is = tt
 found_truly table h (f.Asks asks) is = tt
 
 -- what judgements come to is what is found
 pub comes_to : (table : List Checked) (h : Handing) (js : Judgements) (found : Found) → AreJudgements table h js → ComesTo h js found → IsFound table h found
-comes_to table h js (f.Finds finding verifications hashes) are to = record { judgements = js; are = are; says = sym to.0; verified = to.1; hashed = to.2 }
-comes_to table h js (f.Refused refusal verifications hashes) are to = record { judgements = js; are = are; says = sym to.0; verified = to.1; hashed = to.2 }
+comes_to table h js (f.Finds finding lasting verifications hashes) are to = record { judgements = js; are = are; says = sym to.0; lasts = to.1; verified = to.2; hashed = to.3 }
+comes_to table h js (f.Refused refusal verifications hashes) are to = record { judgements = js; are = are; says = sym to.0; lasts = refl; verified = to.1; hashed = to.2 }
 comes_to table h js (f.Asks asks) are to = absurd to
 
 -- where memory sufficed
@@ -61,7 +61,7 @@ leads_alike (Some f) found e = ap (λ (o : Option Seen). is_some o) e
 
 -- all judgements of a search
 pub are_judgements : (table : List Checked) (h : Handing) (js : Judgements) (lead : Option Finding) (leads : Bool) → IsJudgedBy table h js.own
-    → IsMadeOf table h (alias_question pointer_limit h) js.alias → option_map seen lead ≡ lead_found h js.alias → leads ≡ is_some lead
+    → IsMadeOf table h (alias_question pointer_limit h (answer_of js.own)) js.alias → option_map seen lead ≡ lead_found h js.alias → leads ≡ is_some lead
     → IsMadeOf table h (ns_question pointer_limit h (answer_of js.own)) js.ns → IsMadeOf table h (ds_question pointer_limit h (answer_of js.own) leads) js.ds → AreJudgements table h js
 are_judgements table h js lead leads own alias e f ns ds =
     let alike : leads ≡ is_some (lead_found h js.alias) = f ∙ leads_alike lead (lead_found h js.alias) e in
@@ -85,8 +85,11 @@ module _ (table : List Checked) (h : Handing) (r : Result (Result (Option Made) 
   abbrev pub Sought : Option Asked → Type 0
   Sought wanted = IfOk r (λ o. MatchResult o (IsMadeOf table h wanted) (λ asks. AreAskedFor table h asks.items))
 
-  pub alias_sought : (wanted : Option Asked) → wanted ≡ alias_question pointer_limit h → Asides wanted → Sought (alias_question pointer_limit h)
-  alias_sought wanted e is = sought table h (alias_question pointer_limit h) (alias_beside pointer_limit h) r (subst Asides e is)
+  pub first_sought : (wanted : Option Asked) → wanted ≡ first_question pointer_limit h → Asides wanted → Sought (first_question pointer_limit h)
+  first_sought wanted e is = sought table h (first_question pointer_limit h) (first_beside pointer_limit h) r (subst Asides e is)
+
+  pub alias_sought : (own : Answer) (wanted : Option Asked) → wanted ≡ alias_question pointer_limit h own → Asides wanted → Sought (alias_question pointer_limit h own)
+  alias_sought own wanted e is = sought table h (alias_question pointer_limit h own) (alias_beside pointer_limit h own) r (subst Asides e is)
 
   pub ns_sought : (own : Answer) (wanted : Option Asked) → wanted ≡ ns_question pointer_limit h own → Asides wanted → Sought (ns_question pointer_limit h own)
   ns_sought own wanted e is = sought table h (ns_question pointer_limit h own) (ns_beside pointer_limit h own) r (subst Asides e is)

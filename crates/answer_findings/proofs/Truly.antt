@@ -23,7 +23,7 @@ use Rattle.answer_judge_table.specs.Table.{AreTrue, Checked, Tried, answers_with
 use Rattle.answer_findings.specs.declared.made.Made.{Made}
 use Rattle.answer_findings.specs.declared.made.Judgements.{Judgements}
 use Rattle.answer_findings.specs.Found.{AreJudgements, IsBeside}
-use Rattle.answer_findings.specs.Judgements.{IsMade, alias_question, aside, asked_in, asking, cut_question, ds_question, is_delegated, is_no_type, is_not_proven, ns_question, question_of, says_delegated, seeks_delegation}
+use Rattle.answer_findings.specs.Judgements.{IsMade, alias_hint, alias_question, aside, asked_in, asking, cut_question, ds_question, is_delegated, is_no_type, is_not_proven, ns_question, question_of, says_delegated, seeks_delegation}
 use Rattle.answer_findings.specs.Laws.{AnswersDs}
 use Rattle.answer_findings.specs.Seen.{Seen, SeesVerdict, SeesAlias, SeesStarAlias, SeesDname, SeesReferral, answer_found, answers_ds, cut_found, delegates_found, delegates_said, first_found, found_by, found_or, lead_found, lead_said, named_lead, no_ds_found, one_name, own_lead, referral_found, referral_said, refusal_found, star_lead, verdict_found}
 use Rattle.answer_findings.specs.Truth.{AreHonestBeside, CutsAt, Delegates, IsSo}
@@ -138,7 +138,7 @@ module _ (table : List Checked) (h : Handing) (passes : Tried → Bool) (truly :
   dname_so owner above (Refuses r) said s e = absurd cc
 
   -- where an alias leads that a judgement shows
-  alias_so : (asked : Asked) → alias_question pointer_limit h ≡ Some asked → (said : Result Judgement Refused) → IsJudgedBy table (aside h asked) said → (s : Seen) → lead_said h asked (answer_of said) ≡ Some s → IsSo h versions s
+  alias_so : (asked : Asked) → alias_hint pointer_limit h ≡ Some asked → (said : Result Judgement Refused) → IsJudgedBy table (aside h asked) said → (s : Seen) → lead_said h asked (answer_of said) ≡ Some s → IsSo h versions s
   alias_so asked e said is s led = elim (seeks_alias pointer_limit h asked e) [
     | inl d ↦
         dname_so d.owner d.above (answer_of said)
@@ -150,7 +150,7 @@ module _ (table : List Checked) (h : Handing) (passes : Tried → Bool) (truly :
         s (ap (λ (q : Asked). lead_said h q (answer_of said)) c.is ∙ led)
   ]
 
-  lead_so : (made : Option Made) → IfSome made (IsMade table h) → asked_in made ≡ alias_question pointer_limit h → (s : Seen) → lead_found h made ≡ Some s → IsSo h versions s
+  lead_so : (made : Option Made) → IfSome made (IsMade table h) → asked_in made ≡ alias_hint pointer_limit h → (s : Seen) → lead_found h made ≡ Some s → IsSo h versions s
   lead_so None is asked s e = absurd cc
   lead_so (Some m) is asked s e = alias_so (question_of m) (sym asked) m.said is s e
 
@@ -289,7 +289,7 @@ module _ (table : List Checked) (h : Handing) (passes : Tried → Bool) (truly :
       go false t = said
 
   -- what is found where nothing is proven
-  unproven_so : (alias ds : Option Made) → IfSome alias (IsMade table h) → IfSome ds (IsMade table h) → asked_in alias ≡ alias_question pointer_limit h
+  unproven_so : (alias ds : Option Made) → IfSome alias (IsMade table h) → IfSome ds (IsMade table h) → asked_in alias ≡ alias_hint pointer_limit h
       → (is_some (lead_found h alias) ≡ false → asked_in ds ≡ cut_question pointer_limit h 43) → (e : Refusal) (s : Seen) → found_or e (first_found (lead_found h alias) (referral_found ds)) ≡ Ok s → IsSo h versions s
   unproven_so alias ds p q asked cut r s e = go (lead_found h alias) refl cut e
     where
@@ -301,14 +301,15 @@ module _ (table : List Checked) (h : Handing) (passes : Tried → Bool) (truly :
       go (Some t) n c e = let is : t ≡ s = cc in subst (IsSo h versions) is (lead_so alias p asked t n)
       go None n c e = led (referral_found ds) refl (c refl) e
 
-  refusal_so : (alias ds : Option Made) → IfSome alias (IsMade table h) → IfSome ds (IsMade table h) → asked_in alias ≡ alias_question pointer_limit h → (e : Refusal)
+  refusal_so : (alias ds : Option Made) → IfSome alias (IsMade table h) → IfSome ds (IsMade table h) → (e : Refusal) → asked_in alias ≡ alias_question pointer_limit h (Refuses e)
       → asked_in ds ≡ ds_question pointer_limit h (Refuses e) (is_some (lead_found h alias)) → (s : Seen) → refusal_found (lead_found h alias) ds e ≡ Ok s → IsSo h versions s
-  refusal_so alias ds p q asked r cut s e = go (is_not_proven r) refl cut e
+  refusal_so alias ds p q r asked cut s e = go (is_not_proven r) refl asked cut e
     where
-      go : (b : Bool) → is_not_proven r ≡ b → asked_in ds ≡ (if false || (b && not (is_some (lead_found h alias))) then cut_question pointer_limit h 43 else None)
+      go : (b : Bool) → is_not_proven r ≡ b → asked_in alias ≡ (if b then alias_hint pointer_limit h else None)
+          → asked_in ds ≡ (if false || (b && not (is_some (lead_found h alias))) then cut_question pointer_limit h 43 else None)
           → (if b then found_or r (first_found (lead_found h alias) (referral_found ds)) else Err r) ≡ Ok s → IsSo h versions s
-      go false n c e = absurd cc
-      go true n c e = unproven_so alias ds p q asked (λ none. c ∙ ap (λ (b : Bool). if not b then cut_question pointer_limit h 43 else None) none) r s e
+      go false n a c e = absurd cc
+      go true n a c e = unproven_so alias ds p q a (λ none. c ∙ ap (λ (b : Bool). if not b then cut_question pointer_limit h 43 else None) none) r s e
 
   -- what judgements come to
   pub found_so : (js : Judgements) → AreJudgements table h js → (s : Seen) → Ok s ≡ found_by h js → IsSo h versions s
@@ -318,4 +319,4 @@ module _ (table : List Checked) (h : Handing) (passes : Tried → Bool) (truly :
       go (Says w) n said e =
           let is : verdict_found h js.ns js.ds w ≡ s = cc in
           subst (IsSo h versions) is (verdict_so js.ns js.ds are.ns.judged are.ds.judged w said (is_some (lead_found h js.alias)) (are.ns.asked ∙ ap (ns_question pointer_limit h) n) (are.ds.asked ∙ ap (λ a. ds_question pointer_limit h a (is_some (lead_found h js.alias))) n))
-      go (Refuses r) n said e = refusal_so js.alias js.ds are.alias.judged are.ds.judged are.alias.asked r (are.ds.asked ∙ ap (λ a. ds_question pointer_limit h a (is_some (lead_found h js.alias))) n) s e
+      go (Refuses r) n said e = refusal_so js.alias js.ds are.alias.judged are.ds.judged r (are.alias.asked ∙ ap (alias_question pointer_limit h) n) (are.ds.asked ∙ ap (λ a. ds_question pointer_limit h a (is_some (lead_found h js.alias))) n) s e

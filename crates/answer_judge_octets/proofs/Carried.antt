@@ -1,5 +1,5 @@
 -- Signatures that are asked for stand in the messages, so they count from then on.
-use Rattle.std.proofs.Common.{◌≡◌, ℕ, ◌+◌, ◌≤◌, Bool, true, false, List, [], ◌∷◌, ◌++◌, length, filter, map, suc, Option, Some, None, Result, Ok, Err, refl, sym, ap, subst, ◌∙◌, length-append, arith}
+use Rattle.std.proofs.Common.{◌≡◌, ℕ, ◌+◌, ◌≤◌, Bool, true, false, List, [], ◌∷◌, ◌++◌, length, filter, map, suc, Option, Some, None, Result, Ok, Err, refl, sym, ap, subst, ◌∙◌, inl, inr, length-append, arith}
 use Rattle.std.specs.Prelude.{◌&&◌, ◌||◌, nat_eq, if◌then◌else◌}
 use Rattle.std.specs.List.{AllByRecursion, slice_range}
 use Rattle.std.specs.Str.{bytes_eq}
@@ -23,6 +23,7 @@ use Rattle.answer_judge_keys.specs.Trusted.{is_trusted, is_usable}
 use Rattle.answer_judge_keys.specs.declared.verdict.Refusal.{Refusal}
 use Rattle.answer_judge_table.specs.Asking.{AreAsked, IsTriedBy}
 use Rattle.answer_judge_table.specs.Table.{Checked, Tried, answers_with, may_pass_in}
+use Rattle.answer_findings.specs.Judgements.{aside}
 use Rattle.answer_judge_octets.specs.Laws.{AsksStayFew, StaysFew}
 use Rattle.answer_judge_octets.specs.Replying.{are_too_many, is_carried, most_of, stands_in}
 use Rattle.answer_judge_octets.proofs.Standing.{stands_cut}
@@ -186,8 +187,15 @@ each_carried table h (c ∷ answered) all = (
   each_carried table h answered all.1,
 )
 
-pub asks_stay_few : AsksStayFew
-asks_stay_few most h table answered asks few =
+stay_few : (most : ℕ) (h : Handing) (table answered : List Checked) → AreAsked table h (map tried_in answered) → are_too_many most h table (length answered) ≡ false → StaysFew most h table answered
+stay_few most h table answered asks few =
     let counts = length-kept (is_carried h.dnskey_bytes h.answer_bytes) table answered (each_carried table h answered asks.tried.each) in
     let room = ltb-false (most_of most) (length (filter (is_carried h.dnskey_bytes h.answer_bytes) table) + length answered) few in
     record { counted = counts; few = omega (arith, counts, room) }
+
+-- A question beside the case's is asked of the same messages.
+pub asks_stay_few : AsksStayFew
+asks_stay_few most h table answered (inl asks) few = stay_few most h table answered asks few
+asks_stay_few most h table answered (inr beside) few =
+    let stays = stay_few most (aside h beside.0) table answered beside.2 few in
+    record { counted = stays.counted; few = stays.few }

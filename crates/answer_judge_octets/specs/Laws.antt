@@ -14,7 +14,7 @@ use Rattle.answer_shared.specs.Told.{TellsAnswer, TellsKeys}
 use Rattle.answer_judge_keys.specs.Judging.{Handing}
 use Rattle.answer_judge_octets.specs.declared.octets.OctetCase.{OctetCase}
 use Rattle.answer_judge_octets.specs.Replying.{IsJudged, Spells, are_too_many, is_carried, most_of}
-use Rattle.answer_judge_table.specs.Asking.{AreAsked}
+use Rattle.answer_findings.specs.Found.{AreAskedFor}
 use Rattle.answer_judge_table.specs.Table.{Checked, Tried, checked}
 use Rattle.answer_judge_octets.specs.Written.{FitsChecked, IsList, checked_octets, passes_octets}
 
@@ -43,11 +43,12 @@ pub record StaysFew (most : ℕ) (h : Handing) (table answered : List Checked) :
       ≡ length (filter (is_carried h.dnskey_bytes h.answer_bytes) table) + length answered
   pub few : length (filter (is_carried h.dnskey_bytes h.answer_bytes) (table ++ answered)) ≤ most_of most
 
--- This holds of what is asked for where that is not too much: so over all calls of a case no more are checked.
+-- This holds of what is asked for where that is not too much, for the case itself or a question beside it: so over all calls of a
+-- case no more are checked.
 abbrev pub AsksStayFew : Type 0
 AsksStayFew =
     (most : ℕ) (h : Handing) (table answered : List Checked)
-    → AreAsked table h (map (λ c. c.tried) answered) → are_too_many most h table (length answered) ≡ false → StaysFew most h table answered
+    → AreAskedFor table h (map (λ c. c.tried) answered) → are_too_many most h table (length answered) ≡ false → StaysFew most h table answered
 
 -- the data of an RRset are in form, each by itself
 abbrev pub is_group_in_form : Group → Bool

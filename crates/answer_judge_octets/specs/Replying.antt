@@ -2,27 +2,31 @@
 use Rattle.std.specs.Prelude.{◌≡◌, ℕ, ◌+◌, ◌%◌, ◌≤◌, ◌<◌, ◌==◌, ◌⊎◌, min, Bool, true, false, ◌&&◌, ◌||◌, List, [], ◌∷◌, ◌++◌, drop, filter, length, map, Option, Some, None, Result, Ok, Err, nat_eq, nat_lt, if◌then◌else◌}
 use Rattle.std.specs.List.{AllByRecursion, flat_map, list_any, starts_with}
 use Rattle.definitions.specs.Dnskey.{Ds}
+use Rattle.definitions.specs.Limits.{pointer_limit}
+use Rattle.definitions.specs.Name.{wire}
+use Rattle.definitions.specs.Zone.{Verdict, Records, NoType, NoName, StarRecords, StarNoType, Delegated, Open, Unsigned}
+use Rattle.denial_laws.specs.Leading.{Lead, To, TooLong}
 use Rattle.messages_canonical.specs.InForm.{GrowsTooLong, IsInForm}
 use Rattle.names_rdata.specs.Composing.{with_length}
 use Rattle.messages.specs.NameOctets.{name_of_octets}
-use Rattle.answer_judge_rules.specs.declared.verdict.Verdict.{Verdict}
-use Rattle.answer_judge_rules.specs.declared.verdict.Verdict.TheVariants as v
-use Rattle.answer_judge_keys.specs.declared.verdict.Judgement.{Judgement}
 use Rattle.answer_judge_keys.specs.declared.verdict.Lasting.{Lasting}
 use Rattle.answer_judge_keys.specs.declared.verdict.Refusal.{Refusal}
 use Rattle.answer_judge_keys.specs.declared.verdict.Refusal.TheVariants as r
-use Rattle.answer_judge_keys.specs.declared.verdict.Refused.{Refused}
 use Rattle.answer_judge_keys.specs.Judging.{Handing}
-use Rattle.answer_judge_table.specs.declared.outcome.Outcome.{Outcome}
-use Rattle.answer_judge_table.specs.declared.outcome.Outcome.TheVariants as o
+use Rattle.answer_findings.specs.declared.finding.Found.{Found}
+use Rattle.answer_findings.specs.declared.finding.Found.TheVariants as f
+use Rattle.answer_findings.specs.Found.{IsFound}
+use Rattle.answer_findings.specs.Seen.{Seen, SeesVerdict, SeesDelegated, SeesNoDs, SeesAlias, SeesStarAlias, SeesDname, SeesReferral, seen}
+use Rattle.answer_findings.specs.Truth.{FindsTruly}
+use Rattle.answer_extended_errors.specs.Codes.{code_of}
+use Rattle.answer_extended_errors.specs.Extended.{extended_error_of}
 use Rattle.answer_judge_octets.specs.declared.reply.ReplyCode.{ReplyCode}
 use Rattle.answer_judge_octets.specs.declared.reply.ReplyCode.TheVariants as c
 use Rattle.answer_judge_octets.specs.declared.reply.Reply.{Reply}
 use Rattle.answer_judge_octets.specs.declared.octets.OctetCase.{OctetCase}
 use Rattle.answer_judge_octets.specs.declared.octets.Report.{Report}
 use Rattle.answer_judge_table.specs.Asking.{unchecked}
-use Rattle.answer_judge_table.specs.Table.{Checked, Tried}
-use Rattle.answer_judge_table.specs.Outcomes.{IsOutcome}
+use Rattle.answer_judge_table.specs.Table.{Checked, Tried, answers_with, passes_in}
 use Rattle.answer_judge_octets.specs.Written.{FitsChecked, FitsDs, IsList, checked_octets, ds_octets}
 
 -- ---- what is handed in
@@ -120,6 +124,10 @@ number_of c.StarNoType = 4
 number_of c.Delegated = 5
 number_of c.Open = 6
 number_of c.Unsigned = 7
+number_of c.Alias = 8
+number_of c.WildcardAlias = 9
+number_of c.Dname = 10
+number_of c.Referral = 11
 number_of c.QuestionNotAllowed = 16
 number_of c.BadDnskeyMessage = 17
 number_of c.BadAnswerMessage = 18
@@ -143,14 +151,24 @@ number_of c.BadSignatures = 38
 number_of c.BadCase = 39
 
 abbrev pub code_of_verdict : Verdict → ReplyCode
-code_of_verdict (v.Records d) = c.Records
-code_of_verdict v.NoType = c.NoType
-code_of_verdict v.NoName = c.NoName
-code_of_verdict (v.StarRecords d) = c.StarRecords
-code_of_verdict v.StarNoType = c.StarNoType
-code_of_verdict v.Delegated = c.Delegated
-code_of_verdict v.Open = c.Open
-code_of_verdict v.Unsigned = c.Unsigned
+code_of_verdict (Records d) = c.Records
+code_of_verdict NoType = c.NoType
+code_of_verdict NoName = c.NoName
+code_of_verdict (StarRecords d) = c.StarRecords
+code_of_verdict StarNoType = c.StarNoType
+code_of_verdict Delegated = c.Delegated
+code_of_verdict Open = c.Open
+code_of_verdict Unsigned = c.Unsigned
+
+-- the code of what is found
+abbrev pub code_found : Seen → ReplyCode
+code_found (SeesVerdict v) = code_of_verdict v
+code_found (SeesDelegated cut) = c.Delegated
+code_found (SeesNoDs d) = c.NoType
+code_found (SeesAlias target) = c.Alias
+code_found (SeesStarAlias target) = c.WildcardAlias
+code_found (SeesDname owner leads) = c.Dname
+code_found (SeesReferral cut ds) = c.Referral
 
 abbrev pub code_of_refusal : Refusal → ReplyCode
 code_of_refusal r.QuestionNotAllowed = c.QuestionNotAllowed
@@ -176,6 +194,10 @@ is_verdict c.StarNoType = true
 is_verdict c.Delegated = true
 is_verdict c.Open = true
 is_verdict c.Unsigned = true
+is_verdict c.Alias = true
+is_verdict c.WildcardAlias = true
+is_verdict c.Dname = true
+is_verdict c.Referral = true
 is_verdict _ = false
 
 -- a code that says why there is no verdict
@@ -205,22 +227,50 @@ pub record Replied : Type 0 where
   pub ttl : ℕ
   pub until : ℕ
   pub ede : ℕ
+  pub delegates : ℕ
 
 -- a code alone
 abbrev pub only : ReplyCode → Replied
-only code = record { code = code; octets = []; verifications = 0; hashes = 0; ttl = 0; until = 0; ede = 0 }
+only code = record { code = code; octets = []; verifications = 0; hashes = 0; ttl = 0; until = 0; ede = 0; delegates = 0 }
+
+-- a reply for which so often was verified and hashed
+abbrev pub counted : ℕ → ℕ → Replied → Replied
+counted verifications hashes said = record said { verifications = verifications; hashes = hashes }
 
 -- a reply as contracts see it
 abbrev pub reply_seen : Reply → Replied
-reply_seen r = record { code = r.code; octets = r.octets.items; verifications = r.verifications; hashes = r.hashes; ttl = r.ttl; until = r.until; ede = r.ede }
+reply_seen r = record { code = r.code; octets = r.octets.items; verifications = r.verifications; hashes = r.hashes; ttl = r.ttl; until = r.until; ede = r.ede; delegates = r.delegates }
 
--- ---- a judgement
+-- ---- what is found
 
 -- the data of records, each behind its length
 abbrev pub octets_of_verdict : Verdict → List ℕ
-octets_of_verdict (v.Records d) = flat_map with_length d
-octets_of_verdict (v.StarRecords d) = flat_map with_length d
+octets_of_verdict (Records d) = flat_map with_length d
+octets_of_verdict (StarRecords d) = flat_map with_length d
 octets_of_verdict _ = []
+
+-- where a DNAME leads, if that is no name too long
+abbrev pub octets_of_lead : Lead → List ℕ
+octets_of_lead (To name) = wire name
+octets_of_lead TooLong = []
+
+-- Names in wire form: the target of an alias, the owner of a DNAME and where it leads, the cut of a delegation; behind that of a
+-- referral its DS records, as the DS set of a case.
+abbrev pub octets_found : Seen → List ℕ
+octets_found (SeesVerdict v) = octets_of_verdict v
+octets_found (SeesDelegated None) = []
+octets_found (SeesDelegated (Some cut)) = wire cut
+octets_found (SeesNoDs d) = []
+octets_found (SeesAlias target) = wire target
+octets_found (SeesStarAlias target) = wire target
+octets_found (SeesDname owner leads) = wire owner ++ octets_of_lead leads
+octets_found (SeesReferral cut ds) = wire cut ++ flat_map with_length ds
+
+-- of a name that has no DS record: 1 where it is a delegation, 2 where it is none; 0 where nothing is said of it
+abbrev pub delegates_found : Seen → ℕ
+delegates_found (SeesNoDs true) = 1
+delegates_found (SeesNoDs false) = 2
+delegates_found _ = 0
 
 -- for how many seconds a verdict may be kept; 0 where nothing says it
 abbrev pub ttl_of : Option Lasting → ℕ
@@ -238,22 +288,30 @@ abbrev pub unsupported : List Ds → ℕ
 unsupported ds = if length ds == 0 then 0 else if list_any (λ d. is_made d.digest_type) ds then 1 else 2
 
 -- it is said beside the verdict that the zone is not signed
-abbrev pub error_beside : ℕ → Verdict → ℕ
-error_beside error v.Unsigned = error
+abbrev pub error_beside : ℕ → Seen → ℕ
+error_beside error (SeesVerdict Unsigned) = error
 error_beside error _ = 0
 
--- What is replied to a judgement of a moment in seconds, beside a DS set with that error.
-abbrev pub judged_reply : ℕ → ℕ → Result Judgement Refused → Replied
-judged_reply second error (Ok j) = record {
-  code = code_of_verdict j.verdict;
-  octets = octets_of_verdict j.verdict;
-  verifications = j.verifications;
-  hashes = j.hashes;
-  ttl = ttl_of j.lasting;
-  until = until_of second j.lasting;
-  ede = error_beside error j.verdict;
+-- What is replied to what is found at a moment in seconds, beside a DS set with that error.
+abbrev pub found_reply : ℕ → ℕ → Seen → Option Lasting → Replied
+found_reply second error s lasting = record {
+  code = code_found s;
+  octets = octets_found s;
+  verifications = 0;
+  hashes = 0;
+  ttl = ttl_of lasting;
+  until = until_of second lasting;
+  ede = error_beside error s;
+  delegates = delegates_found s;
 }
-judged_reply second error (Err e) = record (only (code_of_refusal e.refusal)) { verifications = e.verifications; hashes = e.hashes }
+
+-- Why a case is refused, as an extended error: of signatures those pass that pass in the table (RFC 8914).
+abbrev pub error_of : Handing → List Checked → Refusal → ℕ
+error_of h table refusal = code_of (extended_error_of (answers_with (passes_in table)) pointer_limit h refusal)
+
+-- what is replied to a refusal with an error
+abbrev pub refusal_reply : Refusal → ℕ → Replied
+refusal_reply refusal error = record (only (code_of_refusal refusal)) { ede = error }
 
 -- ---- signatures that are asked for
 
@@ -291,26 +349,30 @@ abbrev pub AsksOrStops : Bool → List Tried → Replied → Type 0
 AsksOrStops true asks said = said ≡ only c.TooManySignatures
 AsksOrStops false asks said = (said ≡ record (only c.Ask) { octets = entries_of asks }) × AllByRecursion FitsChecked (map unchecked asks)
 
--- ---- an outcome
+-- ---- what comes of a search
 
-abbrev pub IsRepliedTo : OctetCase → ℕ → Handing → List Checked → Outcome → Replied → Type 0
-IsRepliedTo case error h table (o.Judged judged) said = said ≡ judged_reply case.moment error judged
-IsRepliedTo case error h table (o.Asks asks) said = AsksOrStops (are_too_many case.max_signatures h table (length asks.items)) asks.items said
+abbrev pub IsRepliedTo : OctetCase → ℕ → Handing → List Checked → Found → Replied → Type 0
+IsRepliedTo case error h table (f.Finds finding lasting verifications hashes) said = said ≡ counted verifications hashes (found_reply case.moment error (seen finding) lasting)
+IsRepliedTo case error h table (f.Refused refusal verifications hashes) said = said ≡ counted verifications hashes (refusal_reply refusal (error_of h table refusal))
+IsRepliedTo case error h table (f.Asks asks) said = AsksOrStops (are_too_many case.max_signatures h table (length asks.items)) asks.items said
 
--- an outcome of a judgement by a table, and what it is replied as
-pub record SaysOutcome (case : OctetCase) (error : ℕ) (h : Handing) (table : List Checked) (said : Replied) : Type 0 where
-  pub outcome : Outcome
-  pub is_outcome : IsOutcome table h outcome
-  pub replied : IsRepliedTo case error h table outcome said
+-- What is found by a table, and what it is replied as. Of messages in which nothing is forged nothing is found but what is so of a
+-- version of the zone, whichever signatures pass beside those of the table.
+pub record SaysFound (case : OctetCase) (error : ℕ) (h : Handing) (table : List Checked) (said : Replied) : Type 0 where
+  pub found : Found
+  pub is_found : IsFound table h found
+  pub honest : FindsTruly table h found
+  pub replied : IsRepliedTo case error h table found said
 
--- what the octets spell, and the outcome that is replied
+-- what the octets spell, and what is found and replied
 pub record IsReply (case : OctetCase) (said : Replied) : Type 0 where
   pub handing : Handing
   pub table : List Checked
   pub spelled : Spells case handing table
-  pub says : SaysOutcome case (unsupported spelled.ds_set) handing table said
+  pub says : SaysFound case (unsupported spelled.ds_set) handing table said
 
--- A reply to a case: that memory ran out or that octets of it spell nothing, or the outcome of what they spell.
+-- A reply to a case: that memory ran out, also for an extended error, or that octets of it spell nothing, or what is found in what
+-- they spell.
 abbrev pub Replies : OctetCase → Replied → Type 0
 Replies case said = ((said ≡ only said.code) × ((said.code ≡ c.OutOfMemory) ⊎ Unread case said.code)) ⊎ IsReply case said
 
@@ -330,6 +392,7 @@ report_of said = record {
   hashes = said.hashes;
   ttl = said.ttl;
   ede = said.ede;
+  delegates = said.delegates;
 }
 
 -- A reply's octets in front of what was there, where there is room for them; else what was there.

@@ -4,6 +4,7 @@
 
 mod ds;
 mod entries;
+mod errors;
 pub mod laws;
 mod limit;
 mod list;

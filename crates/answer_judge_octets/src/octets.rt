@@ -3,15 +3,17 @@ ghost use Rattle.std.specs.Prelude.{◌≡◌, ◌⊎◌, Some, None, false, IfO
 ghost use Rattle.std.specs.Cow.{cow_slice_items};
 ghost use Rattle.messages.specs.NameOctets.{name_of_octets};
 ghost use Rattle.messages_canonical.specs.InForm.{GrowsTooLong};
-ghost use Rattle.answer_judge_octets.specs.Replying.{Answers, IsJudged, Replies, SaysOutcome, Unread, flag_in, reply_seen, report_of};
+ghost use Rattle.answer_judge_octets.specs.Replying.{Answers, IsJudged, Replies, SaysFound, Unread, flag_in, reply_seen, report_of};
 ghost use Rattle.answer_judge_octets.specs.ReadCases.{ReadsAs, handing_of};
 
 use crate::ds::{judged_ds, unsupported};
+use crate::errors::error_of;
 use crate::limit::are_too_many;
 use crate::list::read_list;
-use crate::reply::{Reply, ReplyCode, reply_of_asks, reply_of_judgement};
+use crate::reply::{Reply, ReplyCode, reply_of_asks, reply_of_finding, reply_of_refusal};
+use answer_findings::{Found, find};
 use answer_judge::Case;
-use answer_judge_table::{CheckedSignature, Outcome, judge_by_table};
+use answer_judge_table::CheckedSignature;
 use denial_data::Ds;
 use denial_fields::unix_time::UnixTime;
 use messages::names::{Name, name_from_octets};
@@ -94,6 +96,9 @@ pub struct Report {
     /// The extended error that the reply brings (RFC 8914, 4), or 0: code 0 of the RFC, which says
     /// nothing, is never brought.
     pub ede: u16,
+    /// Of a name that has no DS record: 1 where it is a delegation, 2 where it is none; 0 where
+    /// nothing is said of it.
+    pub delegates: u16,
 }
 
 /// How many octets a report has in memory.
@@ -117,15 +122,19 @@ struct ReadCase<'a> {
     table: Vec<CheckedSignature<'a>>,
 }
 
-/// Judges as [`judge_by_table`](answer_judge_table::judge_by_table) does, from octets. The reply's
-/// octets are written to the front of `out` where there is room for them: of records their data,
-/// each behind its length in two octets; of signatures that are asked for their entries, which
+/// Judges as [`find`](answer_findings::find) does, from octets. The reply's octets are written to
+/// the front of `out` where there is room for them: of records their data, each behind its length
+/// in two octets; of an alias its target, of a DNAME its owner and the name that the question's
+/// becomes, if it isn't too long, of a delegation the cut, and of a referral behind it the data of
+/// its DS records, all names in wire form; of signatures that are asked for their entries, which
 /// belong into the list with their last octets set.
 ///
-/// Of messages in which nothing is forged, in the form that is judged, no verdict is said but that
-/// of a version of the zone, and none of an alias: of a zone in order (nothing beside a CNAME,
-/// nothing below a DNAME), whoever signs and serves it, and whichever question the answer was given
-/// to.
+/// Of messages in which nothing is forged, in the form that is judged, nothing is said but what is
+/// so of a version of the zone: of a zone in order (nothing beside a CNAME, nothing below a DNAME),
+/// whoever signs and serves it, and whichever question the answer was given to.
+///
+/// A refusal brings its extended error, for which the signatures of the answer may be looked up
+/// once more.
 pub fn judge_octets(
     alloc: Global,
     case: &OctetCase,
@@ -157,6 +166,7 @@ fn report_of(reply: &Reply) -> Report
         hashes: reply.hashes,
         ttl: reply.ttl,
         ede: reply.ede,
+        delegates: reply.delegates,
     }
 }
 
@@ -177,7 +187,7 @@ fn reply(alloc: Global, case: &OctetCase) -> Reply
 /// The reply to what a case spells.
 fn judged(alloc: Global, case: &OctetCase, read: &ReadCase) -> Result<Reply, AllocError>
     ensures { let h = handing_of case.now read.now in let table = read.now.table.items in
-        IfOk result (λ r. SaysOutcome case.now read.now.error h table (reply_seen r)) }
+        IfOk result (λ r. SaysFound case.now read.now.error h table (reply_seen r)) }
 {
     let handed = Case {
         apex: &read.apex,
@@ -190,9 +200,25 @@ fn judged(alloc: Global, case: &OctetCase, read: &ReadCase) -> Result<Reply, All
         one_moment: read.one_moment,
         other_question: read.other_question,
     };
-    match judge_by_table(alloc, &handed, &read.table)? {
-        Outcome::Judged(judged) => reply_of_judgement(alloc, case.moment, read.error, &judged),
-        Outcome::Asks(asks) => {
+    match find(alloc, &handed, &read.table)? {
+        Found::Finds {
+            finding,
+            lasting,
+            verifications,
+            hashes,
+        } => {
+            let reply = reply_of_finding(alloc, case.moment, read.error, &finding, lasting)?;
+            Ok(reply.counted(verifications, hashes))
+        }
+        Found::Refused {
+            refusal,
+            verifications,
+            hashes,
+        } => {
+            let error = error_of(alloc, &handed, &read.table, refusal)?;
+            Ok(reply_of_refusal(alloc, refusal, error).counted(verifications, hashes))
+        }
+        Found::Asks(asks) => {
             let stops = are_too_many(case.max_signatures, &handed, &read.table, asks.len());
             reply_of_asks(alloc, &asks, stops)
         }

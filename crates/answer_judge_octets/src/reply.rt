@@ -1,15 +1,20 @@
 //! What is replied to a caller in octets.
 ghost use Rattle.std.specs.Prelude.{◌≡◌, ◌++◌, length, map, IfOk, MatchOption, OnOk};
 ghost use Rattle.std.specs.List.{AllByRecursion, flat_map};
+ghost use Rattle.definitions.specs.Name.{wire};
 ghost use Rattle.names_rdata.specs.Composing.{with_length};
+ghost use Rattle.answer_judge_rules.specs.Rules.{verdict_of};
+ghost use Rattle.answer_findings.specs.Seen.{lead_seen, seen};
 ghost use Rattle.answer_judge_octets.specs.declared.reply.ReplyCode.{ReplyCode};
 ghost use Rattle.answer_judge_table.specs.Asking.{unchecked};
 ghost use Rattle.answer_judge_octets.specs.Written.{FitsChecked, IsLong, IsShort, checked_octets, with_long_length};
-ghost use Rattle.answer_judge_octets.specs.Replying.{AsksOrStops, code_of_refusal, code_of_verdict, entries_of, error_beside, is_refusal, is_verdict, judged_reply, number_of, octets_of_verdict, only, reply_seen, ttl_of, until_of};
+ghost use Rattle.answer_judge_octets.specs.Replying.{AsksOrStops, code_of_refusal, code_of_verdict, code_found, counted, delegates_found, entries_of, error_beside, found_reply, is_refusal, is_verdict, number_of, octets_found, octets_of_lead, octets_of_verdict, only, refusal_reply, reply_seen, ttl_of, until_of};
 
-use answer_judge::{DataList, Judgement, Lasting, Refusal, Refused, Verdict};
+use answer_findings::{Finding, Lead};
+use answer_judge::{DataList, Lasting, Refusal, Verdict};
 use answer_judge_table::Ask;
 use answer_shared::dnskey::ZoneKey;
+use messages::names::{Name, ZoneName};
 use std::alloc::{AllocError, Global};
 
 /// What a caller in octets is told: a verdict, why there is none, or what is wanted.
@@ -31,6 +36,14 @@ pub enum ReplyCode {
     Open = 6,
     /// The DS set is empty, so nothing vouches for the zone's keys.
     Unsigned = 7,
+    /// The name has a CNAME record, which leads to another name.
+    Alias = 8,
+    /// A wildcard with a CNAME record stands for the name, and leads to another name.
+    WildcardAlias = 9,
+    /// A DNAME record stands above the name.
+    Dname = 10,
+    /// The zone has DS records at a name at or above the question's.
+    Referral = 11,
     QuestionNotAllowed = 16,
     BadDnskeyMessage = 17,
     BadAnswerMessage = 18,
@@ -87,6 +100,10 @@ impl ReplyCode {
             5 => Some(ReplyCode::Delegated),
             6 => Some(ReplyCode::Open),
             7 => Some(ReplyCode::Unsigned),
+            8 => Some(ReplyCode::Alias),
+            9 => Some(ReplyCode::WildcardAlias),
+            10 => Some(ReplyCode::Dname),
+            11 => Some(ReplyCode::Referral),
             16 => Some(ReplyCode::QuestionNotAllowed),
             17 => Some(ReplyCode::BadDnskeyMessage),
             18 => Some(ReplyCode::BadAnswerMessage),
@@ -120,6 +137,8 @@ impl ReplyCode {
             ReplyCode::Records | ReplyCode::NoType | ReplyCode::NoName => true,
             ReplyCode::StarRecords | ReplyCode::StarNoType => true,
             ReplyCode::Delegated | ReplyCode::Open | ReplyCode::Unsigned => true,
+            ReplyCode::Alias | ReplyCode::WildcardAlias => true,
+            ReplyCode::Dname | ReplyCode::Referral => true,
             _ => false,
         }
     }
@@ -141,7 +160,7 @@ impl ReplyCode {
 }
 
 /// What is replied: its code and its octets, how often was verified and hashed, how long a verdict
-/// lasts, and an extended error.
+/// lasts, an extended error, and whether a name is a delegation.
 #[derive(Debug, Drop)]
 pub(crate) struct Reply {
     pub(crate) code: ReplyCode,
@@ -151,6 +170,7 @@ pub(crate) struct Reply {
     pub(crate) ttl: u32,
     pub(crate) until: u64,
     pub(crate) ede: u16,
+    pub(crate) delegates: u16,
 }
 
 impl Reply {
@@ -166,38 +186,52 @@ impl Reply {
             ttl: 0,
             until: 0,
             ede: 0,
+            delegates: 0,
         }
+    }
+
+    /// The reply, and how often was verified and hashed for it.
+    pub(crate) fn counted(self, verifications: u64, hashes: u64) -> Self
+        ensures { reply_seen result ≡ counted verifications hashes (reply_seen self.entry) }
+    {
+        let mut reply = self;
+        reply.verifications = verifications;
+        reply.hashes = hashes;
+        reply
     }
 }
 
-/// The reply to a judgement of a moment in seconds, beside a DS set with an error that is said
+/// The reply to what is found at a moment in seconds, beside a DS set with an error that is said
 /// where none of it is judged by.
-pub(crate) fn reply_of_judgement(
+pub(crate) fn reply_of_finding(
     alloc: Global,
     second: u64,
     error: u16,
-    judged: &Result<Judgement, Refused>,
+    finding: &Finding,
+    lasting: Option<Lasting>,
 ) -> Result<Reply, AllocError>
-    ensures { IfOk result (λ r. reply_seen r ≡ judged_reply second error judged.now) }
+    ensures { let s = seen finding.now in
+        IfOk result (λ r. reply_seen r ≡ found_reply second error s lasting) }
 {
-    let judgement = match judged {
-        Ok(judgement) => judgement,
-        Err(refused) => {
-            let mut reply = Reply::only(alloc, code_of_refusal(refused.refusal));
-            reply.verifications = u64::from(refused.verifications);
-            reply.hashes = u64::from(refused.hashes);
-            return Ok(reply);
-        }
-    };
     Ok(Reply {
-        code: code_of_verdict(&judgement.verdict),
-        octets: octets_of_verdict(alloc, &judgement.verdict)?,
-        verifications: u64::from(judgement.verifications),
-        hashes: u64::from(judgement.hashes),
-        ttl: ttl_of(judgement.lasting),
-        until: until_of(second, judgement.lasting),
-        ede: error_beside(error, &judgement.verdict),
+        code: code_of_finding(finding),
+        octets: octets_of_finding(alloc, finding)?,
+        verifications: 0,
+        hashes: 0,
+        ttl: ttl_of(lasting),
+        until: until_of(second, lasting),
+        ede: error_beside(error, finding),
+        delegates: delegates_of(finding),
     })
+}
+
+/// The reply to a refusal, with its extended error.
+pub(crate) fn reply_of_refusal(alloc: Global, refusal: Refusal, error: u16) -> Reply
+    ensures { reply_seen result ≡ refusal_reply refusal error }
+{
+    let mut reply = Reply::only(alloc, code_of_refusal(refusal));
+    reply.ede = error;
+    reply
 }
 
 /// For how many seconds a verdict may be kept.
@@ -221,11 +255,27 @@ fn until_of(second: u64, lasting: Option<Lasting>) -> u64
 }
 
 /// The error of a DS set, beside the verdict that the zone is not signed.
-fn error_beside(error: u16, verdict: &Verdict) -> u16
-    ensures { result ≡ error_beside error verdict.now }
+fn error_beside(error: u16, finding: &Finding) -> u16
+    ensures { result ≡ error_beside error (seen finding.now) }
 {
-    match verdict {
-        Verdict::Unsigned => error,
+    match finding {
+        Finding::Verdict(Verdict::Unsigned) => error,
+        _ => 0,
+    }
+}
+
+/// A name that has no DS record is a delegation, or none.
+const DELEGATES: u16 = 1;
+
+const DELEGATES_NOT: u16 = 2;
+
+/// Whether a name that has no DS record is a delegation; 0 where nothing is said of it.
+fn delegates_of(finding: &Finding) -> u16
+    ensures { result ≡ delegates_found (seen finding.now) }
+{
+    match finding {
+        Finding::NoDs(true) => DELEGATES,
+        Finding::NoDs(false) => DELEGATES_NOT,
         _ => 0,
     }
 }
@@ -242,8 +292,22 @@ pub(crate) fn reply_of_asks(alloc: Global, asks: &[Ask], stops: bool) -> Result<
     Ok(reply)
 }
 
+fn code_of_finding(finding: &Finding) -> ReplyCode
+    ensures { result ≡ code_found (seen finding.now) }
+{
+    match finding {
+        Finding::Verdict(verdict) => code_of_verdict(verdict),
+        Finding::Delegated(_) => ReplyCode::Delegated,
+        Finding::NoDs(_) => ReplyCode::NoType,
+        Finding::Alias(_) => ReplyCode::Alias,
+        Finding::WildcardAlias(_) => ReplyCode::WildcardAlias,
+        Finding::Dname { .. } => ReplyCode::Dname,
+        Finding::Referral { .. } => ReplyCode::Referral,
+    }
+}
+
 fn code_of_verdict(verdict: &Verdict) -> ReplyCode
-    ensures { result ≡ code_of_verdict verdict.now }
+    ensures { result ≡ code_of_verdict (verdict_of verdict.now) }
 {
     match verdict {
         Verdict::Records(_) => ReplyCode::Records,
@@ -276,9 +340,63 @@ fn code_of_refusal(refusal: Refusal) -> ReplyCode
     }
 }
 
+/// The octets of what is found: names in wire form, and data, each behind its length.
+fn octets_of_finding(alloc: Global, finding: &Finding) -> Result<Vec<u8>, AllocError>
+    ensures { IfOk result (λ v. v.items ≡ octets_found (seen finding.now)) }
+{
+    match finding {
+        Finding::Verdict(verdict) => octets_of_verdict(alloc, verdict),
+        Finding::Delegated(None) | Finding::NoDs(_) => Ok(Vec::new(alloc)),
+        Finding::Delegated(Some(cut)) => octets_of_name(alloc, cut),
+        Finding::Alias(target) | Finding::WildcardAlias(target) => octets_of_name(alloc, target),
+        Finding::Dname { owner, leads } => octets_of_dname(alloc, owner, leads),
+        Finding::Referral { cut, ds } => octets_of_referral(alloc, cut, ds),
+    }
+}
+
+fn octets_of_name(alloc: Global, name: &Name<Vec<u8>>) -> Result<Vec<u8>, AllocError>
+    ensures { IfOk result (λ v. v.items ≡ wire name.now) }
+{
+    let mut octets = Vec::new(alloc);
+    name.compose(&mut octets)?;
+    Ok(octets)
+}
+
+/// The owner of a DNAME, and behind it where the name leads, if that is a name.
+fn octets_of_dname(
+    alloc: Global,
+    owner: &Name<Vec<u8>>,
+    leads: &Lead,
+) -> Result<Vec<u8>, AllocError>
+    ensures { IfOk result (λ v. v.items ≡ wire owner.now ++ octets_of_lead (lead_seen leads.now)) }
+{
+    let mut octets = octets_of_name(alloc, owner)?;
+    match leads {
+        Lead::TooLong => Ok(octets),
+        Lead::To(name) => {
+            name.compose(&mut octets)?;
+            Ok(octets)
+        }
+    }
+}
+
+/// A cut, and behind it the data of its DS records, each behind its length.
+fn octets_of_referral(
+    alloc: Global,
+    cut: &Name<Vec<u8>>,
+    ds: &DataList,
+) -> Result<Vec<u8>, AllocError>
+    ensures { IfOk result (λ v. v.items ≡ wire cut.now ++ flat_map with_length ds.now) }
+{
+    let mut octets = octets_of_name(alloc, cut)?;
+    let datas = octets_of_data(alloc, ds)?;
+    octets.extend_from_slice(&datas)?;
+    Ok(octets)
+}
+
 /// The data of a verdict, each behind its length; of other verdicts no octets.
 fn octets_of_verdict(alloc: Global, verdict: &Verdict) -> Result<Vec<u8>, AllocError>
-    ensures { IfOk result (λ v. v.items ≡ octets_of_verdict verdict.now) }
+    ensures { IfOk result (λ v. v.items ≡ octets_of_verdict (verdict_of verdict.now)) }
 {
     match verdict {
         Verdict::Records(data) | Verdict::StarRecords(data) => octets_of_data(alloc, data),

@@ -85,6 +85,7 @@ fn replies(
         hashes: 0,
         ttl: 0,
         ede: 0,
+        delegates: 0,
     };
     match judge_octets(alloc, &case, &mut out, &mut report) {
         ReplyCode::OutOfMemory => Err(Refused::Memory),

@@ -59,6 +59,7 @@ fn reply_to(
         hashes: 0,
         ttl: 0,
         ede: 0,
+        delegates: 0,
     };
     let case = OctetCase {
         size: case.size,

@@ -29,6 +29,12 @@ fn text_of_code(code: ReplyCode) -> &'static [u8]
         ReplyCode::Open => b"ZERMUITA_OPTOUT: an opt-out chain leaves open what is there\0",
         ReplyCode::Unsigned =>
             b"ZERMUITA_INSECURE: no DS record can be checked, so nothing vouches for the zone's keys\0",
+        ReplyCode::Alias => b"ZERMUITA_ALIAS: the name has a CNAME record\0",
+        ReplyCode::WildcardAlias =>
+            b"ZERMUITA_WILDCARD_ALIAS: a wildcard stands for the name and has a CNAME record\0",
+        ReplyCode::Dname => b"ZERMUITA_DNAME: a name above has a DNAME record\0",
+        ReplyCode::Referral =>
+            b"ZERMUITA_REFERRAL: the name is at or below a delegation with DS records\0",
         ReplyCode::QuestionNotAllowed =>
             b"ZERMUITA_QUESTION_NOT_ALLOWED: the name is not in the zone, the class is not IN, or the type is not judged\0",
         ReplyCode::BadDnskeyMessage =>

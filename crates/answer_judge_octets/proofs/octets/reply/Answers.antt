@@ -1,5 +1,5 @@
 use Rattle.std.proofs.Common.{inr, subst}
-use Rattle.answer_judge_octets.specs.Replying.{SaysOutcome, reply_seen}
+use Rattle.answer_judge_octets.specs.Replying.{SaysFound, reply_seen}
 use Rattle.answer_judge_octets.specs.ReadCases.{handing_of}
 use Rattle.answer_judge_octets.proofs.octets.reply.Goals as goal
 
@@ -13,5 +13,5 @@ returns-in-Ok-judged c =
       handing = h;
       table = read.table.items;
       spelled = reads.spelled;
-      says = subst (λ error. SaysOutcome case error h read.table.items (reply_seen c.in-Ok-judged.reply)) reads.error_is c.in-Ok-judged.ensures;
+      says = subst (λ error. SaysFound case error h read.table.items (reply_seen c.in-Ok-judged.reply)) reads.error_is c.in-Ok-judged.ensures;
     }

@@ -1,8 +1,0 @@
-use Rattle.std.proofs.Common.{◌≡◌}
-use Rattle.std.specs.List.{list_any}
-use Rattle.answer_findings.specs.declared.hints.Hint.TheVariants as hint
-use Rattle.answer_findings.specs.Hints.{hints_at}
-use Rattle.answer_findings.proofs.hints.any_hints.Given as goal
-
-abbrev pub invariant-loop-record : goal.invariant-loop-record
-invariant-loop-record l = list_any (hints_at l.case hint.Cname) l.records ≡ list_any (hints_at l.case hint.Cname) l.fn.records
