@@ -11,6 +11,7 @@ mod list;
 pub mod octets;
 mod parts;
 pub mod reply;
+mod table_alone;
 
 pub use crate::octets::{OctetCase, Report, judge_octets};
 pub use crate::reply::ReplyCode;

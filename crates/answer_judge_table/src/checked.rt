@@ -49,7 +49,7 @@ pub(crate) fn is_same_key<A: Octets, B: Octets>(key: &Dnskey<A>, other: &Dnskey<
 }
 
 /// What the first entry of a signature says.
-pub fn entry_of(
+pub(crate) fn entry_of(
     table: &[CheckedSignature],
     key: &Dnskey<&[u8]>,
     octets: &[u8],

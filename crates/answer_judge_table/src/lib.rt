@@ -4,12 +4,11 @@
 #![tactic(auto)]
 
 pub mod checked;
-pub mod digests;
+mod digests;
 pub mod judging;
 pub mod outcome;
 mod table_checks;
 
-pub use crate::checked::{CheckedSignature, entry_of};
-pub use crate::digests::digest;
+pub use crate::checked::CheckedSignature;
 pub use crate::judging::judge_by_table;
 pub use crate::outcome::{Ask, Outcome};

@@ -2,7 +2,7 @@
 
 use crate::finding::finding_of;
 use crate::flags::Flags;
-use crate::judging::{IN, Outcome, outcome_of};
+use crate::judging::{IN, Outcome, outcome_of, replied};
 use crate::signatures::Signatures;
 use crate::tally::Tally;
 use crate::words::{ds_set, nothing};
@@ -76,7 +76,13 @@ impl Desk {
     pub fn found(&self, alloc: Global) -> Option<String> {
         let (zone, asked) = (self.zone.as_ref()?, self.asked.as_ref()?);
         let found = finding_of(alloc, &self.signatures, zone, asked, &self.answer)?;
-        format!(in alloc; "find: {found}").ok()
+        let flags = Flags::plain(alloc);
+        let case = self.case_with(zone, asked, &zone.ds, &self.answer, zone.moment, &flags);
+        let said = replied(alloc, &self.signatures, &case)?;
+        if said == found {
+            return format!(in alloc; "find: {found}").ok();
+        }
+        format!(in alloc; "find: {found}; in octets {said}").ok()
     }
 
     /// How many were judged so far.
@@ -119,7 +125,21 @@ impl Desk {
         flags: &Flags,
     ) -> Option<Outcome> {
         let (zone, asked) = (self.zone.as_ref()?, self.asked.as_ref()?);
-        let case = OctetCase {
+        let case = self.case_with(zone, asked, ds, answer, moment, flags);
+        outcome_of(alloc, &self.signatures, &case, &asked.verdict)
+    }
+
+    /// The case of an answer beside a DS set, at a moment, by flags.
+    fn case_with<'a>(
+        &self,
+        zone: &'a Zone,
+        asked: &'a Asked,
+        ds: &'a [u8],
+        answer: &'a [u8],
+        moment: u64,
+        flags: &'a Flags,
+    ) -> OctetCase<'a> {
+        OctetCase {
             size: size_of::<OctetCase>(),
             apex: &zone.apex,
             ds,
@@ -137,8 +157,7 @@ impl Desk {
             max_signatures: flags.max_signatures,
             other_question: u32::from(flags.other_question),
             no_ds: u32::from(ds.is_empty()),
-        };
-        outcome_of(alloc, &self.signatures, &case, &asked.verdict)
+        }
     }
 
     /// What is said of the answer that is held.

@@ -1,10 +1,11 @@
 //! Judgements, their signatures looked up as they are asked for.
 
+use crate::replied::reply_text;
 use crate::signatures::Signatures;
 use crate::tally::Said;
 use answer_judge_octets::{OctetCase, ReplyCode, Report, judge_octets};
 use std::alloc::Global;
-use test_lines::{first_word, text};
+use test_lines::text;
 
 /// The class IN (RFC 1035, 3.2.4).
 pub const IN: u16 = 1;
@@ -124,8 +125,18 @@ pub struct Outcome {
     pub text: String,
 }
 
-/// What the judge says, beside what the zone says, how often was verified and hashed, and the
-/// extended error, if any.
+/// What the last reply to a case says, in print.
+pub fn replied(alloc: Global, signatures: &Signatures, case: &OctetCase) -> Option<String> {
+    let replied = last_reply(alloc, signatures, case)?;
+    reply_text(
+        alloc,
+        replied.code,
+        &replied.octets,
+        replied.report.delegates,
+    )
+}
+
+/// What the judge says, beside what the zone says, and what it took.
 pub fn outcome_of(
     alloc: Global,
     signatures: &Signatures,
@@ -133,13 +144,24 @@ pub fn outcome_of(
     zone: &str,
 ) -> Option<Outcome> {
     let replied = last_reply(alloc, signatures, case)?;
-    let words = words_of(alloc, &replied)?;
-    let said = compared(replied.code, &words, zone);
-    let words = told(alloc, said, &words)?;
-    let (verifications, hashes) = (replied.report.verifications, replied.report.hashes);
-    let error = error_text(alloc, replied.report.ede)?;
-    let text = format!(in alloc; "{words}; {verifications} verified, {hashes} hashed{error}").ok()?;
+    let (code, report) = (replied.code, &replied.report);
+    let words = reply_text(alloc, code, &replied.octets, report.delegates)?;
+    let said = compared(code, &words, zone);
+    let words = told(alloc, said, code, &words)?;
+    let counts = counts_text(alloc, code, report)?;
+    let text = format!(in alloc; "{words}{counts}").ok()?;
     Some(Outcome { said, text })
+}
+
+/// How often was verified and hashed, and the extended error, if any, where one judgement alone
+/// says it; else nothing.
+fn counts_text(alloc: Global, code: ReplyCode, report: &Report) -> Option<String> {
+    if is_beyond(code) || code == ReplyCode::NotProven || report.delegates != 0 {
+        return Some(String::new(alloc));
+    }
+    let (verifications, hashes) = (report.verifications, report.hashes);
+    let error = error_text(alloc, report.ede)?;
+    format!(in alloc; "; {verifications} verified, {hashes} hashed{error}").ok()
 }
 
 /// An extended error in print; where there is none nothing.
@@ -150,13 +172,26 @@ fn error_text(alloc: Global, ede: u16) -> Option<String> {
     format!(in alloc; ", extended error {ede}").ok()
 }
 
-/// Whether a verdict is the zone's, data and all.
+/// Whether a reply rests on judgements for other questions too.
+fn is_beyond(code: ReplyCode) -> bool {
+    code == ReplyCode::Delegated || code == ReplyCode::Referral || is_alias(code)
+}
+
+fn is_alias(code: ReplyCode) -> bool {
+    match code {
+        ReplyCode::Alias | ReplyCode::WildcardAlias | ReplyCode::Dname => true,
+        _ => false,
+    }
+}
+
+/// Whether a verdict is the zone's, data and all; of aliases and delegations the zone's is a word.
 fn compared(code: ReplyCode, words: &str, zone: &str) -> Said {
     match code {
         ReplyCode::Unsigned => Said::Unsigned,
-        ReplyCode::Records | ReplyCode::NoType | ReplyCode::NoName => as_zone(words, zone),
-        ReplyCode::StarRecords | ReplyCode::StarNoType => as_zone(words, zone),
-        ReplyCode::Delegated | ReplyCode::Open => as_zone(words, zone),
+        ReplyCode::NoType => as_zone("NoType", zone),
+        ReplyCode::Delegated | ReplyCode::Referral => as_zone("Delegated", zone),
+        _ if is_alias(code) => as_zone("Alias", zone),
+        _ if code.is_verdict() => as_zone(words, zone),
         _ => Said::Refused,
     }
 }
@@ -169,29 +204,12 @@ fn as_zone(words: &str, zone: &str) -> Said {
     }
 }
 
-/// What was said in print; of the zone's verdict its name alone.
-fn told(alloc: Global, said: Said, words: &str) -> Option<String> {
-    let (name, _data) = first_word(words);
+/// What was said in print; of the zone's verdict its name alone, and where that leads.
+fn told(alloc: Global, said: Said, code: ReplyCode, words: &str) -> Option<String> {
     match said {
-        Said::AsZone => format!(in alloc; "{name} as the zone says").ok(),
+        Said::AsZone if is_beyond(code) => format!(in alloc; "{words}, as the zone says").ok(),
+        Said::AsZone => format!(in alloc; "{code:?} as the zone says").ok(),
         Said::Otherwise => format!(in alloc; "{words}, not as the zone says").ok(),
-        Said::Unsigned => text(alloc, words),
-        Said::Refused => format!(in alloc; "refused {words}").ok(),
+        Said::Unsigned | Said::Refused => text(alloc, words),
     }
-}
-
-/// A code, and the data of its octets joined by commas.
-fn words_of(alloc: Global, replied: &LastReply) -> Option<String> {
-    let code = replied.code;
-    let mut text = format!(in alloc; "{code:?}").ok()?;
-    let mut rest = replied.octets.as_slice();
-    let mut separator = ' ';
-    while let Some((len, behind)) = rest.split_first_chunk::<2>() {
-        let (datum, behind) = behind.split_at_checked(usize::from(u16::from_be_bytes(*len)))?;
-        text.push(separator).ok()?;
-        text.push_str(&hex::encode(alloc, datum).ok()?).ok()?;
-        separator = ',';
-        rest = behind;
-    }
-    Some(text)
 }

@@ -20,7 +20,8 @@
 //!   all its signatures of one inception and expiration; `with as-received`, as its octets stand;
 //!   `with other-question`, where it may answer another question; `with algorithms LIST`, DS
 //!   records of others left out; and `with max-signatures COUNT`.
-//! - `find`: what is found of the answer that is held, beyond the judge's verdict.
+//! - `find`: what is found of the answer that is held, beyond the judge's verdict; and what the
+//!   reply in octets says, where that is otherwise.
 //! - `tally`: how many were judged, and what was said.
 //!
 //! Each line is printed without octets of messages, keys and signatures, or not at all where it has
@@ -31,6 +32,7 @@ mod desk;
 mod finding;
 mod flags;
 mod judging;
+mod replied;
 mod signatures;
 mod tally;
 mod words;
