@@ -47,7 +47,7 @@ def found(zone, qname, rtype, says, judged):
         return "Open" if judged.startswith("Open") else "refused NotProven"
     if word == "Delegated":
         cut = next(it for it in reversed(zone.above(qname)) if it in zone.cuts)
-        return f"Referral {text(cut)} {DS_DATA.hex()}" if judged.startswith("refused") else f"Delegated {text(cut)}"
+        return f"Referral {text(cut)} {DS_DATA.hex()}" if judged.startswith(("refused", "Referral")) else f"Delegated {text(cut)}"
     if word == "NoType" and rtype == DS:
         return "NoDs of a delegation" if qname in zone.cuts else "NoDs of no delegation"
     return says
