@@ -1,9 +1,9 @@
 -- What is replied to a case in octets.
-use Rattle.std.specs.Prelude.{◌≡◌, ℕ, ◌+◌, ◌%◌, ◌≤◌, ◌<◌, ◌==◌, ◌⊎◌, min, Bool, true, false, ◌&&◌, ◌||◌, List, [], ◌∷◌, ◌++◌, drop, filter, length, map, Option, Some, None, Result, Ok, Err, nat_eq, nat_lt, if◌then◌else◌}
+use Rattle.std.specs.Prelude.{◌≡◌, ℕ, ◌+◌, ◌%◌, ◌≤◌, ◌<◌, ◌==◌, ◌⊎◌, min, Bool, true, false, ◌&&◌, ◌||◌, List, [], ◌∷◌, ◌++◌, drop, filter, length, map, Option, Some, None, nat_eq, nat_lt, if◌then◌else◌}
 use Rattle.std.specs.List.{AllByRecursion, flat_map, list_any, starts_with}
 use Rattle.definitions.specs.Dnskey.{Ds}
 use Rattle.definitions.specs.Limits.{pointer_limit}
-use Rattle.definitions.specs.Name.{wire}
+use Rattle.definitions.specs.Name.{Name, wire}
 use Rattle.definitions.specs.Zone.{Verdict, Records, NoType, NoName, StarRecords, StarNoType, Delegated, Open, Unsigned}
 use Rattle.denial_laws.specs.Leading.{Lead, To, TooLong}
 use Rattle.messages_canonical.specs.InForm.{GrowsTooLong, IsInForm}
@@ -249,10 +249,10 @@ octets_of_verdict (Records d) = flat_map with_length d
 octets_of_verdict (StarRecords d) = flat_map with_length d
 octets_of_verdict _ = []
 
--- where a DNAME leads, if that is no name too long
-abbrev pub octets_of_lead : Lead → List ℕ
-octets_of_lead (To name) = wire name
-octets_of_lead TooLong = []
+-- the owner of a DNAME, and behind it where it leads, if that is no name too long
+abbrev pub octets_of_dname : Name → Lead → List ℕ
+octets_of_dname owner (To name) = wire owner ++ wire name
+octets_of_dname owner TooLong = wire owner
 
 -- Names in wire form: the target of an alias, the owner of a DNAME and where it leads, the cut of a delegation; behind that of a
 -- referral its DS records, as the DS set of a case.
@@ -263,7 +263,7 @@ octets_found (SeesDelegated (Some cut)) = wire cut
 octets_found (SeesNoDs d) = []
 octets_found (SeesAlias target) = wire target
 octets_found (SeesStarAlias target) = wire target
-octets_found (SeesDname owner leads) = wire owner ++ octets_of_lead leads
+octets_found (SeesDname owner leads) = octets_of_dname owner leads
 octets_found (SeesReferral cut ds) = wire cut ++ flat_map with_length ds
 
 -- of a name that has no DS record: 1 where it is a delegation, 2 where it is none; 0 where nothing is said of it

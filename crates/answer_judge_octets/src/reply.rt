@@ -8,7 +8,7 @@ ghost use Rattle.answer_findings.specs.Seen.{lead_seen, seen};
 ghost use Rattle.answer_judge_octets.specs.declared.reply.ReplyCode.{ReplyCode};
 ghost use Rattle.answer_judge_table.specs.Asking.{unchecked};
 ghost use Rattle.answer_judge_octets.specs.Written.{FitsChecked, IsLong, IsShort, checked_octets, with_long_length};
-ghost use Rattle.answer_judge_octets.specs.Replying.{AsksOrStops, code_of_refusal, code_of_verdict, code_found, counted, delegates_found, entries_of, error_beside, found_reply, is_refusal, is_verdict, number_of, octets_found, octets_of_lead, octets_of_verdict, only, refusal_reply, reply_seen, ttl_of, until_of};
+ghost use Rattle.answer_judge_octets.specs.Replying.{AsksOrStops, code_of_refusal, code_of_verdict, code_found, counted, delegates_found, entries_of, error_beside, found_reply, is_refusal, is_verdict, number_of, octets_found, octets_of_dname, octets_of_verdict, only, refusal_reply, reply_seen, ttl_of, until_of};
 
 use answer_findings::{Finding, Lead};
 use answer_judge::{DataList, Lasting, Refusal, Verdict};
@@ -368,7 +368,8 @@ fn octets_of_dname(
     owner: &Name<Vec<u8>>,
     leads: &Lead,
 ) -> Result<Vec<u8>, AllocError>
-    ensures { IfOk result (λ v. v.items ≡ wire owner.now ++ octets_of_lead (lead_seen leads.now)) }
+    ensures { IfOk result
+        (λ v. v.items ≡ octets_of_dname owner.now (lead_seen leads.now)) }
 {
     let mut octets = octets_of_name(alloc, owner)?;
     match leads {
