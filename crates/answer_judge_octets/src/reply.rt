@@ -192,7 +192,7 @@ impl Reply {
 
     /// The reply, and how often was verified and hashed for it.
     pub(crate) fn counted(self, verifications: u64, hashes: u64) -> Self
-        ensures { reply_seen result ≡ counted verifications hashes (reply_seen self.entry) }
+        ensures { reply_seen result ≡ counted verifications hashes (reply_seen self) }
     {
         let mut reply = self;
         reply.verifications = verifications;
