@@ -10,6 +10,8 @@
 //! - `answer OCTETS`: holds an answer.
 //! - `error NAME TYPE MOMENT LIMIT`: judges the answer that is held, with a limit of iterations,
 //!   and says why it is refused, and how many signatures are verified to find that out.
+//! - `records NAME TYPE MOMENT LIMIT`: says which records of the answer that is held are verified,
+//!   by their numbers.
 //!
 //! Each line is printed without octets of messages, or not at all where it has nothing else, and
 //! behind it what is said.
@@ -18,6 +20,7 @@
 mod case;
 mod scheme;
 mod told;
+mod verified;
 
 use case::Desk;
 use std::alloc::Global;
@@ -34,6 +37,10 @@ fn reply(alloc: Global, desk: &mut Desk, line: &str) -> Option<String> {
     match name {
         "error" => {
             let said = desk.error(alloc, &words)?;
+            format!(in alloc; "{line}: {said}").ok()
+        }
+        "records" => {
+            let said = desk.records(alloc, &words)?;
             format!(in alloc; "{line}: {said}").ok()
         }
         _ => {

@@ -1,0 +1,182 @@
+//! The records of an answer that some keys verify.
+ghost use Rattle.std.specs.Prelude.{◌≡◌, ◌+◌, ◌<◌, ◌≤◌, ◌^◌, false, IfOk, filter, length, map};
+ghost use Rattle.std.specs.List.{list_any};
+ghost use Rattle.std.specs.List.Sorted.{IsPermutation, IsSortedBy};
+ghost use Rattle.std.specs.Ordering.{is_lt};
+ghost use Rattle.definitions.specs.Limits.{pointer_limit};
+ghost use Rattle.messages.specs.Record.{spelled};
+ghost use Rattle.answer_scheme.specs.Answers.{EachAgreeing, SignatureTest};
+ghost use Rattle.answer_judge_keys.specs.KeyOrder.{Ranks};
+ghost use Rattle.answer_judge_keys.specs.Trusted.{is_signature};
+ghost use Rattle.answer_judge_facts.specs.Judged.{trusting};
+ghost use Rattle.answer_judge_facts.specs.Marked.{held_by, is_chain, is_chain_type, is_proved};
+ghost use Rattle.answer_judge_facts.specs.Ranked.{AreRanked, AskedLast, chain_cmp};
+ghost use Rattle.answer_verified_records.specs.Groups.{is_of_verified};
+ghost use Rattle.answer_verified_records.specs.Records.{numbers_from, verified_in_answer};
+
+use crate::number::RecordNumber;
+use answer_judge::Case;
+use answer_judge_facts::facts::{read_chain_groups, sorted_chain};
+use answer_judge_facts::groups::{Group, place_of, read_group, verify_groups};
+use answer_judge_keys::keys::{TaggedKey, ranked_keys};
+use answer_judge_keys::trust::Trust;
+use answer_judge_keys::verifier::Verifier;
+use answer_scheme::checks::Checks;
+use messages::names::{Name, ZoneName, cow_name};
+use messages::{Owner, ViewRecord};
+use names_rdata::rtype::Rtype;
+use numbers::class::Class;
+use std::alloc::{AllocError, Global};
+
+/// The numbers of the records of a case's answer that some keys verify.
+pub(crate) fn verified_under<C: Checks>(
+    case: &Case,
+    records: &[ViewRecord],
+    keys: &[TaggedKey],
+    verifier: &mut Verifier<C>,
+) -> Result<Vec<RecordNumber>, AllocError>
+    requires room { verifier.old.count + length records.now < 2 ^ 32 }
+    requires other { is_chain_type case.now.asked.rtype ≡ false }
+    ensures exact { EachAgreeing (C.answers verifier.old.checks.now)
+        (C.agrees verifier.new.checks.now) (λ a. let h = case.now in
+        let w = trusting a h keys.now in let rs = map spelled records.now in
+        let m = h.answer_bytes in let q = h.asked.name in let t = h.asked.rtype in
+        IfOk result (λ v. v.items ≡ verified_in_answer w pointer_limit m rs q t)) }
+    ensures agrees { (test : SignatureTest) → C.agrees verifier.new.checks.now test
+        → C.agrees verifier.old.checks.now test }
+    ensures counted { C.verified verifier.new.checks.now + verifier.old.count
+        ≡ C.verified verifier.old.checks.now + verifier.new.count }
+    ensures bound { let rs = map spelled records.now in
+        verifier.new.count ≤ verifier.old.count + length (filter is_signature rs) }
+    ensures hashed { C.hashed verifier.new.checks.now ≡ C.hashed verifier.old.checks.now }
+    ensures same { C.answers verifier.new.checks.now ≡ C.answers verifier.old.checks.now }
+    ensures same_checks { verifier.new.checks.ghost_name ≡ verifier.old.checks.ghost_name }
+{
+    let by_tag = ranked_keys(verifier.alloc, keys)?;
+    let trust = Trust {
+        apex: case.apex,
+        depth: case.apex.depth(),
+        keys,
+        ranked: &by_tag,
+        moment: case.moment.timestamp(),
+    };
+    let question = case.question;
+    verified_in_answer(
+        case.answer,
+        records,
+        &trust,
+        &question.name,
+        question.rtype,
+        verifier,
+    )
+}
+
+/// The numbers of the records that signatures verify: of the RRset that was asked for, and of
+/// records of chains, NSEC and NSEC3.
+fn verified_in_answer<C: Checks>(
+    message: &[u8],
+    records: &[ViewRecord],
+    trust: &Trust,
+    name: &Name<Vec<u8>>,
+    rtype: Rtype,
+    verifier: &mut Verifier<C>,
+) -> Result<Vec<RecordNumber>, AllocError>
+    requires index { Ranks trust.now.keys.now trust.now.ranked.now }
+    requires room { verifier.old.count + length records.now < 2 ^ 32 }
+    requires other { is_chain_type rtype ≡ false }
+    ensures exact { EachAgreeing (C.answers verifier.old.checks.now)
+        (C.agrees verifier.new.checks.now) (λ a. let w = held_by a trust.now in
+        let m = message.now in let rs = map spelled records.now in
+        IfOk result (λ v. v.items ≡ verified_in_answer w pointer_limit m rs name.now rtype)) }
+    ensures agrees { (test : SignatureTest) → C.agrees verifier.new.checks.now test
+        → C.agrees verifier.old.checks.now test }
+    ensures counted { C.verified verifier.new.checks.now + verifier.old.count
+        ≡ C.verified verifier.old.checks.now + verifier.new.count }
+    ensures bound { let rs = map spelled records.now in
+        verifier.new.count ≤ verifier.old.count + length (filter is_signature rs) }
+    ensures hashed { C.hashed verifier.new.checks.now ≡ C.hashed verifier.old.checks.now }
+    ensures same { C.answers verifier.new.checks.now ≡ C.answers verifier.old.checks.now }
+    ensures same_checks { verifier.new.checks.ghost_name ≡ verifier.old.checks.ghost_name }
+{
+    let alloc = verifier.alloc;
+    let chained = sorted_chain(alloc, records)?;
+    let mut groups = sought_groups(alloc, trust.apex, message, records, &chained, name, rtype)?;
+    verify_groups(message, records, trust, &mut groups, verifier)?;
+    numbers_of_verified(alloc, message, records, &groups)
+}
+
+/// The RRsets that are sought: those of chains' records in their order, behind them the one that
+/// was asked for.
+fn sought_groups<'r>(
+    alloc: Global,
+    apex: &Name<Vec<u8>>,
+    message: &'r [u8],
+    records: &[ViewRecord],
+    chained: &'r [ViewRecord],
+    name: &'r Name<Vec<u8>>,
+    rtype: Rtype,
+) -> Result<Vec<Group<'r>>, AllocError>
+    requires moved { let rs = filter is_chain (map spelled records.now) in
+        IsPermutation rs (map spelled chained.now) }
+    requires sorted { IsSortedBy (λ a b. is_lt (chain_cmp a b)) (map spelled chained.now) }
+    requires other { is_chain_type rtype ≡ false }
+    ensures { let rs = map spelled records.now in
+        IfOk result (λ gs. AskedLast message.now apex.now rs name.now rtype gs.items) }
+{
+    let mut groups = read_chain_groups(alloc, apex, message, chained)?;
+    let owner = cow_name(alloc, name)?;
+    groups.push(read_group(alloc, message, records, owner, rtype)?)?;
+    Ok(groups)
+}
+
+/// The numbers of the records of verified RRsets.
+fn numbers_of_verified(
+    alloc: Global,
+    message: &[u8],
+    records: &[ViewRecord],
+    groups: &[Group],
+) -> Result<Vec<RecordNumber>, AllocError>
+    requires ranked { AreRanked groups.now }
+    requires room { length records.now < 2 ^ 32 }
+    ensures { let rs = map spelled records.now in
+        IfOk result (λ v. v.items ≡ numbers_from (is_of_verified message.now groups.now) 0 rs) }
+{
+    let mut numbers = Vec::new(alloc);
+    let mut number: u32 = 0;
+    for record in records {
+        if is_of_verified(alloc, message, record, groups)? {
+            numbers.push(RecordNumber::new(number))?;
+        }
+        number += 1;
+    }
+    Ok(numbers)
+}
+
+/// Whether a record, of class IN, is of one of the RRsets that are verified. One whose data do not
+/// read is of none, since no signature covers it.
+fn is_of_verified(
+    alloc: Global,
+    message: &[u8],
+    record: &ViewRecord,
+    groups: &[Group],
+) -> Result<bool, AllocError>
+    requires { AreRanked groups.now }
+    ensures { IfOk result
+        (λ b. b ≡ is_of_verified message.now groups.now (spelled record.now)) }
+{
+    if record.class != Class::IN || !is_verified(groups, &record.owner, record.rtype) {
+        return Ok(false);
+    }
+    Ok(record.canonical_cow(alloc, message)?.is_some())
+}
+
+/// Whether an owner has one of the groups of a type, and that is verified.
+fn is_verified(groups: &[Group], owner: &Owner, rtype: Rtype) -> bool
+    requires ranked { AreRanked groups.now }
+    ensures { result ≡ list_any (is_proved owner.now rtype) groups.now }
+{
+    match place_of(groups, owner, rtype) {
+        None => false,
+        Some(place) => groups[place].verified.is_some(),
+    }
+}

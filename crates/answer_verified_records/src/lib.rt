@@ -1,0 +1,13 @@
+//! The records of an answer that signatures verify, by their numbers in the message (RFC 4035,
+//! 5.3).
+#![tactic(auto)]
+
+mod answer;
+mod keys;
+pub mod laws;
+mod listed;
+pub mod number;
+pub mod records;
+
+pub use crate::number::RecordNumber;
+pub use crate::records::verified_records;
