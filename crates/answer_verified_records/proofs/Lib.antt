@@ -1,0 +1,4 @@
+pub mod ChainVerdicts
+pub mod ReadCase
+pub mod VerdictData
+pub mod VerifiedGroups

@@ -142,12 +142,10 @@ fn numbers_of_verified(
         IfOk result (λ v. v.items ≡ numbers_from (is_of_verified message.now groups.now) 0 rs) }
 {
     let mut numbers = Vec::new(alloc);
-    let mut number: u32 = 0;
-    for record in records {
+    for (number, record) in records.iter().enumerate() {
         if is_of_verified(alloc, message, record, groups)? {
-            numbers.push(RecordNumber::new(number))?;
+            numbers.push(RecordNumber::new(number as u32))?;
         }
-        number += 1;
     }
     Ok(numbers)
 }
