@@ -1,0 +1,35 @@
+use Rattle.std.proofs.Common.{◌≡◌, ℕ, Bool, true, false, List, map, filter, refl, sym, ap, subst, ◌∙◌}
+use Rattle.std.specs.Prelude.{Option, Some, None, if◌then◌else◌}
+use Rattle.definitions.specs.Dnskey.{Dnskey, dnskey_data}
+use Rattle.definitions.specs.Limits.{pointer_limit}
+use Rattle.definitions.specs.Zone.{sorted_data}
+use Rattle.messages.specs.Message.{Spelled}
+use Rattle.messages.specs.Record.{spelled}
+use Rattle.answer_scheme.specs.Answers.{Answers, SignatureTest, with_test}
+use Rattle.answer_judge.specs.Stages.{are_signed, trusting_named}
+use Rattle.answer_judge_keys.specs.Judging.{Handing}
+use Rattle.answer_judge_keys.specs.KeyOrder.{Ranks}
+use Rattle.answer_judge_keys.specs.Trusted.{is_trusted, is_usable}
+use Rattle.answer_judge_facts.specs.Verified.{Trusting, is_verified}
+use Rattle.answer_judge_facts.proofs.JudgeAsked.{agreed_by}
+use Rattle.answer_verified_records.specs.Records.{signing_keys}
+use Rattle.answer_verified_records.proofs.keys.signing_keys.Goals as goal
+
+pub are_verified-requires-clause-index : goal.are_verified-requires-clause-index
+are_verified-requires-clause-index g c =
+    subst (λ ks. Ranks ks c.deref-4.result.now) (sym c.deref-3.ensures.value)
+    (subst (λ vs. Ranks c.in_ok-trusted.trusted.items vs) (sym c.deref-4.ensures.value) (subst (λ ks. Ranks ks c.in_ok-by_tag.by_tag.items) c.deref-2.ensures.value c.in_ok-by_tag.ensures))
+
+-- what was found out of the keys, said of what is handed in
+module _ (own : Answers) (test : SignatureTest) (h now : Handing) (is : now ≡ h) (rs : List Spelled) (ks held trusted : List Dnskey) (named : trusted ≡ filter (is_trusted own h.apex h.ds) ks) (items : held ≡ ks) (checks : Answers) (same : checks ≡ own) (moment : ℕ) (at : moment ≡ h.now) where
+  abbrev w : Trusting
+  w = record { answers = with_test checks test; apex = now.apex; keys = trusted; now = moment }
+
+  w_is : w ≡ trusting_named (with_test own test) h ks
+  w_is = λ i. record { answers = with_test (same i) test; apex = (is i).apex; keys = named i; now = at i }
+
+  found_out : (b : Bool) → b ≡ is_verified w pointer_limit now.dnskey_bytes rs now.apex 48 (sorted_data (map dnskey_data held)) → b ≡ are_signed (with_test own test) pointer_limit h rs ks
+  found_out b signed = signed ∙ (λ i. is_verified (w_is i) pointer_limit (is i).dnskey_bytes rs (is i).apex 48 (sorted_data (map dnskey_data (items i))))
+
+  signing_by : (b c : Bool) → b ≡ c → c ≡ is_verified w pointer_limit now.dnskey_bytes rs now.apex 48 (sorted_data (map dnskey_data held)) → (if b then Some (filter is_usable ks) else None) ≡ signing_keys (with_test own test) pointer_limit h rs ks
+  signing_by b c e signed = ap (λ x. if x then Some (filter is_usable ks) else None) (e ∙ found_out c signed)
