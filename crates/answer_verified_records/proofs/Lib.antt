@@ -1,4 +1,5 @@
 pub mod ChainVerdicts
 pub mod ReadCase
+pub mod SigningKeys
 pub mod VerdictData
 pub mod VerifiedGroups

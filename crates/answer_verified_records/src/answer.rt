@@ -29,10 +29,10 @@ use numbers::class::Class;
 use std::alloc::{AllocError, Global};
 
 /// The numbers of the records of a case's answer that some keys verify.
-pub(crate) fn verified_under<C: Checks>(
-    case: &Case,
+pub(crate) fn verified_under<'a, C: Checks>(
+    case: &Case<'a>,
     records: &[ViewRecord],
-    keys: &[TaggedKey],
+    keys: &'a [TaggedKey<'a>],
     verifier: &mut Verifier<C>,
 ) -> Result<Vec<RecordNumber>, AllocError>
     requires room { verifier.old.count + length records.now < 2 ^ 32 }
@@ -155,17 +155,17 @@ fn numbers_of_verified(
 fn is_of_verified(
     alloc: Global,
     message: &[u8],
-    record: &ViewRecord,
+    view: &ViewRecord,
     groups: &[Group],
 ) -> Result<bool, AllocError>
     requires { AreRanked groups.now }
     ensures { IfOk result
-        (λ b. b ≡ is_of_verified message.now groups.now (spelled record.now)) }
+        (λ b. b ≡ is_of_verified message.now groups.now (spelled view.now)) }
 {
-    if record.class != Class::IN || !is_verified(groups, &record.owner, record.rtype) {
+    if view.class != Class::IN || !is_verified(groups, &view.owner, view.rtype) {
         return Ok(false);
     }
-    Ok(record.canonical_cow(alloc, message)?.is_some())
+    Ok(view.canonical_cow(alloc, message)?.is_some())
 }
 
 /// Whether an owner has one of the groups of a type, and that is verified.

@@ -55,7 +55,7 @@ fn verified_in_messages<C: Checks>(
     verifier: &mut Verifier<C>,
 ) -> Result<Vec<RecordNumber>, AllocError>
     requires none_yet { verifier.old.count ≡ 0 }
-    requires read { IsReadOf case.now messages.entry }
+    requires read { IsReadOf case.now messages }
     ensures exact { EachAgreeing (C.answers verifier.old.checks.now)
         (C.agrees verifier.new.checks.now) (λ a. let h = case.now in
         let keys = messages.entry.keys.view in let answer = messages.entry.answer.view in
@@ -76,5 +76,5 @@ fn verified_in_messages<C: Checks>(
     let Some(usable) = signing_keys(case, &keys.records, tagged, verifier)? else {
         return Ok(Vec::new(verifier.alloc));
     };
-    verified_under(case, &answer.records, &usable, verifier)
+    verified_under(&*case, &answer.records, &usable, verifier)
 }

@@ -31,5 +31,28 @@ module _ (own : Answers) (test : SignatureTest) (h now : Handing) (is : now ≡ 
   found_out : (b : Bool) → b ≡ is_verified w pointer_limit now.dnskey_bytes rs now.apex 48 (sorted_data (map dnskey_data held)) → b ≡ are_signed (with_test own test) pointer_limit h rs ks
   found_out b signed = signed ∙ (λ i. is_verified (w_is i) pointer_limit (is i).dnskey_bytes rs (is i).apex 48 (sorted_data (map dnskey_data (items i))))
 
-  signing_by : (b c : Bool) → b ≡ c → c ≡ is_verified w pointer_limit now.dnskey_bytes rs now.apex 48 (sorted_data (map dnskey_data held)) → (if b then Some (filter is_usable ks) else None) ≡ signing_keys (with_test own test) pointer_limit h rs ks
-  signing_by b c e signed = ap (λ x. if x then Some (filter is_usable ks) else None) (e ∙ found_out c signed)
+pub returns-then-branch-clause-exact : goal.returns-then-branch-clause-exact
+returns-then-branch-clause-exact g c = λ test fits.
+    let own = g.C.Checks.answers c.args.verifier.now.checks.now in
+    let is = c.case.view_is in
+    let moment = c.timestamp.ensures ∙ ap (λ (h : Handing). h.now) is in
+    let rest = c.in_ok-trusted.ensures.rest in
+    let same = ap (λ v. g.C.Checks.answers v.checks.now) rest in
+    let named = c.deref-3.ensures.value ∙ c.in_ok-trusted.ensures.trusted ∙ (λ i. filter (is_trusted own (is i).apex (is i).ds) (c.deref.ensures.value i)) in
+    let first = agreed_by own _ test _ same fits in
+    let ks = c.args.keys.items in
+    let found = found_out own test c.args.case.now _ is (map spelled c.args.records.now) ks c.deref-5.result.now c.deref-3.result.now named c.deref-5.ensures.value _ same _ moment _ (c.in_ok-are_verified.ensures.exact test first) in
+    ap (λ (us : List Dnskey). Some us) c.usable_keys.ensures ∙ ap (λ (b : Bool). if b then Some (filter is_usable ks) else None) (sym c.if-branch.true ∙ found)
+
+pub returns-clause-exact : goal.returns-clause-exact
+returns-clause-exact g c = λ test fits.
+    let own = g.C.Checks.answers c.args.verifier.now.checks.now in
+    let is = c.case.view_is in
+    let moment = c.timestamp.ensures ∙ ap (λ (h : Handing). h.now) is in
+    let rest = c.in_ok-trusted.ensures.rest in
+    let same = ap (λ v. g.C.Checks.answers v.checks.now) rest in
+    let named = c.deref-3.ensures.value ∙ c.in_ok-trusted.ensures.trusted ∙ (λ i. filter (is_trusted own (is i).apex (is i).ds) (c.deref.ensures.value i)) in
+    let first = agreed_by own _ test _ same fits in
+    let ks = c.args.keys.items in
+    let found = found_out own test c.args.case.now _ is (map spelled c.args.records.now) ks c.deref-5.result.now c.deref-3.result.now named c.deref-5.ensures.value _ same _ moment _ (c.in_ok-are_verified.ensures.exact test first) in
+    ap (λ (b : Bool). if b then Some (filter is_usable ks) else None) (sym c.if-branch.false ∙ found)
