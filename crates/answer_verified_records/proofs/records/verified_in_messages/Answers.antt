@@ -18,7 +18,7 @@ returns-in_default-clause-exact g c = λ test fits.
     let r = c.args.messages in
     let rs : map spelled c.deref.result.now ≡ r.keys.view.records = ap (map spelled) c.deref.ensures.value ∙ c.requires.read.keys_listed.are in
     let none : None ≡ signing_keys a pointer_limit h (map spelled c.deref.result.now) r.tagged.items = rw c.in_default.is at c.in_ok-usable.ensures.exact test fits in
-    unsigned a pointer_limit h r.keys.view r.answer.view (none ∙ (λ i. signing_keys a pointer_limit h (rs i) (c.requires.read.tagged i)))
+    c.new.ensures.items ∙ unsigned a pointer_limit h r.keys.view r.answer.view (none ∙ (λ i. signing_keys a pointer_limit h (rs i) (c.requires.read.tagged i)))
 
 pub returns-clause-exact : goal.returns-clause-exact
 returns-clause-exact g c = λ test fits.
