@@ -3,11 +3,10 @@ use Rattle.std.proofs.Common.{◌≡◌, ℕ, Bool, true, false, not, ◌&&◌, 
 use Rattle.std.specs.Prelude.{Option, Some, None, Result, Ok, Err, nat_eq, if◌then◌else◌}
 use Rattle.std.specs.Result.{result_ok}
 use Rattle.std.proofs.lemmas.Bool.{or_parts}
-use Rattle.denial_laws.specs.Truth.{is_added_type}
-use Rattle.messages.specs.Message.{Asked, Message, message}
+use Rattle.messages.specs.Message.{Message, message}
 use Rattle.messages.specs.declared.error.MessageError.{MessageError}
 use Rattle.answer_shared.specs.EqualTags.{has_equal_tags}
-use Rattle.answer_judge_keys.specs.Judging.{Handing, is_judged, keys_in, may_ask, message_refusal, same_question, signatures_in}
+use Rattle.answer_judge_keys.specs.Judging.{Handing, is_judged, keys_in, may_ask, same_question, signatures_in}
 use Rattle.answer_judge_keys.specs.Trusted.{is_signature}
 use Rattle.answer_judge_keys.specs.declared.verdict.Refusal.{Refusal}
 use Rattle.answer_judge_keys.specs.declared.verdict.Refusal.TheVariants as r

@@ -1,19 +1,17 @@
 -- Where a judge says which data there are, the verified records of the question's type have exactly these.
 use Rattle.std.proofs.Common.{◌≡◌, ℕ, zero, suc, Bool, true, false, not, ◌&&◌, ◌||◌, ◌==◌, List, [], ◌∷◌, drop, filter, length, refl, sym, ap, ◌∙◌}
-use Rattle.std.specs.Prelude.{Option, Some, None, Result, Ok, Err, cond, is_some, nat_eq, slice_get, if◌then◌else◌}
+use Rattle.std.specs.Prelude.{Option, Some, None, Result, Ok, cond, is_some, nat_eq, slice_get, if◌then◌else◌}
 use Rattle.std.specs.List.{cons_option, filter_map}
-use Rattle.std.specs.Option.{option_map}
 use Rattle.std.proofs.lemmas.Bool.{eq-eqb, eqb-true, false≢true, or_parts}
-use Rattle.definitions.specs.Dnskey.{Dnskey}
-use Rattle.definitions.specs.Name.{Name, labels_eq, low, same}
+use Rattle.definitions.specs.Name.{Name, low, same}
 use Rattle.definitions.specs.Signing.{Fields}
 use Rattle.definitions.specs.Zone.{Verdict, Records, StarRecords, Unsigned, sorted_data}
-use Rattle.denial_laws.specs.Facts.{Facts, Rrset}
+use Rattle.denial_laws.specs.Facts.{Rrset}
 use Rattle.messages.specs.Message.{Message, Spelled, canonical_data, message}
 use Rattle.messages.specs.declared.error.MessageError.{MessageError}
 use Rattle.messages.proofs.ZoneNames.{same_labels}
 use Rattle.answer_scheme.specs.Answers.{Answers}
-use Rattle.answer_judge_keys.specs.Judging.{Answer, Handing, Refuses, Says, first_refusal, is_judged, message_refusal}
+use Rattle.answer_judge_keys.specs.Judging.{Answer, Handing, Refuses, Says, first_refusal, message_refusal}
 use Rattle.answer_judge_keys.specs.Trusted.{is_usable}
 use Rattle.answer_judge_keys.specs.declared.verdict.Refusal.{Refusal}
 use Rattle.answer_judge_keys.specs.declared.verdict.Refusal.TheVariants as r
@@ -28,7 +26,7 @@ use Rattle.answer_judge_facts.proofs.JudgeTried.{eq_swap}
 use Rattle.answer_judge.proofs.JudgedSays.{IsSaid, facts_of, judged_says}
 use Rattle.answer_judge.proofs.JudgedTypes.{judged_type}
 use Rattle.answer_verified_records.specs.Laws.{HaveData, VerdictsAreVerified, data_of_type, records_of}
-use Rattle.answer_verified_records.specs.Records.{both_spelled, is_verified_record, numbers_from, signing_keys, verified_in_answer, verified_in_messages, verified_records}
+use Rattle.answer_verified_records.specs.Records.{both_spelled, is_verified_record, numbers_from, verified_in_answer, verified_in_messages, verified_records}
 use Rattle.answer_verified_records.proofs.ChainVerdicts.{decided_tells, told_data}
 
 -- ---- records by their numbers

@@ -1,5 +1,5 @@
 -- The records of groups that are verified are those that the definitions verify.
-use Rattle.std.proofs.Common.{◌≡◌, ℕ, suc, ◌+◌, ◌<◌, Bool, true, false, ◌&&◌, ◌||◌, ◌==◌, List, [], ◌∷◌, ◌++◌, drop, get_or, map, length, refl, sym, ap, ◌∙◌, arith, add-one}
+use Rattle.std.proofs.Common.{◌≡◌, ℕ, suc, ◌+◌, ◌<◌, Bool, true, false, ◌&&◌, ◌||◌, ◌==◌, List, [], ◌∷◌, ◌++◌, drop, get_or, map, length, refl, sym, ap, ◌∙◌, add-one}
 use Rattle.std.specs.Prelude.{None, is_some, if◌then◌else◌}
 use Rattle.std.specs.List.{AllByRecursion, list_any}
 use Rattle.std.proofs.lemmas.Bool.{and_parts, eqb-true}
@@ -12,7 +12,7 @@ use Rattle.messages.proofs.Lists.{items_from, list_any-map}
 use Rattle.messages.proofs.ZoneNames.{same_labels}
 use Rattle.answer_judge_facts.specs.Marked.{data_in, is_of, is_proved, marked}
 use Rattle.answer_judge_facts.specs.Sought.{Sought, answer_sought}
-use Rattle.answer_judge_facts.specs.Verified.{Trusting, is_verified, rrset_in}
+use Rattle.answer_judge_facts.specs.Verified.{Trusting, is_verified}
 use Rattle.answer_judge_facts.specs.declared.groups.Group.{Group}
 use Rattle.answer_judge_facts.proofs.JudgeCase.{is_verified-owner}
 use Rattle.answer_judge_facts.proofs.JudgeCounted.{AreSought, any_alike}

@@ -1,5 +1,5 @@
 -- Which records of an answer are verified (RFC 4035, 5.3).
-use Rattle.std.specs.Prelude.{ℕ, suc, Bool, true, false, not, ◌&&◌, ◌||◌, ◌==◌, List, [], ◌∷◌, filter, length, Option, Some, None, Result, Ok, Err, is_some, nat_eq, if◌then◌else◌}
+use Rattle.std.specs.Prelude.{ℕ, suc, Bool, not, ◌&&◌, ◌||◌, ◌==◌, List, [], ◌∷◌, filter, length, Option, Some, None, Result, Ok, Err, is_some, nat_eq, if◌then◌else◌}
 use Rattle.definitions.specs.Dnskey.{Dnskey}
 use Rattle.definitions.specs.Name.{Name}
 use Rattle.messages.specs.Message.{Message, Spelled, canonical_data, message}

@@ -1,8 +1,7 @@
-use Rattle.std.proofs.Common.{◌≡◌, ◌⊎◌, inl, length, map, sym, refl, subst, ◌∙◌, filter, rules}
+use Rattle.std.proofs.Common.{◌≡◌, inl, length, map, sym, refl, subst, ◌∙◌, filter, rules}
 use Rattle.std.specs.Prelude.{IfOk}
 use Rattle.std.specs.List.Sorted.{IsPermutation, IsSortedBy}
 use Rattle.std.specs.Ordering.{is_lt}
-use Rattle.definitions.specs.Limits.{pointer_limit}
 use Rattle.messages.specs.Record.{spelled}
 use Rattle.answer_scheme.specs.Answers.{with_test}
 use Rattle.answer_judge_facts.specs.Marked.{held_by, is_chain}

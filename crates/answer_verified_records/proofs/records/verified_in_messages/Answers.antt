@@ -1,10 +1,8 @@
-use Rattle.std.proofs.Common.{◌≡◌, filter, length, map, sym, ap, subst, ◌∙◌, arith}
+use Rattle.std.proofs.Common.{◌≡◌, map, ap, subst, ◌∙◌}
 use Rattle.std.specs.Prelude.{IfOk, None, Some}
 use Rattle.definitions.specs.Limits.{pointer_limit}
-use Rattle.messages.specs.Message.{Spelled}
 use Rattle.messages.specs.Record.{spelled}
 use Rattle.answer_scheme.specs.Answers.{Answers, with_test}
-use Rattle.answer_judge_keys.specs.Trusted.{is_signature}
 use Rattle.answer_judge_facts.specs.Judged.{trusting}
 use Rattle.answer_judge_facts.proofs.JudgeAsked.{agreed, agreed_by}
 use Rattle.answer_verified_records.specs.Records.{signing_keys, verified_in_answer}
