@@ -45,47 +45,33 @@ impl Desk {
         Some(())
     }
 
-    /// The extended error that is said of the answer that is held.
-    pub fn error(&self, alloc: Global, words: &[&str]) -> Option<String> {
+    /// What a line says of the answer that is held: the extended error, or which records are
+    /// verified.
+    pub fn said(&self, alloc: Global, line: &str, words: &[&str]) -> Option<String> {
         let [name, rtype, moment, limit] = words else {
             return None;
         };
-        let question = question(alloc, name, rtype)?;
-        told(alloc, &self.case(&question, moment, limit)?)
-    }
-
-    /// Which records of the answer that is held are verified.
-    pub fn records(&self, alloc: Global, words: &[&str]) -> Option<String> {
-        let [name, rtype, moment, limit] = words else {
-            return None;
+        let question = Question {
+            name: Name::vec_from_str(alloc, name).ok()?,
+            rtype: Rtype::from_int(rtype.parse::<u16>().ok()?),
+            class: Class::IN,
         };
-        let question = question(alloc, name, rtype)?;
-        verified(alloc, &self.case(&question, moment, limit)?)
-    }
-
-    /// What is handed in, with a question.
-    fn case<'a>(&'a self, question: &'a Question, moment: &str, limit: &str) -> Option<Case<'a>> {
-        Some(Case {
+        let case = Case {
             apex: self.apex.as_ref()?,
             ds: &self.set,
             dnskey: &self.keys,
             answer: &self.answer,
-            question,
+            question: &question,
             moment: UnixTime::new(Duration::from_secs(moment.parse::<u64>().ok()?)),
             limit: limit.parse::<u16>().ok()?,
             one_moment: true,
             other_question: false,
-        })
+        };
+        if line == "records" {
+            return verified(alloc, &case);
+        }
+        told(alloc, &case)
     }
-}
-
-/// A question of class IN.
-fn question(alloc: Global, name: &str, rtype: &str) -> Option<Question> {
-    Some(Question {
-        name: Name::vec_from_str(alloc, name).ok()?,
-        rtype: Rtype::from_int(rtype.parse::<u16>().ok()?),
-        class: Class::IN,
-    })
 }
 
 /// DS records of tags and digest types, as `1054:2`, of algorithm 13 and the digest that is made.

@@ -35,12 +35,8 @@ fn reply(alloc: Global, desk: &mut Desk, line: &str) -> Option<String> {
     let (name, rest) = first_word(line);
     let words = words(alloc, rest)?;
     match name {
-        "error" => {
-            let said = desk.error(alloc, &words)?;
-            format!(in alloc; "{line}: {said}").ok()
-        }
-        "records" => {
-            let said = desk.records(alloc, &words)?;
+        "error" | "records" => {
+            let said = desk.said(alloc, name, &words)?;
             format!(in alloc; "{line}: {said}").ok()
         }
         _ => {
