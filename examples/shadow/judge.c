@@ -5,7 +5,7 @@
 
 #include <stdlib.h>
 
-enum { MOST_ROOM = 1 << 22, KEPT_ZONES = 4096, KEPT_OCTETS = 1 << 24 };
+enum { RRSIG_FIELDS = 18, MOST_ROOM = 1 << 22, KEPT_ZONES = 4096, KEPT_OCTETS = 1 << 24 };
 
 /* Octets that grow. */
 struct room {
@@ -137,6 +137,26 @@ static void keep_keys(struct judge *judge, const struct name *apex, size_t old) 
     }
     table_put(judge->keys, apex, TYPE_DNSKEY, (struct octets){kept.data, kept.len}, (struct octets){NULL, 0}, UINT64_MAX);
     free(kept.data);
+}
+
+static bool octets_equal(struct zermuita_octets one, struct octets other) {
+    return one.len == other.len && memcmp(one.data, other.data, other.len) == 0;
+}
+
+bool judge_passed(const struct judge *judge, struct octets data, struct octets signature, struct passed *passed) {
+    struct zermuita_ask ask;
+    uint8_t *next = judge->checked.data;
+    size_t len = judge->checked.len;
+    while (zermuita_next_ask(&next, &len, &ask)) {
+        bool is_same = octets_equal(ask.signature, signature) && ask.octets.len >= RRSIG_FIELDS && data.len >= RRSIG_FIELDS
+                       && memcmp(ask.octets.data, data.data, RRSIG_FIELDS) == 0;
+        if (is_same && *ask.passes == 1) {
+            passed->dnskey = (struct octets){ask.dnskey.data, ask.dnskey.len};
+            passed->octets = (struct octets){ask.octets.data, ask.octets.len};
+            return true;
+        }
+    }
+    return false;
 }
 
 static enum finding finding_of(enum zermuita_reply reply) {

@@ -122,6 +122,9 @@ static void take_rest(struct run *run) {
         }
     }
     compare_waiting(run, true);
+    if (run->shadow.explainer != NULL) {
+        end_explaining(run->shadow.explainer);
+    }
     report(run);
 }
 
@@ -136,6 +139,9 @@ static void open_shadow(struct shadow *shadow, const struct options *options, co
     if (shadow->log == NULL) {
         die(options->log);
     }
+    shadow->explainer = options->explain != NULL
+                            ? or_die(make_explainer(options->explain, options->explanations, shadow->log), "no thread")
+                            : NULL;
 }
 
 static void close_shadow(struct shadow *shadow) {
@@ -143,6 +149,7 @@ static void close_shadow(struct shadow *shadow) {
     free_chain(shadow->chain);
     free_table(shadow->answers);
     free_asker(shadow->asker);
+    free_explainer(shadow->explainer);
     if (fclose(shadow->log) != 0) {
         die("log");
     }

@@ -1,13 +1,11 @@
 #include "message.h"
 
 #include <ctype.h>
+
 enum { OPTION_EDE = 15 };
 
-/*
- * Reads the name at a place. Gives the place behind it, or 0 where there is none. Pointers lead backwards alone, so reading
- * ends.
- */
-static size_t read_name(struct octets all, size_t at, struct name *name) {
+/* Pointers lead backwards alone, so reading ends. */
+size_t read_name(struct octets all, size_t at, struct name *name) {
     size_t end = 0, before = at;
     name->len = 0;
     while (at < all.len && all.data[at] != 0) {
@@ -95,7 +93,9 @@ bool read_signature(const struct message *message, const struct record *record, 
     signature->original_ttl = number32(data + 4);
     signature->expiration = number32(data + 8);
     struct octets up_to_end = {message->octets.data, (size_t)(data - message->octets.data) + record->data.len};
-    return read_name(up_to_end, (size_t)(data - message->octets.data) + 18, &signature->signer) != 0;
+    size_t behind = read_name(up_to_end, (size_t)(data - message->octets.data) + 18, &signature->signer);
+    signature->octets = (struct octets){message->octets.data + behind, up_to_end.len - behind};
+    return behind != 0;
 }
 
 bool is_signed_by(const struct message *message, const struct name *signer) {
@@ -196,33 +196,18 @@ bool is_referral(const struct message *message, struct name *cut) {
     return has_servers && is_at_or_below(&message->qname, cut);
 }
 
-/* Octets that are written as far as there is room. */
-struct written {
-    uint8_t *out;
-    size_t len, room;
-};
-
-static void put(struct written *to, const void *octets, size_t len) {
-    if (to->len <= to->room && to->room - to->len >= len) {
-        memcpy(to->out + to->len, octets, len);
-        to->len += len;
-    } else {
-        to->len = to->room + 1;
-    }
-}
-
-static void put16(struct written *to, unsigned number) {
-    put(to, (uint8_t[]){(uint8_t)(number >> 8), (uint8_t)number}, 2);
+void write_head(struct written *to, const struct record *record) {
+    write_octets(to, record->owner.octets, record->owner.len);
+    write16(to, record->rtype);
+    write16(to, record->rclass);
+    write16(to, record->ttl >> 16);
+    write16(to, record->ttl & 0xffff);
 }
 
 static void put_record(struct written *to, const struct record *record) {
-    put(to, record->owner.octets, record->owner.len);
-    put16(to, record->rtype);
-    put16(to, record->rclass);
-    put16(to, record->ttl >> 16);
-    put16(to, record->ttl & 0xffff);
-    put16(to, (unsigned)record->data.len);
-    put(to, record->data.data, record->data.len);
+    write_head(to, record);
+    write16(to, (unsigned)record->data.len);
+    write_octets(to, record->data.data, record->data.len);
 }
 
 /* Writes the records of a message that are of the DS set of a name, or else those of the chain. Gives how many. */
@@ -243,10 +228,10 @@ static unsigned put_records(struct written *to, const struct message *message, c
 
 size_t write_ds_answer(const struct message *message, const struct name *cut, uint8_t *out, size_t room) {
     struct written to = {out, 0, room};
-    put(&to, (uint8_t[HEADER]){0, 0, FLAG_QR >> 8, 0, 0, 1}, HEADER);
-    put(&to, cut->octets, cut->len);
-    put16(&to, TYPE_DS);
-    put16(&to, CLASS_IN);
+    write_octets(&to, (uint8_t[HEADER]){0, 0, FLAG_QR >> 8, 0, 0, 1}, HEADER);
+    write_octets(&to, cut->octets, cut->len);
+    write16(&to, TYPE_DS);
+    write16(&to, CLASS_IN);
     unsigned of_set = put_records(&to, message, cut, true);
     unsigned of_chain = put_records(&to, message, cut, false);
     if (to.len > room) {

@@ -66,6 +66,7 @@ struct signature {
     uint16_t covered;
     uint32_t original_ttl, expiration;
     struct name signer;
+    struct octets octets; /* the signature itself, at the end of the record's data */
 };
 bool read_signature(const struct message *message, const struct record *record, struct signature *signature);
 /* Whether a message has a signature, outside of the additional section, by a signer; by any where that is null. */
@@ -89,6 +90,11 @@ bool is_referral(const struct message *message, struct name *cut);
  */
 size_t write_ds_answer(const struct message *message, const struct name *cut, uint8_t *out, size_t room);
 
+/* Writes owner, type, class and TTL of a record: what stands in front of the length of its data. */
+void write_head(struct written *to, const struct record *record);
+
+/* Reads the name at a place, in lower case. Gives the place behind it, or 0 where there is none. */
+size_t read_name(struct octets all, size_t at, struct name *name);
 bool name_of_octets(struct octets octets, struct name *name);
 bool name_of_text(const char *text, struct name *name);
 /* In the form of master files (RFC 1035, 5.1). */

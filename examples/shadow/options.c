@@ -14,7 +14,9 @@ static const char USAGE[] = "usage: shadow --anchors=FILE (--socket=PATH | --fil
                             "  --hold=SECONDS      answers to clients wait so long for the messages that they came from: 3\n"
                             "  --memory=MIB        of messages that are kept, in all: 128\n"
                             "  --iterations=N      the most iterations of NSEC3: 150\n"
-                            "  --ask=ADDRESS@PORT  asks this resolver for DS and DNSKEY sets that were not seen\n";
+                            "  --ask=ADDRESS@PORT  asks this resolver for DS and DNSKEY sets that were not seen\n"
+                            "  --explain=PROGRAM   has it explain disagreements: crates/explain/out/explain\n"
+                            "  --explanations=N    the most of these a minute: 6\n";
 
 static const struct option KNOWN[] = {
     {"anchors", required_argument, NULL, 'a'},
@@ -27,6 +29,8 @@ static const struct option KNOWN[] = {
     {"memory", required_argument, NULL, 'M'},
     {"iterations", required_argument, NULL, 'i'},
     {"ask", required_argument, NULL, 'q'},
+    {"explain", required_argument, NULL, 'x'},
+    {"explanations", required_argument, NULL, 'n'},
     {NULL, 0, NULL, 0},
 };
 
@@ -58,6 +62,12 @@ static void read_option(struct options *options, int which, const char *text) {
     case 'q':
         options->ask = text;
         break;
+    case 'x':
+        options->explain = text;
+        break;
+    case 'n':
+        options->explanations = number_of(text, 10, 1, 60000);
+        break;
     case 'm':
         options->mode = (unsigned)number_of(text, 8, 0, 0777);
         break;
@@ -80,7 +90,7 @@ static void read_option(struct options *options, int which, const char *text) {
 }
 
 struct options read_options(int argc, char **argv) {
-    struct options options = {.mode = 0660, .hold = 3, .memory = (size_t)128 << 20, .iterations = 150};
+    struct options options = {.mode = 0660, .hold = 3, .memory = (size_t)128 << 20, .iterations = 150, .explanations = 6};
     for (int which; (which = getopt_long(argc, argv, "", KNOWN, NULL)) != -1;) {
         read_option(&options, which, optarg);
     }

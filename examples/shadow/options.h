@@ -5,9 +5,10 @@
 #include <stddef.h>
 
 struct options {
-    const char *anchors, *socket, *file, *log, *ask;
+    const char *anchors, *socket, *file, *log, *ask, *explain;
     unsigned mode;                         /* of the socket */
     unsigned long every, hold, iterations; /* the first two in seconds */
+    unsigned long explanations;            /* a minute */
     size_t memory;                         /* in octets */
 };
 

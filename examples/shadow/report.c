@@ -1,5 +1,8 @@
 #include "report.h"
 
+#include "session.h"
+
+#include <stdlib.h>
 #include <time.h>
 
 /* The members of a result, as corpus/schema.json has them. */
@@ -30,14 +33,6 @@ static struct shown shown_told(const struct told *told) {
         return (struct shown){"bogus", NULL};
     default:
         return (struct shown){"insecure", NULL};
-    }
-}
-
-static void put_hex(FILE *log, struct octets octets) {
-    static const char digits[] = "0123456789abcdef";
-    for (size_t i = 0; i < octets.len; i++) {
-        fputc(digits[octets.data[i] >> 4], log);
-        fputc(digits[octets.data[i] & 15], log);
     }
 }
 
@@ -96,9 +91,9 @@ static void put_ds(FILE *log, struct octets rest) {
 }
 
 /* The messages as a case of the corpus: what the judge says is expected, and what the resolver said stands beside it. */
-static void put_case(struct shadow *shadow, const struct trial *trial, struct shown expected, struct shown also) {
+static void put_case(FILE *log, const struct shadow *shadow, const struct trial *trial, struct shown expected,
+                     struct shown also) {
     char zone[TEXT_ROOM];
-    FILE *log = shadow->log;
     name_text(&trial->apex, zone);
     fprintf(log, "\"case\":{\"id\":\"shadow-%03u\",\"group\":\"shadow\",\"tries\":\"", (unsigned)(shadow->lines % 1000));
     fputs("An answer of which a resolver and the judge say different things.\",\"rfc\":\"RFC 4035, 5\",", log);
@@ -124,9 +119,7 @@ static void put_case(struct shadow *shadow, const struct trial *trial, struct sh
     fputc('}', log);
 }
 
-void report_disagreement(struct shadow *shadow, const struct trial *trial, const struct told *told,
-                         const struct verdict *verdict) {
-    FILE *log = shadow->log;
+static void put_results(FILE *log, const struct trial *trial, const struct told *told, const struct verdict *verdict) {
     struct shown judged = shown_verdict(verdict), said = shown_told(told);
     fprintf(log, "{\"moment\":%llu,", (unsigned long long)trial->now);
     put_question(log, trial);
@@ -136,9 +129,52 @@ void report_disagreement(struct shadow *shadow, const struct trial *trial, const
     put_extended_errors(log, told);
     fprintf(log, "},\"judge\":{\"result\":\"%s\",\"which\":\"%s\",", judged.result, judged.which != NULL ? judged.which : "");
     fprintf(log, "\"reply\":\"%s\"},", verdict->reply);
-    put_case(shadow, trial, judged, said);
-    fputs("}\n", log);
-    fflush(log);
+}
+
+static bool close_text(FILE *text) {
+    return text != NULL && fclose(text) == 0;
+}
+
+/* Hands a disagreement over to be explained. Gives false where memory lacks. */
+static bool is_handed_over(struct shadow *shadow, const struct trial *trial, const struct told *told,
+                           const struct verdict *verdict) {
+    struct line line = {0};
+    FILE *head = open_memstream(&line.head, &line.head_len), *tail = open_memstream(&line.tail, &line.tail_len);
+    FILE *session = open_memstream(&line.session, &line.session_len);
+    bool is_made = head != NULL && tail != NULL && session != NULL;
+    if (is_made) {
+        put_results(head, trial, told, verdict);
+        put_case(tail, shadow, trial, shown_verdict(verdict), shown_told(told));
+        fputs("}\n", tail);
+        line.why = write_session(session, shadow->judge, trial);
+    }
+    is_made = close_text(head) & close_text(tail) & close_text(session) & is_made;
+    if (line.why != NULL || !is_made) {
+        free(line.session);
+        line.session = NULL;
+        line.session_len = 0;
+    }
+    if (!is_made) {
+        free(line.head);
+        free(line.tail);
+        return false;
+    }
+    explain(shadow->explainer, &line);
+    return true;
+}
+
+void report_disagreement(struct shadow *shadow, const struct trial *trial, const struct told *told,
+                         const struct verdict *verdict) {
+    FILE *log = shadow->log;
+    if (shadow->explainer == NULL || !is_handed_over(shadow, trial, told, verdict)) {
+        flockfile(log);
+        put_results(log, trial, told, verdict);
+        fputs(shadow->explainer != NULL ? "\"explained\":null,\"not explained\":\"memory\"," : "", log);
+        put_case(log, shadow, trial, shown_verdict(verdict), shown_told(told));
+        fputs("}\n", log);
+        fflush(log);
+        funlockfile(log);
+    }
     shadow->lines++;
 }
 
@@ -166,6 +202,7 @@ void report_counts(const struct shadow *shadow, const struct stream_counts *stre
     };
     const struct counts *counts = &shadow->counts;
     FILE *log = shadow->log;
+    flockfile(log);
     fprintf(log, "{\"moment\":%llu,\"counts\":{\"frames\":%llu", (unsigned long long)time(NULL),
             (unsigned long long)stream->frames);
     put_count(log, "unreadable frames", stream->unreadable_frames);
@@ -188,6 +225,12 @@ void report_counts(const struct shadow *shadow, const struct stream_counts *stre
     put_count(log, "signatures checked", judge_signatures(shadow->judge));
     put_count(log, "evicted", table_evicted(shadow->answers) + chain_evicted(shadow->chain));
     put_count(log, "asked", shadow->asker != NULL ? asker_asked(shadow->asker) : 0);
+    if (shadow->explainer != NULL) {
+        struct explain_counts explained = read_explain_counts(shadow->explainer);
+        put_count(log, "explained", explained.explained);
+        put_count(log, "not explained", explained.unexplained);
+    }
     fputs("}}\n", log);
     fflush(log);
+    funlockfile(log);
 }

@@ -4,6 +4,7 @@
 
 #include "asker.h"
 #include "chain.h"
+#include "explain.h"
 #include "queue.h"
 #include "table.h"
 
@@ -55,6 +56,7 @@ struct shadow {
     struct chain *chain;
     struct table *answers; /* by question: the zone of the server, behind its length, and the message */
     struct asker *asker;   /* null where nothing is asked */
+    struct explainer *explainer; /* null where no reasons are asked for */
     struct counts counts;
     FILE *log;
     uint64_t lines;

@@ -1,12 +1,14 @@
 """A stream in a file: what a resolver said, kept by fstrm_capture; the same with octets changed; and how the shadow takes it."""
 
 import asyncio
+import collections
 import json
 import os
 import pathlib
 import random
 import re
 import subprocess
+import time
 
 from resolvers import Shadow
 
@@ -86,10 +88,11 @@ def rename(file, times, seed):
     return write(file, "renamed", renamed, before, behind)
 
 
-def read(program, anchor, file, *more):
+def read(program, anchor, file, *more, environment=None):
     """What the shadow says of a file: its disagreements, and its counts."""
     words = [program, f"--anchors={anchor}", f"--file={file}", *more]
-    ran = subprocess.run(list(map(str, words)), stdin=subprocess.DEVNULL, capture_output=True, text=True)
+    how = {"stdin": subprocess.DEVNULL, "capture_output": True, "text": True, "env": {**os.environ, **(environment or {})}}
+    ran = subprocess.run(list(map(str, words)), **how)
     if ran.returncode:
         raise RuntimeError(f"{file}: status {ran.returncode}: {ran.stderr[-3000:]}")
     lines = [json.loads(line) for line in ran.stdout.splitlines()]
@@ -107,6 +110,33 @@ def replay(program, folder, anchor, file, slowness):
         shadow.process.kill()
 
 
+# Programs that explain nothing, each in its own way, and what the log then has.
+SILENT = {
+    "sleeps": ("exec sleep 300", "time"),
+    "sleeps-below": ("sleep 300 & wait", "time"),
+    "closes": ("exec >&-; sleep 300", "time"),
+    "fails": ("cat; exit 1", "failed"),
+    "writes-words": ("echo words", "no reasons"),
+    "writes-objects": ("echo '{\"printed\":\"\",\"notes\":[],\"reasons\":null}'", "no reasons"),
+    "writes-nothing": ("cat >/dev/null", "no reasons"),
+    "writes-on": ("exec yes", "length"),
+}
+
+
+def unexplained(program, anchor, file, folder, lie):
+    """Of each program that explains nothing, and of none: why it explained nothing, how often, and how long all took."""
+    folder.mkdir()
+    for name, (script, why) in {**SILENT, "is-not-there": (None, "failed")}.items():
+        if script:
+            (folder / name).write_text(f"#!/bin/sh\n{script}\n")
+            (folder / name).chmod(0o755)
+        begin = time.monotonic()
+        how = {"environment": {"LIE": lie}}
+        lines, counts = read(program, anchor, file, f"--explain={folder / name}", "--explanations=2", **how)
+        told = collections.Counter(it["not explained"] for it in lines if it["explained"] is None)
+        yield name, why, told, len(lines), counts, time.monotonic() - begin
+
+
 def refused(program, anchor, file, folder):
     """Calls that can't be read, or whose files can't: those that end otherwise than they should."""
     folder.mkdir()
@@ -116,7 +146,7 @@ def refused(program, anchor, file, folder):
     a, f = f"--anchors={anchor}", f"--file={file}"
     calls = [
         (2, []), (2, [a]), (2, [f]), (2, [a, f, "--socket=x"]), (2, [a, f, "more"]), (2, [a, f, "--mode=888"]), (2, [a, f, "--mode=1777"]),
-        (2, [a, f, "--memory=7"]), (2, [a, f, "--memory=-1"]), (2, [a, f, "--hold=61"]), (2, [a, f, "--iterations=65536"]), (2, [a, f, "--other"]),
+        (2, [a, f, "--memory=7"]), (2, [a, f, "--memory=-1"]), (2, [a, f, "--hold=61"]), (2, [a, f, "--iterations=65536"]), (2, [a, f, "--other"]), (2, [a, f, "--explanations=0"]),
         (1, ["--anchors=none", f]), (1, [a, "--file=none"]), (1, [a, f"--file={anchor}"]), (1, [a, f"--socket={folder}/no/socket"]),
         (1, [a, f"--socket={'x' * 200}"]), (1, [a, f, "--ask=localhost@53"]), (1, [a, f, f"--log={folder}/no/log"]),
         *((1, [f"--anchors={folder / it}", f]) for it in texts), (0, [a, f, "--ask=::1@53"]), (0, [a, f, "--hold=0", "--memory=8"]),

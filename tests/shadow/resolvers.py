@@ -190,14 +190,14 @@ addResponseAction(AllRule(), DnstapLogResponseAction("dnsdist", log))
 ALL = {"unbound": Unbound, "named": Named, "knot": Knot, "powerdns": PowerDns}
 
 
-async def asked(kind, folder, address, key, questions, program, anchor, is_validating=True, environment=None):
+async def asked(kind, folder, address, key, questions, program, anchor, more=(), is_validating=True, environment=None):
     """A shadow and a resolver in a folder: what the shadow wrote once the questions were asked, and how many had no answer.
     A resolver that doesn't validate asks for no keys, so that the shadow does."""
     folder.mkdir(parents=True)
     resolver = kind(folder, address, key)
     resolver.is_validating = is_validating
     asks = resolver.asks or (() if is_validating else (f"--ask={address}@53",))
-    shadow = Shadow(program, resolver.folder, anchor, asks, environment)
+    shadow = Shadow(program, resolver.folder, anchor, (*asks, *more), environment)
     try:
         await resolver.start()
         await resolver.is_up()
