@@ -196,20 +196,6 @@ bool is_referral(const struct message *message, struct name *cut) {
     return has_servers && is_at_or_below(&message->qname, cut);
 }
 
-void write_head(struct written *to, const struct record *record) {
-    write_octets(to, record->owner.octets, record->owner.len);
-    write16(to, record->rtype);
-    write16(to, record->rclass);
-    write16(to, record->ttl >> 16);
-    write16(to, record->ttl & 0xffff);
-}
-
-static void put_record(struct written *to, const struct record *record) {
-    write_head(to, record);
-    write16(to, (unsigned)record->data.len);
-    write_octets(to, record->data.data, record->data.len);
-}
-
 /* Writes the records of a message that are of the DS set of a name, or else those of the chain. Gives how many. */
 static unsigned put_records(struct written *to, const struct message *message, const struct name *cut, bool is_set) {
     unsigned count = 0;
@@ -219,7 +205,7 @@ static unsigned put_records(struct written *to, const struct message *message, c
         unsigned of = is_signature ? number16(record.data.data) : record.rtype;
         bool is_of_set = of == TYPE_DS && names_equal(&record.owner, cut);
         if (is_set ? is_of_set : of == TYPE_NSEC || of == TYPE_NSEC3) {
-            put_record(to, &record);
+            write_in_full(to, message, &record);
             count++;
         }
     }

@@ -90,8 +90,11 @@ bool is_referral(const struct message *message, struct name *cut);
  */
 size_t write_ds_answer(const struct message *message, const struct name *cut, uint8_t *out, size_t room);
 
-/* Writes owner, type, class and TTL of a record: what stands in front of the length of its data. */
-void write_head(struct written *to, const struct record *record);
+/* Writes a record up to its data, and gives the place where these begin; and, behind them, their length. */
+size_t begin_record(struct written *to, const struct record *record);
+void end_record(struct written *to, size_t begin);
+/* Writes a record with names in full: those in its data in lower case, where they are signed so (RFC 4034, 6.2). */
+void write_in_full(struct written *to, const struct message *message, const struct record *record);
 
 /* Reads the name at a place, in lower case. Gives the place behind it, or 0 where there is none. */
 size_t read_name(struct octets all, size_t at, struct name *name);

@@ -4,60 +4,6 @@
 
 enum { MOST_KEYS = 32, DNSKEY_FIELDS = 4, DS_FIELDS = 4, STAND_IN = 32, FLAGS_OF_KSK = 257, PROTOCOL = 3 };
 
-/* Where names stand in data that are signed in lower case (RFC 4034, 6.2): behind so many octets and texts. */
-struct form {
-    uint16_t rtype;
-    uint8_t before, texts, names;
-};
-
-static const struct form FORMS[] = {
-    {2, 0, 0, 1},  {3, 0, 0, 1},  {4, 0, 0, 1},  {5, 0, 0, 1},  {6, 0, 0, 2},  {7, 0, 0, 1},
-    {8, 0, 0, 1},  {9, 0, 0, 1},  {12, 0, 0, 1}, {14, 0, 0, 2}, {15, 2, 0, 1}, {17, 0, 0, 2},
-    {18, 2, 0, 1}, {21, 2, 0, 1}, {26, 2, 0, 2}, {33, 6, 0, 1}, {35, 4, 3, 1}, {36, 2, 0, 1},
-    {39, 0, 0, 1},
-};
-
-static const struct form *form_of(uint16_t rtype) {
-    static const struct form no_names;
-    for (size_t i = 0; i < sizeof FORMS / sizeof *FORMS; i++) {
-        if (FORMS[i].rtype == rtype) {
-            return &FORMS[i];
-        }
-    }
-    return &no_names;
-}
-
-/* The place behind what stands in front of the names of some data; 0 where it is not all there. */
-static size_t names_at(struct octets all, size_t at, const struct form *form) {
-    at += form->before;
-    for (unsigned i = 0; i < form->texts; i++) {
-        at = at < all.len ? at + 1 + all.data[at] : all.len + 1;
-    }
-    return at <= all.len ? at : 0;
-}
-
-/* Writes data with names in full and in lower case; as they stand where they can't be read. */
-static void write_data(struct written *to, const struct message *message, const struct record *record) {
-    size_t begin = (size_t)(record->data.data - message->octets.data);
-    struct octets all = {message->octets.data, begin + record->data.len};
-    const struct form *form = form_of(record->rtype);
-    struct written start = *to;
-    size_t at = names_at(all, begin, form);
-    if (at != 0) {
-        write_octets(to, all.data + begin, at - begin);
-    }
-    for (unsigned i = 0; at != 0 && i < form->names; i++) {
-        struct name name;
-        at = read_name(all, at, &name);
-        write_octets(to, name.octets, name.len);
-    }
-    if (at == 0) {
-        *to = start;
-        at = begin;
-    }
-    write_octets(to, all.data + at, all.len - at);
-}
-
 static void digest(const EVP_MD *by, struct octets one, struct octets other, uint8_t out[EVP_MAX_MD_SIZE]) {
     EVP_MD_CTX *context = EVP_MD_CTX_new();
     EVP_DigestInit_ex(context, by, NULL);
@@ -67,11 +13,12 @@ static void digest(const EVP_MD *by, struct octets one, struct octets other, uin
     EVP_MD_CTX_free(context);
 }
 
-/* Writes the data of a signature's record, with what stands in for it. */
+/* Writes the record of a signature, with what stands in for it. */
 static void write_signature(struct written *to, const struct judge *judge, const struct record *record,
                             struct octets signature) {
     uint8_t made[EVP_MAX_MD_SIZE];
     struct passed passed;
+    size_t begin = begin_record(to, record);
     if (judge_passed(judge, record->data, signature, &passed)) {
         digest(EVP_sha256(), passed.dnskey, passed.octets, made);
     } else {
@@ -79,23 +26,7 @@ static void write_signature(struct written *to, const struct judge *judge, const
     }
     write_octets(to, record->data.data, record->data.len - signature.len);
     write_octets(to, made, STAND_IN);
-}
-
-static void write_record(struct written *to, const struct judge *judge, const struct message *message,
-                         const struct record *record) {
-    struct signature signature;
-    write_head(to, record);
-    size_t length_at = to->len;
-    write16(to, 0);
-    if (read_signature(message, record, &signature)) {
-        write_signature(to, judge, record, signature.octets);
-    } else {
-        write_data(to, message, record);
-    }
-    if (to->len <= to->room) {
-        struct written length = {to->out + length_at, 0, 2};
-        write16(&length, (unsigned)(to->len - length_at - 2));
-    }
+    end_record(to, begin);
 }
 
 /* Writes a message, as digits behind a blank. Gives false where it can't be read, or grows too long. */
@@ -104,6 +35,7 @@ static bool put_message(FILE *to, const struct judge *judge, struct octets octet
     struct written written = {out, 0, sizeof out};
     struct message message;
     struct record record;
+    struct signature signature;
     if (octets.len == 0) {
         fputs(" -", to);
         return true;
@@ -113,7 +45,11 @@ static bool put_message(FILE *to, const struct judge *judge, struct octets octet
     }
     write_octets(&written, octets.data, message.records_at);
     for (struct walk walk = walk_of(&message); next_record(&walk, &record);) {
-        write_record(&written, judge, &message, &record);
+        if (read_signature(&message, &record, &signature)) {
+            write_signature(&written, judge, &record, signature.octets);
+        } else {
+            write_in_full(&written, &message, &record);
+        }
     }
     if (written.len > written.room) {
         return false;
