@@ -2,35 +2,79 @@
 
 #include <openssl/evp.h>
 
-enum { MOST_KEYS = 32, DNSKEY_FIELDS = 4, DS_FIELDS = 4, STAND_IN = 32, FLAGS_OF_KSK = 257, PROTOCOL = 3 };
+enum { MOST_KEYS = 32, DNSKEY_FIELDS = 4, DS_FIELDS = 4, FLAGS_OF_KSK = 257, PROTOCOL = 3 };
+/* Of RRSIG data the fields in front of the signer's name, and the times among these (RFC 4034, 3.1). */
+enum { FIELDS = 18, TIMES_AT = 8, TIMES = 8, STAND_IN = 32 };
 
-static void digest(const EVP_MD *by, struct octets one, struct octets other, uint8_t out[EVP_MAX_MD_SIZE]) {
+/* A digest of some parts, one behind another. */
+static void digest(const EVP_MD *by, const struct octets *parts, size_t count, uint8_t out[EVP_MAX_MD_SIZE]) {
     EVP_MD_CTX *context = EVP_MD_CTX_new();
     EVP_DigestInit_ex(context, by, NULL);
-    EVP_DigestUpdate(context, one.data, one.len);
-    EVP_DigestUpdate(context, other.data, other.len);
+    for (size_t i = 0; i < count; i++) {
+        EVP_DigestUpdate(context, parts[i].data, parts[i].len);
+    }
     EVP_DigestFinal_ex(context, out, NULL);
     EVP_MD_CTX_free(context);
 }
 
+/* When signatures hold: expiration and inception, as RRSIG records have them. None where nothing is said of it. */
+struct times {
+    bool are_set;
+    uint8_t octets[TIMES];
+};
+
+/* The later of two moments less than 2^31 seconds apart (RFC 1982). */
+static bool is_later(const uint8_t *one, const uint8_t *other) {
+    uint32_t ahead = number32(one) - number32(other);
+    return ahead != 0 && ahead <= INT32_MAX;
+}
+
+/* When all signatures of a message hold that passed: from the latest inception up to the earliest expiration. */
+static struct times times_of(const struct judge *judge, const struct message *message) {
+    struct times times = {0};
+    struct record record;
+    struct signature signature;
+    struct passed passed;
+    for (struct walk walk = walk_of(message); next_record(&walk, &record);) {
+        if (!read_signature(message, &record, &signature) || !judge_passed(judge, record.data, signature.octets, &passed)) {
+            continue;
+        }
+        const uint8_t *expiration = record.data.data + TIMES_AT, *inception = expiration + TIMES / 2;
+        if (!times.are_set || is_later(times.octets, expiration)) {
+            memcpy(times.octets, expiration, TIMES / 2);
+        }
+        if (!times.are_set || is_later(inception, times.octets + TIMES / 2)) {
+            memcpy(times.octets + TIMES / 2, inception, TIMES / 2);
+        }
+        times.are_set = true;
+    }
+    return times;
+}
+
 /* Writes the record of a signature, with what stands in for it. */
 static void write_signature(struct written *to, const struct judge *judge, const struct record *record,
-                            struct octets signature) {
-    uint8_t made[EVP_MAX_MD_SIZE];
+                            struct octets signature, const struct times *times) {
+    uint8_t made[EVP_MAX_MD_SIZE], fields[FIELDS];
     struct passed passed;
     size_t begin = begin_record(to, record);
+    memcpy(fields, record->data.data, FIELDS);
     if (judge_passed(judge, record->data, signature, &passed)) {
-        digest(EVP_sha256(), passed.dnskey, passed.octets, made);
+        if (times->are_set) {
+            memcpy(fields + TIMES_AT, times->octets, TIMES);
+        }
+        struct octets signer_and_set = {passed.octets.data + FIELDS, passed.octets.len - FIELDS};
+        digest(EVP_sha256(), (struct octets[]){passed.dnskey, {fields, FIELDS}, signer_and_set}, 3, made);
     } else {
-        digest(EVP_sha256(), record->data, (struct octets){NULL, 0}, made);
+        digest(EVP_sha256(), &record->data, 1, made);
     }
-    write_octets(to, record->data.data, record->data.len - signature.len);
+    write_octets(to, fields, FIELDS);
+    write_octets(to, record->data.data + FIELDS, record->data.len - FIELDS - signature.len);
     write_octets(to, made, STAND_IN);
     end_record(to, begin);
 }
 
 /* Writes a message, as digits behind a blank. Gives false where it can't be read, or grows too long. */
-static bool put_message(FILE *to, const struct judge *judge, struct octets octets) {
+static bool put_message(FILE *to, const struct judge *judge, struct octets octets, bool has_one_time) {
     static uint8_t out[MESSAGE_ROOM];
     struct written written = {out, 0, sizeof out};
     struct message message;
@@ -43,10 +87,11 @@ static bool put_message(FILE *to, const struct judge *judge, struct octets octet
     if (!read_message(octets, &message)) {
         return false;
     }
+    struct times times = has_one_time ? times_of(judge, &message) : (struct times){0};
     write_octets(&written, octets.data, message.records_at);
     for (struct walk walk = walk_of(&message); next_record(&walk, &record);) {
         if (read_signature(&message, &record, &signature)) {
-            write_signature(&written, judge, &record, signature.octets);
+            write_signature(&written, judge, &record, signature.octets, &times);
         } else {
             write_in_full(&written, &message, &record);
         }
@@ -76,7 +121,7 @@ static bool names_key(struct octets ds, const struct name *apex, struct octets d
         || ds.len != DS_FIELDS + (size_t)EVP_MD_get_size(by)) {
         return false;
     }
-    digest(by, (struct octets){apex->octets, apex->len}, dnskey, made);
+    digest(by, (struct octets[]){{apex->octets, apex->len}, dnskey}, 2, made);
     return memcmp(made, ds.data + DS_FIELDS, ds.len - DS_FIELDS) == 0;
 }
 
@@ -193,7 +238,7 @@ const char *write_session(FILE *to, const struct judge *judge, const struct tria
         put_roll(to, &keys);
     }
     fputs("ds 0\nbytes 0", to);
-    if (!put_message(to, judge, trial->dnskey) || !put_message(to, judge, trial->answer)) {
+    if (!put_message(to, judge, trial->dnskey, false) || !put_message(to, judge, trial->answer, true)) {
         return "messages";
     }
     fprintf(to, " %s %u %llu\n", name, trial->qtype, (unsigned long long)trial->now);
