@@ -1,6 +1,6 @@
 /*
- * Reasons for disagreements: a program that explains sessions, as `./explain` does, is run on each. A thread of its own runs it,
- * so that nothing that is judged waits for it, and writes the lines of the log.
+ * Reasons for disagreements: a program that explains sessions, as `./explain` does, is run on each. A thread of its own runs
+ * it, so that nothing that is judged waits for it, and writes the lines of the log.
  */
 #ifndef EXPLAIN_H
 #define EXPLAIN_H

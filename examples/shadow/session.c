@@ -52,8 +52,8 @@ static struct times times_of(const struct judge *judge, const struct message *me
 }
 
 /* Writes the record of a signature, with what stands in for it. */
-static void write_signature(struct written *to, const struct judge *judge, const struct record *record,
-                            struct octets signature, const struct times *times) {
+static void write_signature(struct written *to, const struct judge *judge, const struct record *record, struct octets signature,
+                            const struct times *times) {
     uint8_t made[EVP_MAX_MD_SIZE], fields[FIELDS];
     struct passed passed;
     size_t begin = begin_record(to, record);
