@@ -7,6 +7,9 @@
 
 enum { RRSIG_FIELDS = 18, MOST_ROOM = 1 << 22, KEPT_ZONES = 4096, KEPT_OCTETS = 1 << 24 };
 
+/* Replies of a library that judges aliases, whose octets are names in wire form; its header names them. */
+enum { REPLY_ALIAS = 8, REPLY_WILDCARD_ALIAS, REPLY_DNAME, REPLY_REFERRAL };
+
 /* Octets that grow. */
 struct room {
     uint8_t *data;
@@ -53,6 +56,10 @@ bool is_ds_known(struct octets data) {
     static const uint8_t algorithms[] = {8, 10, 13, 14, 15, 16}, digests[] = {2, 4};
     return data.len > 4 && memchr(algorithms, data.data[2], sizeof algorithms) != NULL
            && memchr(digests, data.data[3], sizeof digests) != NULL;
+}
+
+bool judges_aliases(void) {
+    return zermuita_is_verdict(REPLY_ALIAS) == 1;
 }
 
 static bool make_room(struct room *room, size_t size) {
@@ -159,8 +166,12 @@ bool judge_passed(const struct judge *judge, struct octets data, struct octets s
     return false;
 }
 
-static enum finding finding_of(enum zermuita_reply reply) {
+static enum finding finding_of(uint32_t reply) {
     switch (reply) {
+    case REPLY_ALIAS:
+    case REPLY_WILDCARD_ALIAS:
+    case REPLY_DNAME:
+        return FOUND_ALIAS;
     case ZERMUITA_RECORDS:
         return FOUND_RECORDS;
     case ZERMUITA_NODATA:
@@ -172,6 +183,7 @@ static enum finding finding_of(enum zermuita_reply reply) {
     case ZERMUITA_WILDCARD_NODATA:
         return FOUND_WILDCARD_NODATA;
     case ZERMUITA_DELEGATED:
+    case REPLY_REFERRAL:
         return FOUND_DELEGATED;
     case ZERMUITA_OPTOUT:
         return FOUND_OPTOUT;
@@ -187,6 +199,30 @@ static enum finding finding_of(enum zermuita_reply reply) {
         return FOUND_NOTHING;
     default:
         return zermuita_is_refusal(reply) ? FOUND_BOGUS : FOUND_NOTHING;
+    }
+}
+
+/* Takes a name in wire form off the front of some octets. */
+static bool take_name(struct octets *rest, struct name *name) {
+    size_t len = 0;
+    while (len < rest->len && rest->data[len] != 0) {
+        len += 1 + (size_t)rest->data[len];
+    }
+    struct octets first = {rest->data, len + 1};
+    if (len >= rest->len || !name_of_octets(first, name)) {
+        return false;
+    }
+    *rest = (struct octets){rest->data + first.len, rest->len - first.len};
+    return true;
+}
+
+/* Finds where an alias leads: its target, or behind a DNAME's owner the name that the question's becomes. */
+static void read_target(struct judgement *judgement, uint32_t reply) {
+    struct octets rest = judgement->records;
+    struct name owner;
+    bool is_read = (reply != REPLY_DNAME || take_name(&rest, &owner)) && take_name(&rest, &judgement->target);
+    if (!is_read) {
+        judgement->finding = FOUND_DEAD_END;
     }
 }
 
@@ -217,9 +253,14 @@ struct judgement judge(struct judge *judge, const struct trial *trial) {
     if (judge->checked.len > known) {
         keep_keys(judge, &trial->apex, known);
     }
-    return (struct judgement){
+    struct judgement judgement = {
         .finding = finding_of(reply),
         .reply = zermuita_strerror(reply),
+        .ede = report.ede,
         .records = {judge->out.data, zermuita_is_verdict(reply) ? report.len : 0},
     };
+    if (judgement.finding == FOUND_ALIAS) {
+        read_target(&judgement, reply);
+    }
+    return judgement;
 }

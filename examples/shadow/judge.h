@@ -20,6 +20,8 @@ enum finding {
     FOUND_WILDCARD_NODATA,
     FOUND_DELEGATED,
     FOUND_OPTOUT,
+    FOUND_ALIAS,    /* the name leads to another, which is to be asked for */
+    FOUND_DEAD_END, /* the name that it leads to would be too long (RFC 6672, 2.2) */
     FOUND_BOGUS,
     FOUND_BOGUS_KEYS, /* no key of the zone is trusted */
     FOUND_LEFT_OUT,   /* the library does not judge the question */
@@ -31,7 +33,9 @@ enum finding {
 struct judgement {
     enum finding finding;
     struct octets records; /* with FOUND_RECORDS and FOUND_WILDCARD: data behind their lengths, valid until the next call */
+    struct name target;    /* with FOUND_ALIAS: where the name leads */
     const char *reply;     /* the library's name of it, and a sentence */
+    uint16_t ede;          /* the code of an extended error (RFC 8914); 0: none */
 };
 
 struct judge;
@@ -53,6 +57,8 @@ bool judge_passed(const struct judge *judge, struct octets data, struct octets s
 /* How many signatures were checked. */
 uint64_t judge_signatures(const struct judge *judge);
 uint16_t judge_iterations(const struct judge *judge);
+/* Whether the library judges answers that give an alias. */
+bool judges_aliases(void);
 /* Whether DS records of an algorithm and a digest type count (RFC 8624, 3). */
 bool is_ds_known(struct octets data);
 

@@ -229,3 +229,16 @@ size_t write_ds_answer(const struct message *message, const struct name *cut, ui
     out[8] = (uint8_t)(of_chain >> 8);
     return to.len;
 }
+
+size_t write_answer_for(const struct message *message, const struct name *qname, uint8_t *out, size_t room) {
+    struct written to = {out, 0, room};
+    struct record record;
+    write_octets(&to, message->octets.data, HEADER);
+    write_octets(&to, qname->octets, qname->len);
+    write16(&to, message->qtype);
+    write16(&to, message->qclass);
+    for (struct walk walk = walk_of(message); next_record(&walk, &record);) {
+        write_in_full(&to, message, &record);
+    }
+    return to.len <= room ? to.len : 0;
+}

@@ -89,6 +89,8 @@ bool is_referral(const struct message *message, struct name *cut);
  * together.
  */
 size_t write_ds_answer(const struct message *message, const struct name *cut, uint8_t *out, size_t room);
+/* Writes a message as an answer to the question for another name. Gives how many octets, 0 where there is no room. */
+size_t write_answer_for(const struct message *message, const struct name *qname, uint8_t *out, size_t room);
 
 /* Writes a record up to its data, and gives the place where these begin; and, behind them, their length. */
 size_t begin_record(struct written *to, const struct record *record);

@@ -54,16 +54,16 @@ static void put_result(FILE *log, struct shown shown) {
     fputc('}', log);
 }
 
-static void put_question(FILE *log, const struct trial *trial) {
+static void put_question(FILE *log, const struct name *qname, uint16_t qtype) {
     char text[TEXT_ROOM];
-    name_text(&trial->qname, text);
+    name_text(qname, text);
     fputs("\"question\":{", log);
-    put_octets(log, "name", octets_of(&trial->qname));
-    fprintf(log, ",\"type\":%u,\"text\":\"", trial->qtype);
+    put_octets(log, "name", octets_of(qname));
+    fprintf(log, ",\"type\":%u,\"text\":\"", qtype);
     for (const char *at = text; *at != 0; at++) {
         fputs(*at == '\\' ? "\\\\" : (char[]){*at, 0}, log);
     }
-    fprintf(log, " TYPE%u\"}", trial->qtype);
+    fprintf(log, " TYPE%u\"}", qtype);
 }
 
 static void put_extended_errors(FILE *log, const struct told *told) {
@@ -104,7 +104,7 @@ static void put_case(FILE *log, const struct shadow *shadow, const struct trial 
     fputs("\",", log);
     put_octets(log, "apex", octets_of(&trial->apex));
     fputc(',', log);
-    put_question(log, trial);
+    put_question(log, &trial->qname, trial->qtype);
     fprintf(log, ",\"moment\":%llu,\"nsec3_limit\":%u,\"expected\":", (unsigned long long)trial->now,
             judge_iterations(shadow->judge));
     put_result(log, expected);
@@ -122,13 +122,13 @@ static void put_case(FILE *log, const struct shadow *shadow, const struct trial 
 static void put_results(FILE *log, const struct trial *trial, const struct told *told, const struct verdict *verdict) {
     struct shown judged = shown_verdict(verdict), said = shown_told(told);
     fprintf(log, "{\"moment\":%llu,", (unsigned long long)trial->now);
-    put_question(log, trial);
+    put_question(log, &told->qname, trial->qtype);
     fputs(",\"resolver\":{", log);
     fprintf(log, "\"result\":\"%s\",\"which\":\"%s\",", said.result, said.which != NULL ? said.which : "");
     fprintf(log, "\"rcode\":%u,\"records\":%s,", told->rcode, told->has_records ? "true" : "false");
     put_extended_errors(log, told);
     fprintf(log, "},\"judge\":{\"result\":\"%s\",\"which\":\"%s\",", judged.result, judged.which != NULL ? judged.which : "");
-    fprintf(log, "\"reply\":\"%s\"},", verdict->reply);
+    fprintf(log, "\"reply\":\"%s\",\"ede\":%u},", verdict->reply, verdict->ede);
 }
 
 static bool close_text(FILE *text) {

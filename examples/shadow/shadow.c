@@ -3,7 +3,7 @@
 #include "report.h"
 
 /* An answer of TTL 0 is of use for the question that it was asked for, and no longer. */
-enum { GRACE = 2, MOST_TRIES = 8 };
+enum { GRACE = 2, MOST_TRIES = 8, MOST_STEPS = 12 };
 
 /* Whether a server's message answers its question: another may be asked where it doesn't. */
 static bool is_answer(const struct message *message) {
@@ -50,12 +50,29 @@ static bool is_other_fault(const struct told *told) {
     return is_other;
 }
 
+static bool is_alias(const struct message *answer) {
+    return has_answer(answer, NULL, TYPE_CNAME) || has_answer(answer, NULL, TYPE_DNAME);
+}
+
+/* Whether a message gives an alias, and says nothing of what that leads to: no record of the type, and no SOA record. */
+static bool is_alias_alone(const struct message *message) {
+    struct record record;
+    for (struct walk walk = walk_of(message); next_record(&walk, &record) && record.section != ADDITIONAL;) {
+        if (record.rtype == TYPE_SOA && record.section == AUTHORITY) {
+            return false;
+        }
+    }
+    return (message->flags & MASK_RCODE) == RCODE_NOERROR && is_alias(message) && !has_answer(message, NULL, message->qtype);
+}
+
 /* What the resolver said. Gives false where it says nothing of a proof. */
 static bool is_told(const struct message *message, struct told *told, enum reason *reason) {
     uint16_t flags = message->flags;
+    told->qname = message->qname;
     told->rcode = flags & MASK_RCODE;
     told->has_edns = find_edns(message, &told->edns);
     told->has_records = has_answer(message, NULL, message->qtype);
+    told->is_alias_alone = is_alias_alone(message);
     told->wants_proof = told->has_edns && (told->edns.ttl & 0x8000) != 0;
     bool is_code = told->rcode == RCODE_NOERROR || told->rcode == RCODE_NXDOMAIN || told->rcode == RCODE_SERVFAIL;
     if (!is_code || message->qclass != CLASS_IN || (flags & (FLAG_QR | MASK_OPCODE)) != FLAG_QR) {
@@ -77,22 +94,64 @@ static bool is_told(const struct message *message, struct told *told, enum reaso
     return true;
 }
 
-/* The message that the resolver had for the question; else what it handed to its client, where that was to have signatures. */
-static bool find_answer(struct shadow *shadow, const struct message *client, const struct told *told, uint64_t now,
-                        struct message *answer, struct name *zone) {
-    struct octets kept;
-    zone->len = 0;
-    if (table_get(shadow->answers, &client->qname, client->qtype, now, &kept, NULL)) {
-        size_t len = kept.data[0];
-        name_of_octets((struct octets){kept.data + 1, len}, zone);
-        return read_message((struct octets){kept.data + 1 + len, kept.len - 1 - len}, answer);
+/* Messages that answer a question, in the order in which they are tried. */
+enum source {
+    OF_SERVER, /* what the resolver had for the question */
+    FORMER,    /* what it had for the name that led to this one, which may answer for it, too */
+    OF_CLIENT, /* what it handed to its client, where that was to have signatures */
+    SOURCES
+};
+
+/* The way from one name to the next. */
+struct way {
+    const struct message *client;
+    const struct told *told;
+    bool has_former;
+    struct message former;
+};
+
+/* Makes a message an answer to the question for a name. What it was stays, and is the next one's former. */
+static bool answers_for(const struct message *whole, const struct name *qname, struct message *answer) {
+    static uint8_t room[MESSAGE_ROOM];
+    if (names_equal(&whole->qname, qname)) {
+        *answer = *whole;
+        return true;
     }
-    *answer = *client;
-    return told->rcode != RCODE_SERVFAIL && told->wants_proof;
+    size_t len = write_answer_for(whole, qname, room, sizeof room);
+    return len > 0 && read_message((struct octets){room, len}, answer);
 }
 
-static bool is_alias(const struct message *answer) {
-    return has_answer(answer, NULL, TYPE_CNAME) || has_answer(answer, NULL, TYPE_DNAME);
+/* Finds a message for a name, whole as it was and as an answer for the name, and the zone of the server that gave it. */
+static bool find_answer(struct shadow *shadow, const struct way *way, enum source source, const struct trial *trial,
+                        struct message *whole, struct message *answer, struct name *zone) {
+    struct octets kept;
+    zone->len = 0;
+    if (source == OF_SERVER) {
+        if (!table_get(shadow->answers, &trial->qname, trial->qtype, trial->now, &kept, NULL)) {
+            return false;
+        }
+        size_t len = kept.data[0];
+        name_of_octets((struct octets){kept.data + 1, len}, zone);
+        if (!read_message((struct octets){kept.data + 1 + len, kept.len - 1 - len}, whole)) {
+            return false;
+        }
+    } else if (source == FORMER ? way->has_former : way->told->rcode != RCODE_SERVFAIL && way->told->wants_proof) {
+        *whole = source == FORMER ? way->former : *way->client;
+    } else {
+        return false;
+    }
+    return answers_for(whole, &trial->qname, answer);
+}
+
+/* Whether an NSEC3 record says that unsigned delegations may be left out (RFC 5155, 6). */
+static bool has_opt_out(const struct message *answer) {
+    struct record record;
+    for (struct walk walk = walk_of(answer); next_record(&walk, &record) && record.section != ADDITIONAL;) {
+        if (record.rtype == TYPE_NSEC3 && record.data.len > 1 && (record.data.data[1] & 1) != 0) {
+            return true;
+        }
+    }
+    return false;
 }
 
 static enum result result_of(enum finding finding) {
@@ -127,12 +186,13 @@ static bool is_judged(struct shadow *shadow, const struct place *place, const st
         *reason = REASON_NO_DNSKEY;
         return false;
     }
-    if (is_alias(answer)) {
+    if (is_alias(answer) && !judges_aliases()) {
         *reason = REASON_ALIAS;
         return false;
     }
     struct judgement judgement = judge(shadow->judge, trial);
-    *verdict = (struct verdict){result_of(judgement.finding), judgement.finding, judgement.reply};
+    *verdict =
+        (struct verdict){result_of(judgement.finding), judgement.finding, judgement.target, judgement.reply, judgement.ede};
     switch (judgement.finding) {
     case FOUND_LEFT_OUT:
         *reason = REASON_TYPE;
@@ -149,8 +209,12 @@ static bool is_judged(struct shadow *shadow, const struct place *place, const st
     case FOUND_DELEGATED:
         *reason = REASON_NO_DS;
         return false;
+    case FOUND_DEAD_END:
+        *reason = REASON_CODE;
+        return false;
     case FOUND_BOGUS:
-        return is_of_zone(place, answer, zone, reason);
+        *reason = REASON_ALIAS;
+        return !(is_alias(answer) && has_opt_out(answer)) && is_of_zone(place, answer, zone, reason);
     default:
         return true;
     }
@@ -163,6 +227,9 @@ static bool agrees(const struct told *told, const struct verdict *verdict) {
     }
     if (told->result != verdict->result || told->result != SECURE) {
         return told->result == verdict->result;
+    }
+    if (told->is_alias_alone) {
+        return true;
     }
     bool is_missing = verdict->finding == FOUND_NXDOMAIN;
     bool has_records = verdict->finding == FOUND_RECORDS || verdict->finding == FOUND_WILDCARD;
@@ -183,8 +250,8 @@ static void count(struct shadow *shadow, const struct trial *trial, const struct
  * Asks for what is missing, where that is wanted: keys; or DS sets of the names of which nothing is proved, down to the zone
  * that signed the answer, or all the way where none did. Gives false where nothing is asked for.
  */
-static bool asks_for_missing(struct shadow *shadow, const struct message *client, const struct place *place,
-                             enum reason reason) {
+static bool asks_for_missing(struct shadow *shadow, const struct message *client, const struct trial *trial,
+                             const struct place *place, enum reason reason) {
     struct name signer;
     if (shadow->asker == NULL || (reason != REASON_NO_DNSKEY && reason != REASON_NO_DS && reason != REASON_NO_CUT)) {
         return false;
@@ -192,46 +259,102 @@ static bool asks_for_missing(struct shadow *shadow, const struct message *client
     if (reason == REASON_NO_DNSKEY) {
         ask(shadow->asker, &place->apex, TYPE_DNSKEY);
     }
-    size_t labels = label_count(&client->qname), most = client->qtype == TYPE_DS && labels > 0 ? labels - 1 : labels;
-    if (find_signer(client, &client->qname, &signer)) {
+    size_t labels = label_count(&trial->qname), most = trial->qtype == TYPE_DS && labels > 0 ? labels - 1 : labels;
+    if (find_signer(client, &trial->qname, &signer)) {
         most = label_count(&signer);
     }
     for (size_t next = label_count(&place->unseen); !place->is_whole && next <= most; next++) {
-        struct name at = last_labels(&client->qname, next);
+        struct name at = last_labels(&trial->qname, next);
         ask(shadow->asker, &at, TYPE_DS);
     }
     return true;
 }
 
-/* Finds what is to be compared with what was told. Gives false where nothing is, and why. */
+/* What is compared of an unsigned zone. What an alias of it leads to may fail, and is not sought. */
+static bool is_insecure(struct shadow *shadow, const struct way *way, struct trial *trial, struct verdict *verdict,
+                        enum reason *reason) {
+    struct message whole, answer;
+    struct name zone;
+    bool is_seen = find_answer(shadow, way, OF_SERVER, trial, &whole, &answer, &zone)
+                   || find_answer(shadow, way, OF_CLIENT, trial, &whole, &answer, &zone);
+    bool is_servfail = way->told->rcode == RCODE_SERVFAIL;
+    if (is_servfail && (!is_seen || is_alias(&answer))) {
+        *reason = is_seen ? REASON_ALIAS : REASON_NO_ANSWER;
+        return false;
+    }
+    trial->answer = is_seen || answers_for(way->client, &trial->qname, &answer) ? answer.octets : way->client->octets;
+    *verdict = (struct verdict){.result = INSECURE,
+                                .finding = FOUND_DELEGATED,
+                                .reply = "the zone is insecure: its parent proves that it has no DS record"};
+    return true;
+}
+
+/*
+ * Judges what answers a name. The message that led to the name may have left it out, so that it counts where it proves
+ * something, and else not.
+ */
+static bool is_answer_judged(struct shadow *shadow, struct way *way, const struct place *place, struct trial *trial,
+                             struct verdict *verdict, enum reason *reason) {
+    struct message whole, answer;
+    struct name zone;
+    *reason = REASON_NO_ANSWER;
+    for (enum source source = 0; source < SOURCES; source++) {
+        if (!find_answer(shadow, way, source, trial, &whole, &answer, &zone)) {
+            continue;
+        }
+        trial->answer = answer.octets;
+        bool has_verdict = is_judged(shadow, place, &answer, &zone, trial, verdict, reason);
+        if (source == FORMER && (!has_verdict || verdict->result == BOGUS)) {
+            *reason = REASON_NO_ANSWER;
+            continue;
+        }
+        if (has_verdict && verdict->finding == FOUND_OPTOUT && way->told->rcode == RCODE_SERVFAIL && is_alias(&answer)) {
+            *reason = REASON_ALIAS;
+            return false;
+        }
+        way->former = whole;
+        way->has_former = true;
+        return has_verdict;
+    }
+    return false;
+}
+
+/* Judges a name on the way. Gives false where there is no verdict, and why. */
+static bool is_step_judged(struct shadow *shadow, struct way *way, struct place *place, struct trial *trial,
+                           struct verdict *verdict, enum reason *reason) {
+    chain_descend(shadow->chain, &trial->qname, trial->qtype, trial->now, place);
+    trial->apex = place->apex;
+    switch (place->standing) {
+    case NO_ANCHOR:
+        *reason = REASON_NO_ANCHOR;
+        return false;
+    case UNCHECKED:
+        *reason = REASON_ALGORITHMS;
+        return false;
+    case UNSIGNED:
+        trial->ds = trial->dnskey = (struct octets){NULL, 0};
+        return is_insecure(shadow, way, trial, verdict, reason);
+    default:
+        trial->ds = (struct octets){place->ds, place->ds_len};
+        return is_answer_judged(shadow, way, place, trial, verdict, reason);
+    }
+}
+
+/* Finds what is to be compared with what was told, from alias to alias. Gives false where nothing is, and why. */
 static bool find_verdict(struct shadow *shadow, const struct message *client, const struct told *told, struct place *place,
                          struct trial *trial, struct verdict *verdict, enum reason *reason) {
-    struct message answer;
-    struct name zone;
-    chain_descend(shadow->chain, &client->qname, client->qtype, trial->now, place);
-    if (place->standing == NO_ANCHOR || place->standing == UNCHECKED) {
-        *reason = place->standing == NO_ANCHOR ? REASON_NO_ANCHOR : REASON_ALGORITHMS;
-        return false;
+    struct way way = {.client = client, .told = told};
+    for (unsigned step = 0; step < MOST_STEPS; step++) {
+        if (!is_step_judged(shadow, &way, place, trial, verdict, reason)) {
+            return false;
+        }
+        if (verdict->finding != FOUND_ALIAS) {
+            return true;
+        }
+        trial->qname = verdict->target;
     }
-    bool is_seen = find_answer(shadow, client, told, trial->now, &answer, &zone);
-    bool is_servfail = told->rcode == RCODE_SERVFAIL;
-    trial->apex = place->apex;
-    trial->answer = is_seen ? answer.octets : client->octets;
-    if (place->standing == UNSIGNED && is_servfail && is_seen && is_alias(&answer)) {
-        *reason = REASON_ALIAS; /* the answer may fail for what it leads to */
-        return false;
-    }
-    if (place->standing == UNSIGNED && (is_seen || !is_servfail)) {
-        *verdict =
-            (struct verdict){INSECURE, FOUND_DELEGATED, "the zone is insecure: its parent proves that it has no DS record"};
-        return true;
-    }
-    if (!is_seen) {
-        *reason = REASON_NO_ANSWER;
-        return false;
-    }
-    trial->ds = (struct octets){place->ds, place->ds_len};
-    return is_judged(shadow, place, &answer, &zone, trial, verdict, reason);
+    *reason = REASON_ALIAS;
+    return false;
 }
 
 bool shadow_compare(struct shadow *shadow, const struct event *event, bool may_wait) {
@@ -253,7 +376,7 @@ bool shadow_compare(struct shadow *shadow, const struct event *event, bool may_w
         shadow->counts.not_judged[reason]++;
     } else if (find_verdict(shadow, &client, &told, &place, &trial, &verdict, &reason)) {
         count(shadow, &trial, &told, &verdict);
-    } else if (may_wait && event->tries < MOST_TRIES && asks_for_missing(shadow, &client, &place, reason)) {
+    } else if (may_wait && event->tries < MOST_TRIES && asks_for_missing(shadow, &client, &trial, &place, reason)) {
         return false;
     } else {
         shadow->counts.not_judged[reason]++;

@@ -14,7 +14,7 @@ enum result { SECURE, INSECURE, BOGUS, UNTOLD }; /* UNTOLD: neither secure nor b
 
 /* Why an answer was not judged. */
 enum reason {
-    REASON_ALIAS,             /* the answer gives an alias, which this version of the library does not judge */
+    REASON_ALIAS,             /* an alias of an unsigned zone, of a long chain, or of a library that judges none */
     REASON_TYPE,              /* the library does not judge the type */
     REASON_EQUAL_TAGS,        /* two keys have one tag, which the library does not judge */
     REASON_ITERATIONS,        /* the iterations are over the limit, which is a matter of policy */
@@ -38,9 +38,11 @@ struct counts {
 
 /* What a resolver said to its client. */
 struct told {
+    struct name qname;
     enum result result;
     uint16_t rcode;
     bool has_records, has_edns, wants_proof; /* the last: the client set the bit DO (RFC 3225) */
+    bool is_alias_alone;                     /* it gives an alias, and says nothing of what that leads to */
     struct record edns;
 };
 
@@ -48,14 +50,16 @@ struct told {
 struct verdict {
     enum result result;
     enum finding finding;
+    struct name target; /* of an alias */
     const char *reply;
+    uint16_t ede;
 };
 
 struct shadow {
     struct judge *judge;
     struct chain *chain;
-    struct table *answers; /* by question: the zone of the server, behind its length, and the message */
-    struct asker *asker;   /* null where nothing is asked */
+    struct table *answers;       /* by question: the zone of the server, behind its length, and the message */
+    struct asker *asker;         /* null where nothing is asked */
     struct explainer *explainer; /* null where no reasons are asked for */
     struct counts counts;
     FILE *log;
