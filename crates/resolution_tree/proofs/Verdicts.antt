@@ -66,8 +66,8 @@ delegated_refers z ex q t c e k =
     let d : IsDelegated z (low q) t = (verdict_told z ex q t Delegated e).1 in
     let is : d.delegation ≡ c = (let both : Some d.delegation ≡ Some c = sym d.cut ∙ k in cc) in
     refers z q t c k (false_from_ne_true (labels_eq c (low q) && (t == 43)) (λ h.
-      let both = and_parts (labels_eq c (low q)) (t == 43) h in
-      d.other (is ∙ (labels_decide c (low q)).0 both.0, eqb-true t 43 both.1)))
+    let both = and_parts (labels_eq c (low q)) (t == 43) h in
+    d.other (is ∙ (labels_decide c (low q)).0 both.0, eqb-true t 43 both.1)))
 
 -- a delegation is that of each name at or below it
 pub cut_down : (z : Zone) (n q : Name) → cut z (low n) ≡ Some (low n) → at_or_above n q ≡ true → cut z (low q) ≡ Some (low n)

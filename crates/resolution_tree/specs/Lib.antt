@@ -1,3 +1,4 @@
 pub mod Tree
 pub mod Orderly
 pub mod Laws
+pub mod Rows

@@ -1,4 +1,5 @@
 //! Laws of trees. Each is the contract of a function that does nothing.
+ghost use Rattle.resolution_tree.specs.Rows.{SmallTreeSays};
 ghost use Rattle.resolution_tree.specs.Laws.{TreesResolveToOne, TreesSayOne, VerdictsAreOfZonesAbove};
 
 use denial_laws::laws::{aliases_lead_to_one, only_aliases_lead};
@@ -23,4 +24,10 @@ pub fn trees_resolve_to_one()
 /// A verdict is that of a zone at or above the name.
 pub fn verdicts_are_of_zones_above()
     ensures { VerdictsAreOfZonesAbove }
+{}
+
+/// Worked rows of a small tree: an address two zones down, DS at a delegation and at a name that is
+/// none, names below a delegation without DS and where opt-out leaves them open, an alias.
+pub fn a_small_tree_says()
+    ensures { SmallTreeSays }
 {}
