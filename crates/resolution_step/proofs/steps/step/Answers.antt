@@ -1,0 +1,7 @@
+use Rattle.resolution_step.proofs.Truly.{told_honest, told_in}
+use Rattle.resolution_step.proofs.steps.step.Goals as goal
+
+pub returns : goal.returns
+returns c =
+    let is = told_in c.args.algorithms.now c.args.table.now c.args.case.now c.in_ok-found.found c.in_ok-found.ensures.found c.searched_step.result c.searched_step.ensures in
+    record { told = is; honest = told_honest c.args.algorithms.now c.args.table.now c.args.case.now c.searched_step.result is }

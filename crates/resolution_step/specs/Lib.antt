@@ -1,0 +1,3 @@
+pub mod KnownDs
+pub mod Told
+pub mod Truth
