@@ -150,9 +150,9 @@ sees_so : (table : List Checked) (h : Handing) (v : Version) (x : Seen) → IsSe
 sees_so table h v x s of = go s.found s.is_found s.is
   where
     go : (found : Found) → IsFound table h found → Sees x ≡ search_of found → IsSo h (v ∷ []) x
-    go (f.Finds finding verifications hashes) is e =
+    go (f.Finds finding lasting verifications hashes) is e =
         let same_is : seen finding ≡ x = (let both : Sees x ≡ Sees (seen finding) = e in cc) in
-        subst (IsSo h (v ∷ [])) same_is (found_truly table h (f.Finds finding verifications hashes) is of.passes (v ∷ []) of.true_are of.honest)
+        subst (IsSo h (v ∷ [])) same_is (found_truly table h (f.Finds finding lasting verifications hashes) is of.passes (v ∷ []) of.true_are of.honest)
     go (f.Refused refusal verifications hashes) is e = absurd cc
     go (f.Asks asks) is e = absurd cc
 

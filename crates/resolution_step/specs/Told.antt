@@ -48,7 +48,7 @@ pub data Search : Type 0 where
   Wants : List Tried → Search
 
 abbrev pub search_of : Found → Search
-search_of (f.Finds finding verifications hashes) = Sees (seen finding)
+search_of (f.Finds finding lasting verifications hashes) = Sees (seen finding)
 search_of (f.Refused refusal verifications hashes) = Refuses refusal
 search_of (f.Asks asks) = Wants asks.items
 
