@@ -6,9 +6,10 @@ from __future__ import annotations
 import dataclasses
 import hashlib
 import pathlib
+import struct
 from collections.abc import Iterator
 
-from answers import Answered, Reply, wire
+from answers import DNAME, Answered, Reply, part, wire
 from findings import rrsets
 from lasting import DNSKEY, NSEC, NSEC3, Passing, Record, Signature, is_sought, records
 
@@ -18,6 +19,8 @@ NO_TRUSTED_KEY, NOT_PROVEN = 21, 25
 # What a refusal alone says; others say nothing, since the answer is not bogus or the library lacked something.
 PLAIN = {17: BOGUS, 18: BOGUS, 22: BOGUS, 23: ITERATIONS, 27: BOGUS}
 DIGESTS = {2: hashlib.sha256, 4: hashlib.sha384}
+# The key of those rows that signs their answers.
+SIGNS = bytes.fromhex("0100030d10")
 # The refusals of those rows, by their words, in the order of enum zermuita_reply.
 REFUSALS = {
     "question is not allowed": 16,
@@ -134,6 +137,22 @@ def rows() -> Iterator[Row]:
             if ede == 2:
                 case = dataclasses.replace(case, reply=Reply(7))
             yield Row(case, reply == 27, what)
+
+
+def renamed() -> Iterator[Row]:
+    """Questions below a DNAME record of the same zone: whose name becomes one of 255 octets, and one that would have 256."""
+    first = next(rows()).case
+    owner, signer, target = wire("far.example"), wire("example"), wire(".".join(letter * 61 for letter in "abcd"))
+    fields = struct.pack(">HBBIIIH", 39, 13, 2, 300, 4000, 500, key_tag(SIGNS))
+    rrset = owner + struct.pack(">HHIH", 39, 1, 300, len(target)) + target
+    rdata = fields + signer + fields + signer + rrset
+    records = rrset + owner + struct.pack(">HHIH", 46, 1, 300, len(rdata)) + rdata
+    for label in (b"fives", b"sixsix"):
+        name = part(label, 1) + owner
+        answer = struct.pack(">6H", 0, 0x8400, 1, 2, 0, 0) + name + struct.pack(">HH", 1, 1) + records
+        octets = owner + (part(label, 1) + target if len(label) + 1 + len(target) <= 255 else b"")
+        case = dataclasses.replace(first, name=name, rtype=1, now=1500, answer=answer, reply=Reply(DNAME, octets), ede=0)
+        yield Row(case, False, f"a DNAME above {label.decode()}")
 
 
 def ds_of(word: str, state: dict) -> bytes:
