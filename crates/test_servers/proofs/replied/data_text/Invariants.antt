@@ -1,5 +1,5 @@
 use Rattle.std.proofs.Common.{length}
-use Rattle.test_servers.proofs.judging.words_of.Given as goal
+use Rattle.test_servers.proofs.replied.data_text.Given as goal
 
 abbrev pub decreases-loop-len : goal.decreases-loop-len
 decreases-loop-len l = length l.rest
