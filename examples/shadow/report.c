@@ -19,6 +19,7 @@ static struct shown shown_verdict(const struct verdict *verdict) {
         [FOUND_WILDCARD_NODATA] = {"secure", "wildcard-nodata"},
         [FOUND_DELEGATED] = {"insecure", "no-ds"},
         [FOUND_OPTOUT] = {"insecure", "optout"},
+        [FOUND_ALIAS] = {"secure", "alias"},
         [FOUND_BOGUS] = {"bogus", NULL},
         [FOUND_BOGUS_KEYS] = {"bogus", NULL},
     };

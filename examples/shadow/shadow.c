@@ -348,7 +348,8 @@ static bool find_verdict(struct shadow *shadow, const struct message *client, co
         if (!is_step_judged(shadow, &way, place, trial, verdict, reason)) {
             return false;
         }
-        if (verdict->finding != FOUND_ALIAS) {
+        bool is_end = told->is_alias_alone && !has_answer(client, &verdict->target, TYPE_CNAME);
+        if (verdict->finding != FOUND_ALIAS || is_end) {
             return true;
         }
         trial->qname = verdict->target;
