@@ -1,0 +1,97 @@
+-- What evidence tells is what the tree says.
+use Rattle.std.proofs.Common.{◌≡◌, true, ◌&&◌, not, List, [], Some, refl, sym, ap, subst, ◌∙◌, inl, inr}
+use Rattle.std.specs.Prelude.{◌==◌}
+use Rattle.std.proofs.lemmas.Bool.{and_parts, and_from}
+use Rattle.definitions.specs.Dnskey.{Ds}
+use Rattle.definitions.specs.Name.{Name, low, same, at_or_above}
+use Rattle.definitions.specs.Zone.{apex_of}
+use Rattle.definitions.proofs.ZoneNames.{lowered_above}
+use Rattle.denial_laws.specs.Leading.{To}
+use Rattle.denial_laws.proofs.NameFacts.{strictly_at}
+use Rattle.messages.specs.Message.{Asked}
+use Rattle.answer_judge_keys.specs.Judging.{Handing}
+use Rattle.resolution_tree.specs.Tree.{Said, Leads, Says, SaysItself, Itself, Below, Resolves, is_within, refers_to}
+use Rattle.resolution_tree.specs.Tree as tree
+use Rattle.resolution_tree.specs.Orderly.{IsOrderlyZone}
+use Rattle.resolution_tree.proofs.Trees.{IsReferred, referred}
+use Rattle.resolution_step.specs.KnownDs.{knows}
+use Rattle.resolution_step.specs.Told.{Told, TellsVerdict, TellsLead, TellsDown, TellsUnsigned, TellsOpen, TellsNoCut, TellsNothing, AsksFor, at_cut}
+use Rattle.resolution_step.specs.Truth.{AreOfZone, IsCutSo, IsToldSo, IsWayDown, zone_of_version}
+use Rattle.resolution_step.proofs.Truly.{cut_truly, lowered_so, told_truly}
+use Rattle.resolution_evidence.specs.Given.{Given, IsOf, handing}
+use Rattle.resolution_evidence.specs.Walking.{Onward, GoesDown, EndsIn, Stops, IsOnward, ByQuestion, ByName, IsOwnStep, IsNameStep, Tells, Ends, Goes, Follows, AtOnce, Led, ds_at, is_asked_of, onward, renamed}
+use Rattle.resolution_evidence.specs.Truth.{HandsOut, IsAnchored, IsOfTree, SignedZone, EvidenceTellsTruly, tree_of, zone_of}
+
+module _ (e : Given) (zones : List SignedZone) (anchor : SignedZone) (of : IsOfTree e zones anchor) where
+  of_zone : (asked : Asked) (s : SignedZone) (ds : List Ds) (h : Handing) → IsAnchored e zones anchor s ds → IsOf e s.apex ds asked h → AreOfZone e.table h s.version
+  of_zone asked s ds h a is = record {
+    passes = of.passes;
+    true_are = of.true_are;
+    honest = of.honest s ds asked h a is;
+    in_order = subst (λ (n : Name). IsOrderlyZone (zone_of_version n s.version)) (sym (ap (λ (x : Handing). x.apex) is.is)) (of.in_order s a.there);
+  }
+
+  -- ---- one zone
+
+  own_so : (asked : Asked) (s : SignedZone) (ds : List Ds) (said : Told) → IsAnchored e zones anchor s ds → IsOwnStep e s.apex ds asked said → IsToldSo e.algorithms (zone_of s) asked.name asked.rtype said
+  own_so asked s ds said a k =
+      let so = told_truly e.algorithms e.table k.judged said k.told_is s.version (of_zone asked s ds k.judged a k.of) in
+      subst (λ (h : Handing). IsToldSo e.algorithms (zone_of_version h.apex s.version) h.asked.name h.asked.rtype said) k.of.is so
+
+  name_so : (asked : Asked) (n : Name) (s : SignedZone) (ds : List Ds) (said : Told) → IsAnchored e zones anchor s ds → IsNameStep e s.apex ds (ds_at asked n) said → IsCutSo e.algorithms (zone_of s) n said
+  name_so asked n s ds said a k =
+      let ds_is = ap (λ (h : Handing). h.asked.rtype) k.of.is in
+      let so = cut_truly e.algorithms e.table k.judged said k.told_is s.version ds_is (of_zone (ds_at asked n) s ds k.judged a k.of) in
+      subst (λ (h : Handing). IsCutSo e.algorithms (zone_of_version h.apex s.version) h.asked.name said) k.of.is so
+
+  abbrev IsOnwardSo : Asked → SignedZone → Onward → Type 0
+  IsOnwardSo asked s (GoesDown c ds) = (refers_to (zone_of s).zone asked.name asked.rtype ≡ Some c) × IsWayDown e.algorithms (zone_of s) c ds
+  IsOnwardSo asked s (EndsIn said) = SaysItself (knows e.algorithms) asked.name asked.rtype (zone_of s) said
+  IsOnwardSo asked s Stops = Unit {0}
+
+  told_onward : (asked : Asked) (s : SignedZone) (x : Told) → IsToldSo e.algorithms (zone_of s) asked.name asked.rtype x → IsOnwardSo asked s (onward s.apex x)
+  told_onward asked s (TellsVerdict v) so = so
+  told_onward asked s (TellsLead lead) so = so
+  told_onward asked s (TellsDown c ds) so = so
+  told_onward asked s (TellsUnsigned c) so = so
+  told_onward asked s TellsOpen so = so
+  told_onward asked s TellsNoCut so = tt
+  told_onward asked s (TellsNothing r) so = tt
+  told_onward asked s (AsksFor asks) so = tt
+
+  onward_so : (asked : Asked) (s : SignedZone) (ds : List Ds) (o : Onward) → IsAnchored e zones anchor s ds → IsOnward e asked s.apex ds o → IsOnwardSo asked s o
+  onward_so asked s ds o a (ByQuestion said k is) = subst (IsOnwardSo asked s) (sym is) (told_onward asked s said (own_so asked s ds said a k))
+  onward_so asked s ds o a (ByName n said below above other k is) =
+      let inside : at_or_above (apex_of (zone_of s).zone) n ≡ true = lowered_above s.apex n ∙ strictly_at s.apex n below in
+      let so : IsToldSo e.algorithms (zone_of s) asked.name asked.rtype (at_cut said) =
+      lowered_so e.algorithms (handing e s.apex ds asked [] []) s.version (of.in_order s a.there) n said inside above other (name_so asked n s ds said a k) in
+      subst (IsOnwardSo asked s) (sym is) (told_onward asked s (at_cut said) so)
+
+  -- ---- down
+
+  pub tells_so : (asked : Asked) (said : Said) (zone : Name) (ds : List Ds) (s : SignedZone) → s.apex ≡ zone → IsAnchored e zones anchor s ds → Tells e asked said zone ds → Says (knows e.algorithms) (tree_of zones) asked.name asked.rtype said (zone_of s)
+  tells_so asked said zone ds s at a (Ends x) = Itself (onward_so asked s ds (EndsIn said) a (subst (λ n. IsOnward e asked n ds (EndsIn said)) (sym at) x))
+  tells_so asked said zone ds s at a (Goes {c = c} {below = below} x rest) =
+      let so = onward_so asked s ds (GoesDown c below) a (subst (λ n. IsOnward e asked n ds (GoesDown c below)) (sym at) x) in
+      let k : IsReferred (zone_of s).zone asked.name asked.rtype c = referred (zone_of s).zone asked.name asked.rtype c so.0 in
+      let child = of.whole s (low asked.name) c a.there k.cut_is so.1.bound in
+      let out : HandsOut e.algorithms zones child.0.apex below = subst (λ n. HandsOut e.algorithms zones n below) (sym child.2) (record { parent = s; there = a.there; bound = so.1.bound; ds_are = so.1.ds_are }) in
+      Below so.0 so.1.bound child.3 (tells_so asked said c below child.0 child.2 (record { there = child.1; by = inr out }) rest)
+
+  -- ---- through aliases
+
+  within : (asked : Asked) → is_asked_of e.anchor asked ≡ true → is_within (zone_of anchor).zone asked.name asked.rtype ≡ true
+  within asked w =
+      let both = and_parts (at_or_above e.anchor asked.name) (not (same e.anchor asked.name && (asked.rtype == 43))) w in
+      and_from _ _ (lowered_above anchor.apex asked.name ∙ ap (λ n. at_or_above n asked.name) of.anchor_is ∙ both.0)
+      (ap (λ n. not (same n asked.name && (asked.rtype == 43))) of.anchor_is ∙ both.1)
+
+  told_by_anchor : (asked : Asked) (said : Said) → Tells e asked said e.anchor e.ds → Says (knows e.algorithms) (tree_of zones) asked.name asked.rtype said (zone_of anchor)
+  told_by_anchor asked said x = tells_so asked said e.anchor e.ds anchor of.anchor_is (record { there = of.anchor_there; by = inl (refl, refl) }) x
+
+  pub follows_so : (said : Said) (asked : Asked) (ns : List Name) → Follows e said asked ns → Resolves (knows e.algorithms) (tree_of zones) (zone_of anchor) asked.rtype said asked.name ns
+  follows_so said asked ns (AtOnce w x l) = tree.Ends (within asked w) (told_by_anchor asked said x) l
+  follows_so said asked ns (Led {n = n} {ns = ms} w x rest) = tree.Led (within asked w) (told_by_anchor asked (Leads (To n)) x) (follows_so said (renamed asked n) ms rest)
+
+pub evidence_tells_truly : EvidenceTellsTruly
+evidence_tells_truly e zones anchor asked said ns of follows = follows_so e zones anchor of said asked ns follows
