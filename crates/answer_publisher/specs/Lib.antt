@@ -5,3 +5,4 @@ pub mod Composed
 pub mod AnswerFaults
 pub mod Answering
 pub mod World
+pub mod Inputs

@@ -48,6 +48,10 @@ world_by sign verifies digest hash s h zone life = world zone life (sign s) (ver
 abbrev pub world_of : {S H : Type 0} → (S → Dnskey → List ℕ → Option (List ℕ)) → (S → Dnskey → List ℕ → List ℕ → Bool) → (S → ℕ → List ℕ → Option (List ℕ)) → (H → List ℕ → ℕ → ℕ → List ℕ → Option (List ℕ)) → Publisher S H → World
 world_of sign verifies digest hash p = world_by sign verifies digest hash p.scheme.now p.zone.hasher (accepted_zone p.zone) p.life
 
+-- the same where another scheme signs
+abbrev pub world_with : {S T H : Type 0} → (T → Dnskey → List ℕ → Option (List ℕ)) → (T → Dnskey → List ℕ → List ℕ → Bool) → (S → ℕ → List ℕ → Option (List ℕ)) → (H → List ℕ → ℕ → ℕ → List ℕ → Option (List ℕ)) → T → Publisher S H → World
+world_with sign verifies digest hash t p = world (accepted_zone p.zone) p.life (sign t) (verifies t) (digest p.scheme.now) (hash p.zone.hasher)
+
 -- the digests of its keys
 abbrev pub digests : {S H : Type 0} → (S → ℕ → List ℕ → Option (List ℕ)) → Publisher S H → Dnskey → Option (List ℕ)
 digests digest_of p = digest_at (digest_of p.scheme.now) p.zone.apex

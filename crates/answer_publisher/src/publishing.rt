@@ -20,7 +20,7 @@ ghost use Rattle.answer_publisher.specs.Publishing.{digest_at};
 ghost use Rattle.answer_publisher.specs.Replacing.{later, noted, whole_second};
 ghost use Rattle.answer_publisher.specs.Signing.{signing};
 ghost use Rattle.answer_scheme.specs.Moments.{second_of};
-ghost use Rattle.answer_publisher.specs.World.{AnswersKeysQuestion, AnswersQuestion, HashesNames, RefusesKeysQuestion, RefusesQuestion, SpellsAnswer, SpellsKeys, digests, present_keys, world_of, zone_by};
+ghost use Rattle.answer_publisher.specs.World.{AnswersKeysQuestion, AnswersQuestion, HashesNames, RefusesKeysQuestion, RefusesQuestion, SpellsAnswer, SpellsKeys, digests, present_keys, world_of, world_with, zone_by};
 
 use crate::compose::compose_answer;
 use crate::fault::{AnswerFault, KeyFault, ZoneFault};
@@ -51,6 +51,7 @@ use std::slice;
 use std::time::Duration;
 
 mod calls;
+mod inputs;
 mod replacing;
 
 /// Publishes one signed zone while its keys roll (RFC 4035, 2 and 3; RFC 6781, 4.1).
@@ -122,6 +123,26 @@ impl<'a, S: Scheme, H: Nsec3Hasher> Publisher<'a, S, H> {
         ensures given { let w = world_of S.signature_of S.verifies S.digest_of H.hash_of self.now in
             IfOk result (λ m. SpellsKeys w self.now.keys now.now m.items) }
     {
+        self.dnskey_answer_with(self.scheme, now)
+    }
+
+    /// The answer for the DNSKEY RRset as [`Publisher::dnskey_answer`] gives it, but signed by
+    /// another scheme, as where signatures are made elsewhere.
+    pub fn dnskey_answer_with<T: Scheme>(
+        &self,
+        scheme: &T,
+        now: &UnixTime,
+    ) -> Result<Vec<u8>, AnswerFault>
+        ensures fault { let p = self.now in let t = scheme.now in
+            let w = world_with T.signature_of T.verifies S.digest_of H.hash_of t p in
+            IfErr result (RefusesKeysQuestion w p.keys now.now) }
+        ensures bytes { let p = self.now in let t = scheme.now in
+            let w = world_with T.signature_of T.verifies S.digest_of H.hash_of t p in
+            IfOk result (λ m. AnswersKeysQuestion w p.keys now.now m.items) }
+        ensures given { let p = self.now in let t = scheme.now in
+            let w = world_with T.signature_of T.verifies S.digest_of H.hash_of t p in
+            IfOk result (λ m. SpellsKeys w p.keys now.now m.items) }
+    {
         self.zone.keeps();
         let keys = self.keys.keys_by_tag(Publication::SignsKeys)?;
         let group = self.dnskey_group()?;
@@ -132,7 +153,7 @@ impl<'a, S: Scheme, H: Nsec3Hasher> Publisher<'a, S, H> {
         };
         compose_answer(
             self.alloc,
-            self.scheme,
+            scheme,
             &self.terms(now),
             &keys,
             AUTHORITATIVE,
@@ -198,27 +219,66 @@ impl<'a, S: Scheme, H: Nsec3Hasher> Publisher<'a, S, H> {
             OnOk result (self.new ≡ record self.old { latest = latest }) }
         ensures refused { OnErr result (self.new ≡ self.old) }
     {
-        let message = self.message(question, now)?;
+        self.answer_with(self.scheme, question, now)
+    }
+
+    /// The zone's answer as [`Publisher::answer`] gives it, but signed by another scheme, as where
+    /// signatures are made elsewhere. Its second is noted as there.
+    pub fn answer_with<T: Scheme>(
+        &mut self,
+        scheme: &T,
+        question: &Question,
+        now: &UnixTime,
+    ) -> Result<Vec<u8>, AnswerFault>
+        ensures allowed { let asked = asked_of question.now in
+            let allowed = is_allowed self.old.zone.apex asked in
+            IsErrOf result AnswerFault.QuestionNotAllowed ↔ (allowed ≡ false) }
+        ensures fault { let p = self.old in let t = scheme.now in
+            let w = world_with T.signature_of T.verifies S.digest_of H.hash_of t p in
+            IfErr result (RefusesQuestion w p.keys now.now (asked_of question.now)) }
+        ensures bytes { let p = self.old in let t = scheme.now in
+            let w = world_with T.signature_of T.verifies S.digest_of H.hash_of t p in
+            let asked = asked_of question.now in
+            IfOk result (λ m. AnswersQuestion w p.keys now.now asked m.items) }
+        ensures given { let p = self.old in let t = scheme.now in
+            let w = world_with T.signature_of T.verifies S.digest_of H.hash_of t p in
+            let asked = asked_of question.now in
+            IfOk result (λ m. SpellsAnswer w p.keys now.now asked m.items) }
+        ensures hashed { let p = self.old in let t = scheme.now in
+            let w = world_with T.signature_of T.verifies S.digest_of H.hash_of t p in
+            OnOk result (HashesNames w (asked_of question.now)) }
+        ensures noted { let latest = noted self.old.latest now.now in
+            OnOk result (self.new ≡ record self.old { latest = latest }) }
+        ensures refused { OnErr result (self.new ≡ self.old) }
+    {
+        let message = self.message(scheme, question, now)?;
         self.latest = Some(later(self.latest, whole_second(now)));
         Ok(message)
     }
 
-    /// The message of an answer.
-    fn message(&self, question: &Question, now: &UnixTime) -> Result<Vec<u8>, AnswerFault>
+    /// The message of an answer, signed by a scheme.
+    fn message<T: Scheme>(
+        &self,
+        scheme: &T,
+        question: &Question,
+        now: &UnixTime,
+    ) -> Result<Vec<u8>, AnswerFault>
         ensures allowed { let asked = asked_of question.now in
             let allowed = is_allowed self.now.zone.apex asked in
             IsErrOf result AnswerFault.QuestionNotAllowed ↔ (allowed ≡ false) }
-        ensures fault { let w = world_of S.signature_of S.verifies S.digest_of H.hash_of self.now in
+        ensures fault { let p = self.now in let t = scheme.now in
+            let w = world_with T.signature_of T.verifies S.digest_of H.hash_of t p in
+            IfErr result (RefusesQuestion w p.keys now.now (asked_of question.now)) }
+        ensures bytes { let p = self.now in let t = scheme.now in
+            let w = world_with T.signature_of T.verifies S.digest_of H.hash_of t p in
             let asked = asked_of question.now in
-            IfErr result (RefusesQuestion w self.now.keys now.now asked) }
-        ensures bytes { let w = world_of S.signature_of S.verifies S.digest_of H.hash_of self.now in
+            IfOk result (λ m. AnswersQuestion w p.keys now.now asked m.items) }
+        ensures given { let p = self.now in let t = scheme.now in
+            let w = world_with T.signature_of T.verifies S.digest_of H.hash_of t p in
             let asked = asked_of question.now in
-            IfOk result (λ m. AnswersQuestion w self.now.keys now.now asked m.items) }
-        ensures given { let w = world_of S.signature_of S.verifies S.digest_of H.hash_of self.now in
-            let asked = asked_of question.now in
-            IfOk result (λ m. SpellsAnswer w self.now.keys now.now asked m.items) }
-        ensures hashed { let s = self.now in
-            let w = world_of S.signature_of S.verifies S.digest_of H.hash_of s in
+            IfOk result (λ m. SpellsAnswer w p.keys now.now asked m.items) }
+        ensures hashed { let p = self.now in let t = scheme.now in
+            let w = world_with T.signature_of T.verifies S.digest_of H.hash_of t p in
             OnOk result (HashesNames w (asked_of question.now)) }
     {
         self.zone.keeps();
@@ -235,7 +295,7 @@ impl<'a, S: Scheme, H: Nsec3Hasher> Publisher<'a, S, H> {
         let keys = self.keys.keys_by_tag(which)?;
         compose_answer(
             self.alloc,
-            self.scheme,
+            scheme,
             &self.terms(now),
             &keys,
             found.flags,

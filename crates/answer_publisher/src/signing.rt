@@ -5,6 +5,7 @@ ghost use Rattle.definitions.specs.Name.{wire};
 ghost use Rattle.definitions.specs.Dnskey.{key_tag};
 ghost use Rattle.definitions.specs.Signing.{signed_octets, signed_owner};
 ghost use Rattle.answer_shared.specs.GroupView.{FailsFor, IsRrsigData, fields_of, octets_of};
+ghost use Rattle.answer_publisher.specs.Inputs.{all_inputs, input, inputs_of};
 ghost use Rattle.answer_publisher.specs.Signing.{is_for_parent};
 ghost use Rattle.denial_data.specs.Protos as protos;
 ghost use Rattle.messages.specs.Questions.{asked_of};
@@ -21,6 +22,7 @@ use messages::question::Question;
 use messages::signed::{compose_fields, signed_octets};
 use numbers::class::Class;
 use std::alloc::{AllocError, AllocFailed, Global};
+use std::marker::Model;
 
 /// Whether a question is for the CDS or the CDNSKEY RRset of the apex, by which a zone asks its
 /// parent for a DS set (RFC 7344, 3).
@@ -86,6 +88,93 @@ fn sign_with<S: Scheme, Octs: Octets>(
     compose_fields(&fields, &mut data)?;
     data.extend_from_slice(&signature)?;
     Ok(data)
+}
+
+/// Octets that are to be signed (RFC 4034, 3.1.8.1), and the key that signs them.
+#[derive(Debug, Drop)]
+pub struct SigningInput {
+    pub key: Dnskey<Vec<u8>>,
+    pub octets: Vec<u8>,
+}
+
+impl Model for SigningInput {
+    ghost use Rattle.answer_publisher.specs.Inputs.{Input, input};
+
+    ghost Value = { Input };
+
+    ghost view = { λ i. input i.key i.octets.items };
+}
+
+/// Appends what the signatures of RRsets are made over, RRset by RRset, one of each key.
+pub(crate) fn push_inputs<Octs: Octets>(
+    alloc: Global,
+    inputs: &mut Vec<SigningInput>,
+    terms: &SignatureTerms,
+    groups: &[RrGroup],
+    keys: &[Dnskey<Octs>],
+) -> Result<(), AllocError>
+    ensures { let t = terms.now in
+        let more = all_inputs t.apex.now t.at t.life keys.now groups.now in
+        OnOk result (inputs.new.items ≡ inputs.old.items ++ more) }
+{
+    for group in groups {
+        push_group_inputs(alloc, inputs, terms, group, keys)?;
+    }
+    Ok(())
+}
+
+/// Appends what the signatures of an RRset are made over, one of each key, where it is signed.
+fn push_group_inputs<Octs: Octets>(
+    alloc: Global,
+    inputs: &mut Vec<SigningInput>,
+    terms: &SignatureTerms,
+    group: &RrGroup,
+    keys: &[Dnskey<Octs>],
+) -> Result<(), AllocError>
+    ensures { let t = terms.now in
+        let more = inputs_of t.apex.now t.at t.life keys.now group.now in
+        OnOk result (inputs.new.items ≡ inputs.old.items ++ more) }
+{
+    if !group.is_signed() {
+        return Ok(());
+    }
+    push_inputs_of_keys(alloc, inputs, terms, group, keys)
+}
+
+/// Appends what the signatures of an RRset by some keys are made over.
+fn push_inputs_of_keys<Octs: Octets>(
+    alloc: Global,
+    inputs: &mut Vec<SigningInput>,
+    terms: &SignatureTerms,
+    group: &RrGroup,
+    keys: &[Dnskey<Octs>],
+) -> Result<(), AllocError>
+    ensures { let t = terms.now in
+        let of = (λ k. input k (octets_of t.apex.now t.at t.life group.now k)) in
+        OnOk result (inputs.new.items ≡ inputs.old.items ++ map of keys.now) }
+{
+    for key in keys {
+        inputs.push(input_for(alloc, terms, group, key)?)?;
+    }
+    Ok(())
+}
+
+/// What the signature of an RRset by a key is made over.
+fn input_for<Octs: Octets>(
+    alloc: Global,
+    terms: &SignatureTerms,
+    group: &RrGroup,
+    key: &Dnskey<Octs>,
+) -> Result<SigningInput, AllocError>
+    ensures { let t = terms.now in
+        let octets = octets_of t.apex.now t.at t.life group.now key.now in
+        IfOk result (λ i. i ≡ input key.now octets) }
+{
+    let fields = fields_for(terms, group, key);
+    Ok(SigningInput {
+        key: key.try_clone(alloc)?,
+        octets: signed_octets(alloc, &fields, group.owner(), Class::IN, group.canonical())?,
+    })
 }
 
 /// What one key's signature says of an RRset.

@@ -31,8 +31,8 @@ answer_to-requires g c = allowed_plain c.args.self.now.zone.apex (asked_of c.arg
 pub returns-clause-bytes : goal.returns-clause-bytes
 returns-clause-bytes g c =
     let z = accepted_zone c.args.self.now.zone in
-    let sign = g.S.Scheme.signature_of c.args.self.now.scheme.now in
-    let verifies = g.S.Scheme.verifies c.args.self.now.scheme.now in
+    let sign = g.T.Scheme.signature_of c.args.scheme.now in
+    let verifies = g.T.Scheme.verifies c.args.scheme.now in
     let made = c.in_ok-found.ensures.replies.0 in
     let found = c.in_ok-found.found in
     let role = c.signers_of-which.result in
@@ -59,8 +59,8 @@ returns-clause-bytes g c =
 pub returns-clause-given : goal.returns-clause-given
 returns-clause-given g c =
     let z = accepted_zone c.args.self.now.zone in
-    let sign = g.S.Scheme.signature_of c.args.self.now.scheme.now in
-    let verifies = g.S.Scheme.verifies c.args.self.now.scheme.now in
+    let sign = g.T.Scheme.signature_of c.args.scheme.now in
+    let verifies = g.T.Scheme.verifies c.args.scheme.now in
     let hash = g.H.Nsec3Hasher.hash_of c.args.self.now.zone.hasher in
     let made = c.in_ok-found.ensures.replies.0 in
     let found = c.in_ok-found.found in
@@ -87,8 +87,8 @@ returns-clause-given g c =
 pub returns-clause-fault : goal.returns-clause-fault
 returns-clause-fault g c =
     let z = accepted_zone c.args.self.now.zone in
-    let sign = g.S.Scheme.signature_of c.args.self.now.scheme.now in
-    let verifies = g.S.Scheme.verifies c.args.self.now.scheme.now in
+    let sign = g.T.Scheme.signature_of c.args.scheme.now in
+    let verifies = g.T.Scheme.verifies c.args.scheme.now in
     let hash = g.H.Nsec3Hasher.hash_of c.args.self.now.zone.hasher in
     let made = c.in_ok-found.ensures.replies.0 in
     let found = c.in_ok-found.found in

@@ -12,14 +12,14 @@ use Rattle.answer_shared.specs.Hashing.{served}
 use Rattle.answer_zone.specs.HashedZone.{accepted_zone}
 use Rattle.answer_publisher_keys.specs.declared.keys.Publication.TheVariants.{Present, SignsKeys}
 use Rattle.answer_publisher.proofs.Refusals.{if_err_map, keys_refused}
-use Rattle.answer_publisher.proofs.publishing.Publisher.dnskey_answer.Goals as goal
+use Rattle.answer_publisher.proofs.publishing.Publisher.dnskey_answer_with.Goals as goal
 use Rattle.definitions.specs.Limits.{pointer_limit}
 
 pub returns-clause-given : goal.returns-clause-given
 returns-clause-given g c =
     let z = accepted_zone c.args.self.now.zone in
-    let sign = g.S.Scheme.signature_of c.args.self.now.scheme.now in
-    let verifies = g.S.Scheme.verifies c.args.self.now.scheme.now in
+    let sign = g.T.Scheme.signature_of c.args.scheme.now in
+    let verifies = g.T.Scheme.verifies c.args.scheme.now in
     let hash = g.H.Nsec3Hasher.hash_of c.args.self.now.zone.hasher in
     let present = dnskeys (published c.args.self.now.keys Present) in
     let signers = dnskeys (published c.args.self.now.keys SignsKeys) in
@@ -37,8 +37,8 @@ returns-clause-given g c =
 pub returns-clause-fault : goal.returns-clause-fault
 returns-clause-fault g c =
     let z = accepted_zone c.args.self.now.zone in
-    let sign = g.S.Scheme.signature_of c.args.self.now.scheme.now in
-    let verifies = g.S.Scheme.verifies c.args.self.now.scheme.now in
+    let sign = g.T.Scheme.signature_of c.args.scheme.now in
+    let verifies = g.T.Scheme.verifies c.args.scheme.now in
     let keys = keys_by_tag c.args.self.now.keys SignsKeys in
     let present = dnskeys (published c.args.self.now.keys Present) in
     let at = second_of c.args.now.now in

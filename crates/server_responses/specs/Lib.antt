@@ -1,0 +1,5 @@
+pub mod Blank
+pub mod Limits
+pub mod Moments
+pub mod Responses
+pub mod Sections

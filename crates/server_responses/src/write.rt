@@ -1,0 +1,114 @@
+//! Parts of a response as they are written (RFC 1035, 4.1; RFC 6891, 6.1).
+//!
+//! Where memory runs out, a part may have been written in part: callers then drop the response.
+ghost use Rattle.std.specs.Prelude.{◌≡◌, ◌++◌, ◌+◌, ◌≤◌, length, OnOk, IfOk};
+ghost use Rattle.messages.specs.Record.{spelled};
+ghost use Rattle.messages.specs.Written.{question_octets, record_octets};
+ghost use Rattle.names_parsed.specs.Parsed.{parsed_name};
+ghost use Rattle.server_queries.specs.Replies.{opt_octets};
+ghost use Rattle.server_queries.specs.Views.{queried_of};
+ghost use Rattle.server_responses.specs.Responses.{head_octets, reply_octets};
+ghost use Rattle.server_responses.specs.Sections.{written_at};
+
+use messages::names::ParsedName;
+use messages::question::Question;
+use messages::view::ViewRecord;
+use messages::write::{push_u16, push_u32};
+use names_rdata::composer::compose_name;
+use numbers::rtype::Rtype;
+use numbers::ttl::Ttl;
+use server_queries::Query;
+use std::alloc::{AllocError, Global};
+
+/// A reply to a query: these flags, its question as it was spelled (RFC 5452, 9.1), so many records
+/// in the answer and the authority section, and an OPT record where the query has one.
+pub(crate) fn reply_octets(
+    alloc: Global,
+    query: &Query<'_>,
+    flags: u16,
+    counts: (u16, u16),
+    records: &[u8],
+    udp_size: u16,
+) -> Result<Vec<u8>, AllocError>
+    ensures { let q = queried_of query.now in
+        let is = reply_octets udp_size q flags counts.0 counts.1 records.now in
+        IfOk result (λ v. v.items ≡ is) }
+{
+    let mut out = Vec::new(alloc);
+    push_head(&mut out, query.header.id, flags, counts, u16::from(query.edns.is_some()))?;
+    push_question(&mut out, &query.question)?;
+    out.extend_from_slice(records)?;
+    if let Some(edns) = query.edns {
+        push_opt(&mut out, udp_size, edns.dnssec_ok)?;
+    }
+    Ok(out)
+}
+
+/// Appends a header: id, flags, one question, and the numbers of records of the other sections.
+#[tactic(auto, unfolding(crate::specs::Responses::head_octets))]
+fn push_head(
+    out: &mut Vec<u8>,
+    id: u16,
+    flags: u16,
+    counts: (u16, u16),
+    additional: u16,
+) -> Result<(), AllocError>
+    ensures { let more = head_octets id flags counts.0 counts.1 additional in
+        OnOk result (out.new.items ≡ out.old.items ++ more) }
+{
+    push_u16(out, id)?;
+    push_u16(out, flags)?;
+    push_u16(out, 1)?;
+    push_u16(out, counts.0)?;
+    push_u16(out, counts.1)?;
+    push_u16(out, additional)
+}
+
+/// Appends a question in the client's spelling.
+#[tactic(auto, unfolding(messages::specs::Written::question_octets))]
+fn push_question(out: &mut Vec<u8>, question: &Question<ParsedName<'_>>) -> Result<(), AllocError>
+    ensures { let name = parsed_name question.now.name in
+        let more = question_octets name question.now.rtype question.now.class in
+        OnOk result (out.new.items ≡ out.old.items ++ more) }
+{
+    if compose_name(&question.name, out).is_err() {
+        return Err(AllocError);
+    }
+    push_u16(out, question.rtype.to_int())?;
+    push_u16(out, question.class.to_int())
+}
+
+/// Appends an OPT record of version 0 without options, of a response code below 16.
+#[tactic(auto, unfolding(server_queries::specs::Replies::opt_octets))]
+fn push_opt(out: &mut Vec<u8>, udp_size: u16, dnssec_ok: bool) -> Result<(), AllocError>
+    ensures { let more = opt_octets udp_size 0 dnssec_ok in
+        OnOk result (out.new.items ≡ out.old.items ++ more) }
+{
+    out.extend_from_slice(&[0])?;
+    push_u16(out, Rtype::OPT.to_int())?;
+    push_u16(out, udp_size)?;
+    push_u32(out, if dnssec_ok { 0x8000 } else { 0 })?;
+    push_u16(out, 0)
+}
+
+/// Appends a record of a message, with a TTL.
+#[tactic(auto, unfolding(messages::specs::Written::record_octets))]
+pub(crate) fn push_view_record(
+    out: &mut Vec<u8>,
+    message: &[u8],
+    record: &ViewRecord<'_>,
+    ttl: Ttl,
+) -> Result<(), AllocError>
+    ensures { let more = record_octets (written_at message.now ttl (spelled record.now)) in
+        OnOk result (out.new.items ≡ out.old.items ++ more) }
+{
+    if compose_name(record.owner.name(), out).is_err() {
+        return Err(AllocError);
+    }
+    push_u16(out, record.rtype.to_int())?;
+    push_u16(out, record.class.to_int())?;
+    push_u32(out, ttl.as_secs())?;
+    let octets = record.octets(message);
+    push_u16(out, octets.len() as u16)?;
+    out.extend_from_slice(octets)
+}

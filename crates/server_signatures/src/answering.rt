@@ -1,0 +1,91 @@
+//! Answers by a table of signatures.
+ghost use Rattle.std.specs.Prelude.{◌≡◌, ◌≢◌, ◌↔◌, false, IfErr, IfOk, IsErrOf};
+ghost use Rattle.answer_publisher.specs.Inputs.{answer_inputs, keys_inputs};
+ghost use Rattle.answer_publisher.specs.World.{AnswersKeysQuestion, AnswersQuestion, HashesNames, RefusesKeysQuestion, RefusesQuestion, SpellsAnswer, SpellsKeys, world_of};
+ghost use Rattle.answer_shared.specs.Asking.{is_allowed};
+ghost use Rattle.messages.specs.Questions.{asked_of};
+ghost use Rattle.server_signatures.specs.Outcomes.{AnswersEach, AnswersKeysEach, IsSigned, RefusesEach, RefusesKeysEach, latest_after};
+
+use crate::made::MadeSignature;
+use crate::missing::missing;
+use crate::table::TableScheme;
+use answer_publisher::fault::AnswerFault;
+use answer_publisher::publishing::Publisher;
+use answer_publisher::signing::SigningInput;
+use answer_scheme::Scheme;
+use denial_nsec3_hash::hasher::Nsec3Hasher;
+use keyset::UnixTime;
+use messages::question::Question;
+use std::alloc::Global;
+
+/// What comes of an answer by a table.
+#[derive(Debug, Drop)]
+pub enum Signed {
+    /// The message.
+    Message(Vec<u8>),
+    /// The table lacks signatures of these octets by these keys: with them in it, and at the same
+    /// moment, the message is given.
+    Missing(Vec<SigningInput>),
+}
+
+/// Answers a question as [`Publisher::answer`] does, signed by a table of signatures that were made
+/// elsewhere. What the table lacks is asked for, all at once, and nothing is noted.
+///
+/// A caller begins with no entry, makes what is asked for in any order, puts it into its table and
+/// calls again. Entries of other answers do no harm; of two with one key and octets the first
+/// counts. Signatures are not verified here.
+pub fn answer_by_table<S: Scheme, H: Nsec3Hasher>(
+    alloc: Global,
+    publisher: &mut Publisher<'_, S, H>,
+    table: &[MadeSignature<'_>],
+    question: &Question,
+    now: &UnixTime,
+) -> Result<Signed, AnswerFault>
+    ensures allowed { let asked = asked_of question.now in
+        let allowed = is_allowed publisher.old.zone.apex asked in
+        IsErrOf result AnswerFault.QuestionNotAllowed ↔ (allowed ≡ false) }
+    ensures signed { let p = publisher.old in let asked = asked_of question.now in
+        let w = world_of S.signature_of S.verifies S.digest_of H.hash_of p in
+        let inputs = answer_inputs w p.keys now.now asked in
+        IfOk result (IsSigned table.now (AnswersEach table.now w p.keys now.now asked) inputs) }
+    ensures fault { let p = publisher.old in let asked = asked_of question.now in
+        let w = world_of S.signature_of S.verifies S.digest_of H.hash_of p in
+        IfErr result (RefusesEach table.now w p.keys now.now asked) }
+    ensures noted { let latest = latest_after result publisher.old.latest now.now in
+        publisher.new ≡ record publisher.old { latest = latest } }
+{
+    match publisher.answer_with(&TableScheme { table }, question, now) {
+        Ok(message) => Ok(Signed::Message(message)),
+        Err(AnswerFault::SignFailed) => {
+            let inputs = publisher.signing_inputs(question, now)?;
+            Ok(Signed::Missing(missing(alloc, table, inputs)?))
+        }
+        Err(fault) => Err(fault),
+    }
+}
+
+/// Gives the DNSKEY answer as [`Publisher::dnskey_answer`] does, signed by a table as
+/// [`answer_by_table`] signs.
+pub fn dnskey_answer_by_table<S: Scheme, H: Nsec3Hasher>(
+    alloc: Global,
+    publisher: &Publisher<'_, S, H>,
+    table: &[MadeSignature<'_>],
+    now: &UnixTime,
+) -> Result<Signed, AnswerFault>
+    ensures signed { let p = publisher.now in
+        let w = world_of S.signature_of S.verifies S.digest_of H.hash_of p in
+        let inputs = keys_inputs w p.keys now.now in
+        IfOk result (IsSigned table.now (AnswersKeysEach table.now w p.keys now.now) inputs) }
+    ensures fault { let p = publisher.now in
+        let w = world_of S.signature_of S.verifies S.digest_of H.hash_of p in
+        IfErr result (RefusesKeysEach table.now w p.keys now.now) }
+{
+    match publisher.dnskey_answer_with(&TableScheme { table }, now) {
+        Ok(message) => Ok(Signed::Message(message)),
+        Err(AnswerFault::SignFailed) => {
+            let inputs = publisher.dnskey_signing_inputs(now)?;
+            Ok(Signed::Missing(missing(alloc, table, inputs)?))
+        }
+        Err(fault) => Err(fault),
+    }
+}
