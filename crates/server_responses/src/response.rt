@@ -1,10 +1,10 @@
 //! A message of a zone's publisher as a client is to have it.
-ghost use Rattle.std.specs.Prelude.{◌≡◌, map, IfErr, IfOk, IsErr};
+ghost use Rattle.std.specs.Prelude.{◌≡◌, ◌<◌, map, IfErr, IfOk, IsErr};
 ghost use Rattle.definitions.specs.Limits.{pointer_limit};
 ghost use Rattle.messages.specs.Message.{message};
 ghost use Rattle.messages.specs.Record.{spelled};
 ghost use Rattle.server_queries.specs.Views.{queried_of};
-ghost use Rattle.server_responses.specs.Responses.{AnswersQuery, is_dnssec_ok, response_flags, whole_response};
+ghost use Rattle.server_responses.specs.Responses.{AnswersQuery, error_response, is_dnssec_ok, response_flags, whole_response};
 
 use crate::records::{Section, behind, first, negative_ttl, pair_at, push_section};
 use crate::write::reply_octets;
@@ -101,13 +101,28 @@ fn whole_response(
 }
 
 /// Whether a query has an OPT record with DO (RFC 3225, 3).
-pub(crate) fn is_dnssec_ok(query: &Query<'_>) -> bool
+pub fn is_dnssec_ok(query: &Query<'_>) -> bool
     ensures { result ≡ is_dnssec_ok (queried_of query.now) }
 {
     match query.edns {
         Some(edns) => edns.dnssec_ok,
         None => false,
     }
+}
+
+/// A reply without records to a query, of a response code below 16.
+pub fn error_response(
+    alloc: Global,
+    query: &Query<'_>,
+    rcode: u16,
+    udp_size: u16,
+) -> Result<Vec<u8>, AllocError>
+    requires { rcode < 16 }
+    ensures { let q = queried_of query.now in
+        IfOk result (λ v. v.items ≡ error_response udp_size q rcode) }
+{
+    let flags = 0x8000 + u16::from(query.header.is_recursion_desired()) * 0x0100 + rcode;
+    reply_octets(alloc, query, flags, (0, 0), &[], udp_size)
 }
 
 /// The flags of a response: QR, RD of the query, AA and the RCODE of the message, and TC.
@@ -117,8 +132,5 @@ fn response_flags(header: RequestHeader, message_flags: u16, is_truncated: bool)
     let desired = u16::from(header.is_recursion_desired());
     let authoritative = message_flags / 0x0400 % 2;
     let truncated = u16::from(is_truncated);
-    0x8000 + authoritative * 0x0400
-        + truncated * 0x0200
-        + desired * 0x0100
-        + message_flags % 16
+    0x8000 + authoritative * 0x0400 + truncated * 0x0200 + desired * 0x0100 + message_flags % 16
 }

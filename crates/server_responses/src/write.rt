@@ -35,7 +35,13 @@ pub(crate) fn reply_octets(
         IfOk result (λ v. v.items ≡ is) }
 {
     let mut out = Vec::new(alloc);
-    push_head(&mut out, query.header.id, flags, counts, u16::from(query.edns.is_some()))?;
+    push_head(
+        &mut out,
+        query.header.id,
+        flags,
+        counts,
+        u16::from(query.edns.is_some()),
+    )?;
     push_question(&mut out, &query.question)?;
     out.extend_from_slice(records)?;
     if let Some(edns) = query.edns {

@@ -11,7 +11,7 @@ use std::alloc::Global;
 pub(crate) struct BlankScheme;
 
 impl Scheme for BlankScheme {
-    ghost use Rattle.server_responses.specs.Blank.{sign_blank, verify_blank};
+    ghost use Rattle.server_answers.specs.Blank.{sign_blank, verify_blank};
     ghost use Rattle.std.specs.Prelude.{None};
 
     ghost verifies = { λ _. verify_blank };

@@ -1,30 +1,26 @@
 //! Requests, octets to octets.
-ghost use Rattle.std.specs.Prelude.{◌≡◌, IfOk, IfErr};
-ghost use Rattle.definitions.specs.Limits.{pointer_limit};
+ghost use Rattle.std.specs.Prelude.{◌≡◌, IfOk, OnErr};
+ghost use Rattle.answer_publisher.specs.World.{world_of};
 ghost use Rattle.messages.specs.Questions.{asked_of};
-ghost use Rattle.names_parsed.specs.Parsed.{parsed_name};
-ghost use Rattle.server_queries.specs.Queries.{query_at};
+ghost use Rattle.server_answers.specs.Moments.{backdated};
+ghost use Rattle.server_answers.specs.Requests.{IsMadeOf, IsOrWasNoted, ReadsWhole, Responds};
+ghost use Rattle.server_answers.specs.Responding.{AnswersQueried, serving};
 ghost use Rattle.server_queries.specs.Views.{queried_of};
-ghost use Rattle.server_responses.specs.Responses.{error_response};
 
-use crate::blank::BlankScheme;
+use crate::message::message_for;
 use crate::moment::backdated;
-use crate::response::{ResponseError, is_dnssec_ok, response};
-use crate::transport::{Transport, size_limit};
-use crate::write::reply_octets;
 use answer_publisher::fault::AnswerFault;
 use answer_publisher::publishing::Publisher;
 use answer_scheme::Scheme;
 use denial_nsec3_hash::hasher::Nsec3Hasher;
 use keyset::UnixTime;
-use messages::names::{Name, ToName};
+use messages::names::ToName;
 use messages::question::Question;
-use numbers::class::Class;
-use numbers::rtype::Rtype;
 use server_queries::{Query, Refusal, read_query, write_refusal};
-use server_signatures::{
-    MadeSignature, Signed, SigningInput, answer_by_table, dnskey_answer_by_table,
+use server_responses::{
+    ResponseError, Transport, error_response, is_dnssec_ok, response, size_limit,
 };
+use server_signatures::{MadeSignature, Signed, SigningInput};
 use std::alloc::{AllocError, Global};
 
 /// How a server answers.
@@ -60,7 +56,7 @@ const REFUSED: u16 = 5;
 /// when its signatures begin, and the second that the publisher notes. A request that is no query
 /// is answered as [`read_query`] says. A question that the publisher does not answer is REFUSED;
 /// SERVFAIL says that no message holds the answer, or that a name has no hash. Without DO nothing
-/// is signed.
+/// is signed. Where memory is refused, the second may have been noted.
 pub fn respond<S: Scheme, H: Nsec3Hasher>(
     alloc: Global,
     publisher: &mut Publisher<'_, S, H>,
@@ -69,7 +65,16 @@ pub fn respond<S: Scheme, H: Nsec3Hasher>(
     now: &UnixTime,
     transport: Transport,
     terms: &ServerTerms,
-) -> Result<Response, AllocError> {
+) -> Result<Response, AllocError>
+    ensures response { let p = publisher.old in
+        let w = world_of S.signature_of S.verifies S.digest_of H.hash_of p in
+        let at = backdated now.now terms.now.backdate in
+        let s = serving w p.keys table.now at 0 terms.now.udp_size in
+        IfOk result (Responds s transport request.now p.latest publisher.new.latest) }
+    ensures rest { publisher.new ≡ record publisher.old { latest = publisher.new.latest } }
+    ensures memory { let at = backdated now.now terms.now.backdate in
+        OnErr result (IsOrWasNoted at publisher.old.latest publisher.new.latest) }
+{
     match read_query(request) {
         Ok(query) => {
             let at = backdated(now, terms.backdate);
@@ -94,49 +99,44 @@ fn answer_query<S: Scheme, H: Nsec3Hasher>(
     at: &UnixTime,
     limit: usize,
     udp_size: u16,
-) -> Result<Response, AllocError> {
+) -> Result<Response, AllocError>
+    ensures response { let p = publisher.old in
+        let w = world_of S.signature_of S.verifies S.digest_of H.hash_of p in
+        let s = serving w p.keys table.now at.now limit udp_size in let q = queried_of query.now in
+        IfOk result (AnswersQueried s q p.latest publisher.new.latest) }
+    ensures rest { publisher.new ≡ record publisher.old { latest = publisher.new.latest } }
+    ensures memory { OnErr result
+        (IsOrWasNoted at.now publisher.old.latest publisher.new.latest) }
+{
     let question = question_of(alloc, query)?;
-    match message_for(alloc, publisher, table, &question, at, is_dnssec_ok(query)) {
+    let made = message_for(alloc, publisher, table, &question, at, is_dnssec_ok(query));
+    response_with(alloc, query, made, limit, udp_size)
+}
+
+/// The response that is made of a message, or what is said where there is none.
+fn response_with(
+    alloc: Global,
+    query: &Query<'_>,
+    made: Result<Signed, AnswerFault>,
+    limit: usize,
+    udp_size: u16,
+) -> Result<Response, AllocError>
+    requires { IfOk made.entry ReadsWhole }
+    ensures { IfOk result (IsMadeOf limit udp_size (queried_of query.now) made.entry) }
+{
+    match made {
         Ok(Signed::Message(message)) => match response(alloc, query, &message, limit, udp_size) {
             Ok(octets) => Ok(Response::Reply(octets)),
             Err(ResponseError::Memory) => Err(AllocError),
-            Err(ResponseError::Unreadable) => error_reply(alloc, query, SERVFAIL, udp_size),
+            Err(ResponseError::Unreadable) => unreachable!(),
         },
         Ok(Signed::Missing(inputs)) => Ok(Response::Sign(inputs)),
         Err(AnswerFault::Memory) => Err(AllocError),
-        Err(AnswerFault::QuestionNotAllowed) => error_reply(alloc, query, REFUSED, udp_size),
-        Err(_) => error_reply(alloc, query, SERVFAIL, udp_size),
+        Err(AnswerFault::QuestionNotAllowed) => {
+            Ok(Response::Reply(error_response(alloc, query, REFUSED, udp_size)?))
+        }
+        Err(_) => Ok(Response::Reply(error_response(alloc, query, SERVFAIL, udp_size)?)),
     }
-}
-
-/// The message that answers a question, with signatures of a table, or with none that is kept.
-fn message_for<S: Scheme, H: Nsec3Hasher>(
-    alloc: Global,
-    publisher: &mut Publisher<'_, S, H>,
-    table: &[MadeSignature<'_>],
-    question: &Question,
-    at: &UnixTime,
-    is_signed: bool,
-) -> Result<Signed, AnswerFault> {
-    let asks_keys = is_for_keys(publisher.apex(), question);
-    if is_signed {
-        return match asks_keys {
-            true => dnskey_answer_by_table(alloc, publisher, table, at),
-            false => answer_by_table(alloc, publisher, table, question, at),
-        };
-    }
-    let message = match asks_keys {
-        true => publisher.dnskey_answer_with(&BlankScheme, at)?,
-        false => publisher.answer_with(&BlankScheme, question, at)?,
-    };
-    Ok(Signed::Message(message))
-}
-
-/// Whether a question is for the DNSKEY RRset of the apex.
-fn is_for_keys(apex: &Name<Vec<u8>>, question: &Question) -> bool {
-    question.rtype == Rtype::DNSKEY
-        && question.class == Class::IN
-        && question.name.name_eq(apex)
 }
 
 /// The question of a query, over octets of its own.
@@ -151,15 +151,4 @@ fn question_of(alloc: Global, query: &Query<'_>) -> Result<Question, AllocError>
         rtype: query.question.rtype,
         class: query.question.class,
     })
-}
-
-/// A reply without records to a query.
-fn error_reply(
-    alloc: Global,
-    query: &Query<'_>,
-    rcode: u16,
-    udp_size: u16,
-) -> Result<Response, AllocError> {
-    let flags = 0x8000 + u16::from(query.header.is_recursion_desired()) * 0x0100 + rcode;
-    Ok(Response::Reply(reply_octets(alloc, query, flags, (0, 0), &[], udp_size)?))
 }

@@ -1,6 +1,6 @@
 //! The moment that answers are of.
 ghost use Rattle.std.specs.Prelude.{◌≡◌};
-ghost use Rattle.server_responses.specs.Moments.{backdated};
+ghost use Rattle.server_answers.specs.Moments.{backdated};
 
 use keyset::UnixTime;
 use std::time::Duration;

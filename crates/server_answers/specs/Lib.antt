@@ -1,0 +1,5 @@
+pub mod Blank
+pub mod Messages
+pub mod Moments
+pub mod Requests
+pub mod Responding

@@ -1,0 +1,16 @@
+-- What comes of the making of a message.
+use Rattle.std.specs.Prelude.{◌≡◌, ℕ, Bool, true, false, List, Option, Result, Ok, Err}
+use Rattle.messages.specs.Message.{Asked}
+use Rattle.answer_publisher.specs.Inputs.{answer_inputs, keys_inputs}
+use Rattle.answer_publisher.specs.Replacing.{noted}
+use Rattle.answer_publisher.specs.declared.fault.AnswerFault.{AnswerFault}
+use Rattle.server_signatures.specs.Table.{missing}
+use Rattle.server_signatures.specs.declared.answering.Signed.{Signed}
+use Rattle.server_signatures.specs.declared.answering.Signed.TheVariants.{Message, Missing}
+use Rattle.server_answers.specs.Responding.{IsFault, IsMessage, Serving, inputs_for, is_for_keys, latest_with}
+
+-- a message, with the greatest second noted; what is missing, where signatures are wanted; or why there is none
+abbrev pub Makes : Serving → Asked → Bool → Bool → Option ℕ → Option ℕ → Result Signed AnswerFault → Type 0
+Makes s asked keys dnssec_ok old new (Ok (Message m)) = IsMessage s asked keys dnssec_ok m.items × (new ≡ latest_with old s.at keys)
+Makes s asked keys dnssec_ok old new (Ok (Missing v)) = (dnssec_ok ≡ true) × (v.items ≡ missing s.table (inputs_for s asked keys)) × (new ≡ old)
+Makes s asked keys dnssec_ok old new (Err f) = IsFault s asked keys dnssec_ok f × (new ≡ old)

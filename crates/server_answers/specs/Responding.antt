@@ -1,0 +1,93 @@
+-- What a server answers to a query.
+use Rattle.std.specs.Prelude.{◌≡◌, ◌≢◌, ◌⊎◌, ℕ, Bool, true, false, ◌&&◌, ◌==◌, List, Option, Result, Ok, Err, Some, None, if◌then◌else◌}
+use Rattle.definitions.specs.Name.{Name, same}
+use Rattle.definitions.specs.Limits.{pointer_limit}
+use Rattle.messages.specs.Message.{Asked}
+use Rattle.answer_publisher_keys.specs.Bindings.{ZoneKeys}
+use Rattle.answer_publisher.specs.Inputs.{Input, answer_inputs, keys_inputs}
+use Rattle.answer_publisher.specs.Replacing.{noted}
+use Rattle.answer_publisher.specs.World.{AnswersKeysQuestion, AnswersQuestion, RefusesKeysQuestion, RefusesQuestion, World}
+use Rattle.answer_publisher.specs.declared.fault.AnswerFault.{AnswerFault}
+use Rattle.answer_publisher.specs.declared.fault.AnswerFault.TheVariants.{Memory, QuestionNotAllowed}
+use Rattle.server_queries.specs.Queries.{Queried, Refused}
+use Rattle.server_queries.specs.Replies.{error_octets}
+use Rattle.server_responses.specs.Responses.{AnswersQuery, error_response, is_dnssec_ok}
+use Rattle.server_signatures.specs.Outcomes.{AnswersEach, AnswersKeysEach, RefusesEach, RefusesKeysEach, signed_by}
+use Rattle.server_signatures.specs.Table.{Made, missing}
+use Rattle.server_answers.specs.Blank.{sign_blank, verify_blank}
+use Rattle.server_answers.specs.declared.respond.Response.{Response}
+use Rattle.server_answers.specs.declared.respond.Response.TheVariants.{Nothing, Reply, Sign}
+
+-- What a server answers by: the world and the keys of its publisher, a table of signatures, the moment that everything is of, and
+-- how many octets a response may have and this server takes.
+pub record Serving : Type 0 where
+  pub world : World
+  pub keys : ZoneKeys
+  pub table : List Made
+  pub at : ℕ
+  pub limit : ℕ
+  pub size : ℕ
+
+abbrev pub serving : World → ZoneKeys → List Made → ℕ → ℕ → ℕ → Serving
+serving world keys table at limit size = record { world = world; keys = keys; table = table; at = at; limit = limit; size = size }
+
+-- a question for the DNSKEY RRset of the apex
+abbrev pub is_for_keys : Name → Asked → Bool
+is_for_keys apex asked = (asked.rtype == 48) && (asked.class == 1) && same asked.name apex
+
+-- the same world, in which signatures have no octets
+abbrev pub unsigned : World → World
+unsigned w = signed_by w sign_blank verify_blank
+
+-- the message of which a response is made: with DO the publisher's under each scheme that signs as the table says; without DO one
+-- whose signatures have no octets, of which the response has none
+abbrev pub IsMessage : Serving → Asked → Bool → Bool → List ℕ → Type 0
+IsMessage s asked true true m = AnswersKeysEach s.table s.world s.keys s.at m
+IsMessage s asked true false m = AnswersKeysQuestion (unsigned s.world) s.keys s.at m
+IsMessage s asked false true m = AnswersEach s.table s.world s.keys s.at asked m
+IsMessage s asked false false m = AnswersQuestion (unsigned s.world) s.keys s.at asked m
+
+-- why there is none
+abbrev pub IsFault : Serving → Asked → Bool → Bool → AnswerFault → Type 0
+IsFault s asked true true f = RefusesKeysEach s.table s.world s.keys s.at f
+IsFault s asked true false f = RefusesKeysQuestion (unsigned s.world) s.keys s.at f
+IsFault s asked false true f = RefusesEach s.table s.world s.keys s.at asked f
+IsFault s asked false false f = RefusesQuestion (unsigned s.world) s.keys s.at asked f
+
+-- what the signatures of the message are made over
+abbrev pub inputs_for : Serving → Asked → Bool → List Input
+inputs_for s asked true = keys_inputs s.world s.keys s.at
+inputs_for s asked false = answer_inputs s.world s.keys s.at asked
+
+-- the greatest second of an answer, once a message is made: answers for the keys are not noted
+abbrev pub latest_with : Option ℕ → ℕ → Bool → Option ℕ
+latest_with latest at true = latest
+latest_with latest at false = noted latest at
+
+-- REFUSED, 5, for a question that is not allowed; SERVFAIL, 2, for what else (RFC 1035, 4.1.1)
+abbrev pub rcode_of : AnswerFault → ℕ
+rcode_of QuestionNotAllowed = 5
+rcode_of _ = 2
+
+-- the response of the message
+pub record IsAnswered (s : Serving) (q : Queried) (old new : Option ℕ) (octets : List ℕ) : Type 0 where
+  pub m : List ℕ
+  pub is_message : IsMessage s q.asked (is_for_keys s.world.zone.apex q.asked) (is_dnssec_ok q) m
+  pub answers : AnswersQuery s.limit s.size q m octets
+  pub noted_is : new ≡ latest_with old s.at (is_for_keys s.world.zone.apex q.asked)
+
+-- a reply that says why there is none
+pub record IsFailed (s : Serving) (q : Queried) (old new : Option ℕ) (octets : List ℕ) : Type 0 where
+  pub f : AnswerFault
+  pub is_fault : IsFault s q.asked (is_for_keys s.world.zone.apex q.asked) (is_dnssec_ok q) f
+  pub enough_memory : f ≢ Memory
+  pub octets_are : octets ≡ error_response s.size q (rcode_of f)
+  pub unchanged : new ≡ old
+
+-- What answers a query: a reply; or, with DO, a wish for all signatures that the table lacks. `old` and `new` are the greatest seconds
+-- of an answer before the call and behind it.
+abbrev pub AnswersQueried : Serving → Queried → Option ℕ → Option ℕ → Response → Type 0
+AnswersQueried s q old new Nothing = ⊥
+AnswersQueried s q old new (Reply v) = IsAnswered s q old new v.items ⊎ IsFailed s q old new v.items
+AnswersQueried s q old new (Sign v) =
+    (is_dnssec_ok q ≡ true) × (v.items ≡ missing s.table (inputs_for s q.asked (is_for_keys s.world.zone.apex q.asked))) × (new ≡ old)

@@ -1,0 +1,12 @@
+//! What an authoritative name server of one zone answers, octets to octets: a request, the message
+//! of the zone's publisher, signed by a table of signatures, and the response (RFC 1035, 4.1;
+//! RFC 4035, 3.1; RFC 6891).
+#![tactic(auto)]
+
+mod blank;
+mod message;
+pub mod moment;
+pub mod respond;
+
+pub use crate::moment::{DEFAULT_BACKDATE, backdated};
+pub use crate::respond::{Response, ServerTerms, respond};

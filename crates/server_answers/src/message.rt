@@ -1,0 +1,91 @@
+//! The message of which a response is made.
+ghost use Rattle.std.specs.Prelude.{◌≡◌, ◌≢◌, false, true, IfErr, IfOk};
+ghost use Rattle.answer_publisher.specs.World.{world_of};
+ghost use Rattle.messages.specs.Message.{Asked};
+ghost use Rattle.messages.specs.Questions.{asked_of};
+ghost use Rattle.server_answers.specs.Messages.{Makes};
+ghost use Rattle.server_answers.specs.Responding.{is_for_keys, serving};
+
+use crate::blank::BlankScheme;
+use answer_publisher::fault::AnswerFault;
+use answer_publisher::publishing::Publisher;
+use answer_scheme::Scheme;
+use denial_nsec3_hash::hasher::Nsec3Hasher;
+use keyset::UnixTime;
+use messages::names::{Name, ToName};
+use messages::question::Question;
+use numbers::class::Class;
+use numbers::rtype::Rtype;
+use server_signatures::{MadeSignature, Signed, answer_by_table, dnskey_answer_by_table};
+use std::alloc::Global;
+
+/// The message that answers a question at a moment: signed by a table, or, where nobody wants its
+/// signatures, with such as have no octets.
+pub(crate) fn message_for<S: Scheme, H: Nsec3Hasher>(
+    alloc: Global,
+    publisher: &mut Publisher<'_, S, H>,
+    table: &[MadeSignature<'_>],
+    question: &Question,
+    at: &UnixTime,
+    is_signed: bool,
+) -> Result<Signed, AnswerFault>
+    ensures made { let p = publisher.old in
+        let w = world_of S.signature_of S.verifies S.digest_of H.hash_of p in
+        let s = serving w p.keys table.now at.now 0 0 in let asked = asked_of question.now in
+        let keys = is_for_keys p.zone.apex asked in
+        Makes s asked keys is_signed p.latest publisher.new.latest result }
+    ensures rest { publisher.new ≡ record publisher.old { latest = publisher.new.latest } }
+{
+    if is_for_keys(publisher.apex(), question) {
+        keys_message(alloc, publisher, table, at, is_signed)
+    } else {
+        zone_message(alloc, publisher, table, question, at, is_signed)
+    }
+}
+
+/// The answer to a question for the zone's records.
+fn zone_message<S: Scheme, H: Nsec3Hasher>(
+    alloc: Global,
+    publisher: &mut Publisher<'_, S, H>,
+    table: &[MadeSignature<'_>],
+    question: &Question,
+    at: &UnixTime,
+    is_signed: bool,
+) -> Result<Signed, AnswerFault>
+    ensures made { let p = publisher.old in
+        let w = world_of S.signature_of S.verifies S.digest_of H.hash_of p in
+        let s = serving w p.keys table.now at.now 0 0 in let asked = asked_of question.now in
+        Makes s asked false is_signed p.latest publisher.new.latest result }
+    ensures rest { publisher.new ≡ record publisher.old { latest = publisher.new.latest } }
+{
+    if is_signed {
+        return answer_by_table(alloc, publisher, table, question, at);
+    }
+    Ok(Signed::Message(publisher.answer_with(&BlankScheme, question, at)?))
+}
+
+/// The answer to a question for the keys.
+fn keys_message<S: Scheme, H: Nsec3Hasher>(
+    alloc: Global,
+    publisher: &Publisher<'_, S, H>,
+    table: &[MadeSignature<'_>],
+    at: &UnixTime,
+    is_signed: bool,
+) -> Result<Signed, AnswerFault>
+    ensures { let p = publisher.now in
+        let w = world_of S.signature_of S.verifies S.digest_of H.hash_of p in
+        let s = serving w p.keys table.now at.now 0 0 in
+        (asked : Asked) → Makes s asked true is_signed p.latest p.latest result }
+{
+    if is_signed {
+        return dnskey_answer_by_table(alloc, publisher, table, at);
+    }
+    Ok(Signed::Message(publisher.dnskey_answer_with(&BlankScheme, at)?))
+}
+
+/// Whether a question is for the DNSKEY RRset of the apex.
+fn is_for_keys(apex: &Name<Vec<u8>>, question: &Question) -> bool
+    ensures { result ≡ is_for_keys apex.now (asked_of question.now) }
+{
+    question.rtype == Rtype::DNSKEY && question.class == Class::IN && question.name.name_eq(apex)
+}
