@@ -9,3 +9,4 @@ pub mod WritesZone
 pub mod WritesGiven
 pub mod SignRecords
 pub mod SignMade
+pub mod InputsMade

@@ -17,10 +17,10 @@ use Rattle.messages.proofs.MessageWritten.{StandsAt}
 use Rattle.answer_publisher.proofs.WritesGroups.{IsFormed, all_hold, all_records, are_groups, count_of}
 use Rattle.messages.proofs.Lists.{zip_append}
 
-presented : (v : GroupView) (g : Group) → Presents v g → v ≡ view_of g
+pub presented : (v : GroupView) (g : Group) → Presents v g → v ≡ view_of g
 presented v g p = λ i. record { owner = p.owner_is i; labels = p.labels_are i; rtype = p.rtype_is i; ttl = p.ttl_is i; written = p.written_is i; canonical = p.canonical_is i; signed = p.signed_is i }
 
-all_presented : (vs : List GroupView) (gs : List Group) → AllZip Presents vs gs → vs ≡ map view_of gs
+pub all_presented : (vs : List GroupView) (gs : List Group) → AllZip Presents vs gs → vs ≡ map view_of gs
 all_presented [] [] h = refl
 all_presented [] (g ∷ gs) h = absurd h
 all_presented (v ∷ vs) [] h = absurd h

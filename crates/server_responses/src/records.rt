@@ -13,7 +13,7 @@ use numbers::ttl::Ttl;
 use std::alloc::AllocError;
 
 /// Which records of a section a response has, and with which TTLs.
-#[derive(Clone, Copy, Debug)]
+#[derive(Debug)]
 pub(crate) struct Section {
     /// Whether it is the authority section.
     pub is_authority: bool,
@@ -47,12 +47,12 @@ pub(crate) fn push_section(
     out: &mut Vec<u8>,
     message: &[u8],
     records: &[ViewRecord<'_>],
-    section: Section,
+    section: &Section,
 ) -> Result<u16, AllocError>
     requires { length records.now ≤ 65535 }
-    ensures octets { let shown = all_shown section message.now (map spelled records.now) in
+    ensures octets { let shown = all_shown section.now message.now (map spelled records.now) in
         OnOk result (out.new.items ≡ out.old.items ++ flat_map record_octets shown) }
-    ensures count { let shown = all_shown section message.now (map spelled records.now) in
+    ensures count { let shown = all_shown section.now message.now (map spelled records.now) in
         IfOk result (λ n. n ≡ length shown) }
 {
     let mut count = 0;
@@ -67,11 +67,11 @@ fn push_shown(
     out: &mut Vec<u8>,
     message: &[u8],
     record: &ViewRecord<'_>,
-    section: Section,
+    section: &Section,
 ) -> Result<u16, AllocError>
-    ensures octets { let shown = shown section message.now (spelled record.now) in
+    ensures octets { let shown = shown section.now message.now (spelled record.now) in
         OnOk result (out.new.items ≡ out.old.items ++ flat_map record_octets shown) }
-    ensures count { let shown = shown section message.now (spelled record.now) in
+    ensures count { let shown = shown section.now message.now (spelled record.now) in
         IfOk result (λ n. n ≡ length shown) }
     ensures one { IfOk result (λ n. n ≤ 1) }
 {
@@ -84,8 +84,8 @@ fn push_shown(
 
 /// Whether a response leaves records of a type out: without DO those that signing adds, unless
 /// they are asked for, and in a referral DS records too (RFC 4035, 3.1 and 3.1.4; RFC 3225, 3).
-fn is_left_out(section: Section, rtype: Rtype) -> bool
-    ensures { result ≡ is_left_out section rtype }
+fn is_left_out(section: &Section, rtype: Rtype) -> bool
+    ensures { result ≡ is_left_out section.now rtype }
 {
     if section.dnssec_ok {
         return false;
@@ -99,8 +99,8 @@ fn is_left_out(section: Section, rtype: Rtype) -> bool
 
 /// The TTL of a record in a response: of the SOA record in a denial, and of its signatures, no more
 /// than the denial is to be kept (RFC 2308, 3).
-fn shown_ttl(section: Section, message: &[u8], record: &ViewRecord<'_>) -> Ttl
-    ensures { result ≡ shown_ttl section message.now (spelled record.now) }
+fn shown_ttl(section: &Section, message: &[u8], record: &ViewRecord<'_>) -> Ttl
+    ensures { result ≡ shown_ttl section.now message.now (spelled record.now) }
 {
     match section.negative_ttl {
         Some(limit) if is_soa_or_its_signature(message, record) => record.ttl.min(limit),
@@ -146,7 +146,10 @@ fn minimum_at(message: &[u8], record: &ViewRecord<'_>) -> Ttl
 pub(crate) fn pair_at(octets: &[u8], at: usize) -> u16
     ensures { result ≡ pair octets.now at }
 {
-    u16::from(octet_at(octets, at)) * 256 + u16::from(octet_at(octets, at + 1))
+    if at >= octets.len() {
+        return 0;
+    }
+    u16::from(octets[at]) * 256 + u16::from(octet_at(octets, at + 1))
 }
 
 /// The octet at a place, 0 where it is not there.

@@ -81,20 +81,21 @@ fn whole_response(
     let answers = first(records, pair_at(message, 6));
     let rest = behind(records, pair_at(message, 6));
     let authority = first(rest, pair_at(message, 8));
+    let mut octets = Vec::new(alloc);
     let section = Section {
         is_authority: false,
         dnssec_ok: is_dnssec_ok(query),
         asked: query.question.rtype,
         negative_ttl: None,
     };
-    let mut octets = Vec::new(alloc);
-    let answer_count = push_section(&mut octets, message, answers, section)?;
+    let answer_count = push_section(&mut octets, message, answers, &section)?;
     let section = Section {
         is_authority: true,
+        dnssec_ok: is_dnssec_ok(query),
+        asked: query.question.rtype,
         negative_ttl: negative_ttl(message, authority),
-        ..section
     };
-    let authority_count = push_section(&mut octets, message, authority, section)?;
+    let authority_count = push_section(&mut octets, message, authority, &section)?;
     let flags = response_flags(query.header, pair_at(message, 2), false);
     let counts = (answer_count, authority_count);
     reply_octets(alloc, query, flags, counts, &octets, udp_size)

@@ -36,9 +36,8 @@ impl<'a, S: Scheme, H: Nsec3Hasher> Publisher<'a, S, H> {
         let found = self
             .zone
             .answer_to(self.alloc, &question.name, question.rtype)?;
-        let keys = self
-            .keys
-            .keys_by_tag(self.signers_of(question, found.answer.len()))?;
+        let which = self.signers_of(question, found.answer.len());
+        let keys = self.keys.keys_by_tag(which)?;
         let terms = self.terms(now);
         let mut inputs = Vec::new(self.alloc);
         push_inputs(self.alloc, &mut inputs, &terms, &found.answer, &keys)?;

@@ -1,0 +1,22 @@
+use Rattle.std.proofs.Common.{◌≡◌, ◌∙◌, [], ◌∷◌, rules}
+use Rattle.answer_shared.specs.Hashing.{served}
+use Rattle.answer_shared.specs.Served.{key_group, keys_ttl}
+use Rattle.answer_zone.specs.HashedZone.{accepted_zone}
+use Rattle.answer_scheme.specs.Moments.{second_of}
+use Rattle.answer_publisher_keys.specs.Bindings.{keys_by_tag}
+use Rattle.answer_publisher_keys.specs.declared.keys.Publication.TheVariants.{SignsKeys}
+use Rattle.answer_publisher.specs.Inputs.{all_inputs}
+use Rattle.answer_publisher.specs.World.{present_keys}
+use Rattle.answer_publisher.proofs.InputsMade.{inputs_of_one}
+use Rattle.answer_publisher.proofs.publishing.Publisher.dnskey_signing_inputs.Goals as goal
+
+pub returns : goal.returns
+returns g c =
+    let z = accepted_zone c.args.self.now.zone in
+    let at = second_of c.args.now.now in
+    let life = c.args.self.now.life in
+    let keys = keys_by_tag c.args.self.now.keys SignsKeys in
+    let s = served (g.H.Nsec3Hasher.hash_of c.args.self.now.zone.hasher) z in
+    let group = c.in_ok-group.group in
+    let pushed : c.push_inputs.new.inputs.items ≡ all_inputs z.apex at life keys (group ∷ []) = search rules in
+    pushed ∙ inputs_of_one z.apex at life keys group (key_group z.apex (keys_ttl s) (present_keys c.args.self.now.keys)) c.in_ok-group.ensures.presents
