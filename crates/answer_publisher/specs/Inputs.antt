@@ -24,9 +24,13 @@ pub record Input : Type 0 where
 abbrev pub input : Dnskey → List ℕ → Input
 input key octets = record { key = key; octets = octets }
 
--- those of an RRset, one of each key, where it is signed
+-- an RRset's, one of each key
+abbrev pub inputs_by : Name → ℕ → ℕ → GroupView → List Dnskey → List Input
+inputs_by apex at life g keys = map (λ k. input k (octets_of apex at life g k)) keys
+
+-- those of an RRset, where it is signed
 abbrev pub inputs_of : Name → ℕ → ℕ → List Dnskey → GroupView → List Input
-inputs_of apex at life keys g = if g.signed then map (λ k. input k (octets_of apex at life g k)) keys else []
+inputs_of apex at life keys g = if g.signed then inputs_by apex at life g keys else []
 
 -- those of RRsets in order
 abbrev pub all_inputs : Name → ℕ → ℕ → List Dnskey → List GroupView → List Input

@@ -5,7 +5,7 @@ ghost use Rattle.definitions.specs.Name.{wire};
 ghost use Rattle.definitions.specs.Dnskey.{key_tag};
 ghost use Rattle.definitions.specs.Signing.{signed_octets, signed_owner};
 ghost use Rattle.answer_shared.specs.GroupView.{FailsFor, IsRrsigData, fields_of, octets_of};
-ghost use Rattle.answer_publisher.specs.Inputs.{all_inputs, input, inputs_of};
+ghost use Rattle.answer_publisher.specs.Inputs.{all_inputs, input, inputs_by, inputs_of};
 ghost use Rattle.answer_publisher.specs.Signing.{is_for_parent};
 ghost use Rattle.denial_data.specs.Protos as protos;
 ghost use Rattle.messages.specs.Questions.{asked_of};
@@ -150,8 +150,8 @@ fn push_inputs_of_keys<Octs: Octets>(
     keys: &[Dnskey<Octs>],
 ) -> Result<(), AllocError>
     ensures { let t = terms.now in
-        let of = (λ k. input k (octets_of t.apex.now t.at t.life group.now k)) in
-        OnOk result (inputs.new.items ≡ inputs.old.items ++ map of keys.now) }
+        let more = inputs_by t.apex.now t.at t.life group.now keys.now in
+        OnOk result (inputs.new.items ≡ inputs.old.items ++ more) }
 {
     for key in keys {
         inputs.push(input_for(alloc, terms, group, key)?)?;

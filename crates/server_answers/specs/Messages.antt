@@ -1,13 +1,11 @@
 -- What comes of the making of a message.
-use Rattle.std.specs.Prelude.{◌≡◌, ℕ, Bool, true, false, List, Option, Result, Ok, Err}
+use Rattle.std.specs.Prelude.{◌≡◌, ℕ, Bool, true, Option, Result, Ok, Err}
 use Rattle.messages.specs.Message.{Asked}
-use Rattle.answer_publisher.specs.Inputs.{answer_inputs, keys_inputs}
-use Rattle.answer_publisher.specs.Replacing.{noted}
 use Rattle.answer_publisher.specs.declared.fault.AnswerFault.{AnswerFault}
 use Rattle.server_signatures.specs.Table.{missing}
 use Rattle.server_signatures.specs.declared.answering.Signed.{Signed}
 use Rattle.server_signatures.specs.declared.answering.Signed.TheVariants.{Message, Missing}
-use Rattle.server_answers.specs.Responding.{IsFault, IsMessage, Serving, inputs_for, is_for_keys, latest_with}
+use Rattle.server_answers.specs.Responding.{IsFault, IsMessage, Serving, inputs_for, latest_with}
 
 -- a message, with the greatest second noted; what is missing, where signatures are wanted; or why there is none
 abbrev pub Makes : Serving → Asked → Bool → Bool → Option ℕ → Option ℕ → Result Signed AnswerFault → Type 0

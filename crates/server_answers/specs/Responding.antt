@@ -1,16 +1,14 @@
 -- What a server answers to a query.
-use Rattle.std.specs.Prelude.{◌≡◌, ◌≢◌, ◌⊎◌, ℕ, Bool, true, false, ◌&&◌, ◌==◌, List, Option, Result, Ok, Err, Some, None, if◌then◌else◌}
+use Rattle.std.specs.Prelude.{◌≡◌, ◌≢◌, ◌⊎◌, ℕ, Bool, true, false, ◌&&◌, ◌==◌, List, Option}
 use Rattle.definitions.specs.Name.{Name, same}
-use Rattle.definitions.specs.Limits.{pointer_limit}
 use Rattle.messages.specs.Message.{Asked}
 use Rattle.answer_publisher_keys.specs.Bindings.{ZoneKeys}
 use Rattle.answer_publisher.specs.Inputs.{Input, answer_inputs, keys_inputs}
 use Rattle.answer_publisher.specs.Replacing.{noted}
-use Rattle.answer_publisher.specs.World.{AnswersKeysQuestion, AnswersQuestion, RefusesKeysQuestion, RefusesQuestion, World}
+use Rattle.answer_publisher.specs.World.{AnswersKeysQuestion, AnswersQuestion, RefusesKeysQuestion, RefusesQuestion, SpellsAnswer, SpellsKeys, World}
 use Rattle.answer_publisher.specs.declared.fault.AnswerFault.{AnswerFault}
 use Rattle.answer_publisher.specs.declared.fault.AnswerFault.TheVariants.{Memory, QuestionNotAllowed}
-use Rattle.server_queries.specs.Queries.{Queried, Refused}
-use Rattle.server_queries.specs.Replies.{error_octets}
+use Rattle.server_queries.specs.Queries.{Queried}
 use Rattle.server_responses.specs.Responses.{AnswersQuery, error_response, is_dnssec_ok}
 use Rattle.server_signatures.specs.Outcomes.{AnswersEach, AnswersKeysEach, RefusesEach, RefusesKeysEach, signed_by}
 use Rattle.server_signatures.specs.Table.{Made, missing}
@@ -43,9 +41,9 @@ unsigned w = signed_by w sign_blank verify_blank
 -- whose signatures have no octets, of which the response has none
 abbrev pub IsMessage : Serving → Asked → Bool → Bool → List ℕ → Type 0
 IsMessage s asked true true m = AnswersKeysEach s.table s.world s.keys s.at m
-IsMessage s asked true false m = AnswersKeysQuestion (unsigned s.world) s.keys s.at m
+IsMessage s asked true false m = AnswersKeysQuestion (unsigned s.world) s.keys s.at m × SpellsKeys (unsigned s.world) s.keys s.at m
 IsMessage s asked false true m = AnswersEach s.table s.world s.keys s.at asked m
-IsMessage s asked false false m = AnswersQuestion (unsigned s.world) s.keys s.at asked m
+IsMessage s asked false false m = AnswersQuestion (unsigned s.world) s.keys s.at asked m × SpellsAnswer (unsigned s.world) s.keys s.at asked m
 
 -- why there is none
 abbrev pub IsFault : Serving → Asked → Bool → Bool → AnswerFault → Type 0

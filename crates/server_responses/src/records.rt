@@ -13,7 +13,7 @@ use numbers::ttl::Ttl;
 use std::alloc::AllocError;
 
 /// Which records of a section a response has, and with which TTLs.
-#[derive(Debug)]
+#[derive(Debug, Drop)]
 pub(crate) struct Section {
     /// Whether it is the authority section.
     pub is_authority: bool,

@@ -1,0 +1,71 @@
+-- Messages that are made, and what becomes of them.
+use Rattle.std.proofs.Common.{◌≡◌, ◌∙◌, ℕ, Bool, true, false, List, refl, sym, ap, subst, inl, inr}
+use Rattle.std.specs.Prelude.{◌⊎◌, Option, Result, Ok, Err, IfErr, IfOk, IsOk}
+use Rattle.definitions.specs.Limits.{pointer_limit}
+use Rattle.messages.specs.Message.{Asked, Message, message}
+use Rattle.messages.specs.declared.error.MessageError.{MessageError}
+use Rattle.answer_publisher.specs.Inputs.{answer_inputs, keys_inputs}
+use Rattle.answer_publisher.specs.Replacing.{noted}
+use Rattle.answer_publisher.specs.declared.fault.AnswerFault.{AnswerFault}
+use Rattle.server_queries.specs.Queries.{Queried}
+use Rattle.server_responses.specs.Responses.{is_dnssec_ok}
+use Rattle.server_signatures.specs.Outcomes.{AnswersEach, AnswersKeysEach, IsSigned, RefusesEach, RefusesKeysEach, latest_after}
+use Rattle.server_signatures.specs.Table.{sign_by, verify_by}
+use Rattle.server_signatures.specs.declared.answering.Signed.{Signed}
+use Rattle.server_signatures.specs.declared.answering.Signed.TheVariants as signed
+use Rattle.server_signatures.proofs.Signing.{own_entries}
+use Rattle.server_answers.specs.Messages.{Makes}
+use Rattle.server_answers.specs.Requests.{IsMadeOf, IsOrWasNoted, ReadsWhole}
+use Rattle.server_answers.specs.Responding.{AnswersQueried, IsMessage, Serving, is_for_keys}
+use Rattle.server_answers.specs.declared.respond.Response.{Response}
+use Rattle.server_answers.specs.declared.respond.Response.TheVariants as response
+
+-- ---- of a publisher's answers
+
+pub by_table : (s : Serving) (asked : Asked) (old new : Option ℕ) (r : Result Signed AnswerFault) → IfOk r (IsSigned s.table (AnswersEach s.table s.world s.keys s.at asked) (answer_inputs s.world s.keys s.at asked))
+    → IfErr r (RefusesEach s.table s.world s.keys s.at asked) → new ≡ latest_after r old s.at → Makes s asked false true old new r
+by_table s asked old new (Ok (signed.Message m)) is refused noted_is = (is, noted_is)
+by_table s asked old new (Ok (signed.Missing v)) is refused noted_is = (refl, is, noted_is)
+by_table s asked old new (Err f) is refused noted_is = (refused, noted_is)
+
+pub keys_by_table : (s : Serving) (asked : Asked) (old : Option ℕ) (r : Result Signed AnswerFault) → IfOk r (IsSigned s.table (AnswersKeysEach s.table s.world s.keys s.at) (keys_inputs s.world s.keys s.at))
+    → IfErr r (RefusesKeysEach s.table s.world s.keys s.at) → Makes s asked true true old old r
+keys_by_table s asked old (Ok (signed.Message m)) is refused = (is, refl)
+keys_by_table s asked old (Ok (signed.Missing v)) is refused = (refl, is, refl)
+keys_by_table s asked old (Err f) is refused = (refused, refl)
+
+-- ---- messages read
+
+ok_of : (r : Result Message MessageError) (read : Message) → r ≡ Ok read → IsOk r
+ok_of r read e = subst IsOk (sym e) tt
+
+is_read : (s : Serving) (asked : Asked) (keys dnssec_ok : Bool) (m : List ℕ) → IsMessage s asked keys dnssec_ok m → IsOk (message pointer_limit m)
+is_read s asked true true m h = let spells = (h (sign_by s.table) (verify_by s.table) (own_entries s.table)).1 in ok_of (message pointer_limit m) spells.read spells.reads
+is_read s asked true false m h = ok_of (message pointer_limit m) h.1.read h.1.reads
+is_read s asked false true m h = let spells = (h.0 (sign_by s.table) (verify_by s.table) (own_entries s.table)).1 in ok_of (message pointer_limit m) spells.read spells.reads
+is_read s asked false false m h = ok_of (message pointer_limit m) h.1.read h.1.reads
+
+pub reads_whole : (s : Serving) (asked : Asked) (keys dnssec_ok : Bool) (old new : Option ℕ) (r : Result Signed AnswerFault) → Makes s asked keys dnssec_ok old new r → IfOk r ReadsWhole
+reads_whole s asked keys dnssec_ok old new (Ok (signed.Message m)) h = is_read s asked keys dnssec_ok m.items h.0
+reads_whole s asked keys dnssec_ok old new (Ok (signed.Missing v)) h = tt
+reads_whole s asked keys dnssec_ok old new (Err f) h = tt
+
+-- ---- what becomes of them
+
+pub was_noted : (s : Serving) (asked : Asked) (keys dnssec_ok : Bool) (old new : Option ℕ) (r : Result Signed AnswerFault) → Makes s asked keys dnssec_ok old new r → IsOrWasNoted s.at old new
+was_noted s asked true dnssec_ok old new (Ok (signed.Message m)) h = inl h.1
+was_noted s asked false dnssec_ok old new (Ok (signed.Message m)) h = inr h.1
+was_noted s asked keys dnssec_ok old new (Ok (signed.Missing v)) h = inl h.2
+was_noted s asked keys dnssec_ok old new (Err f) h = inl h.1
+
+pub is_answered : (s : Serving) (q : Queried) (old new : Option ℕ) (made : Result Signed AnswerFault) (r : Response) → Makes s q.asked (is_for_keys s.world.zone.apex q.asked) (is_dnssec_ok q) old new made → IsMadeOf s.limit s.size q made r
+    → AnswersQueried s q old new r
+is_answered s q old new (Ok (signed.Message m)) (response.Reply v) h k = inl (record { m = m.items; is_message = h.0; answers = k; noted_is = h.1 })
+is_answered s q old new (Ok (signed.Message m)) response.Nothing h k = absurd k
+is_answered s q old new (Ok (signed.Message m)) (response.Sign v) h k = absurd k
+is_answered s q old new (Ok (signed.Missing inputs)) (response.Sign v) h k = (h.0, ap (λ x. x.items) k ∙ h.1, h.2)
+is_answered s q old new (Ok (signed.Missing inputs)) response.Nothing h k = absurd k
+is_answered s q old new (Ok (signed.Missing inputs)) (response.Reply v) h k = absurd k
+is_answered s q old new (Err f) (response.Reply v) h k = inr (record { f = f; is_fault = h.0; enough_memory = k.0; octets_are = k.1; unchanged = h.1 })
+is_answered s q old new (Err f) response.Nothing h k = absurd k
+is_answered s q old new (Err f) (response.Sign v) h k = absurd k
