@@ -1,12 +1,12 @@
 -- What signatures are made over, of RRsets as they are seen.
-use Rattle.std.proofs.Common.{◌≡◌, ◌∙◌, ℕ, List, [], ◌∷◌, ◌++◌, ap, map, sym}
+use Rattle.std.proofs.Common.{◌≡◌, ◌∙◌, ℕ, ◌+◌, ◌<◌, List, [], ◌∷◌, ◌++◌, add-one, ap, append_assoc, drop, drop-cons, get_or, length, map, sym}
 use Rattle.std.specs.List.{AllZip}
 use Rattle.std.proofs.lemmas.List.Concat.{flat_map-append}
 use Rattle.definitions.specs.Name.{Name}
 use Rattle.definitions.specs.Dnskey.{Dnskey}
-use Rattle.answer_shared.specs.GroupView.{GroupView, Presents, view_of}
+use Rattle.answer_shared.specs.GroupView.{GroupView, Presents, octets_of, view_of}
 use Rattle.answer_shared.specs.Served.{Group}
-use Rattle.answer_publisher.specs.Inputs.{all_inputs, inputs_of}
+use Rattle.answer_publisher.specs.Inputs.{Input, all_inputs, input, inputs_by, inputs_of}
 use Rattle.answer_publisher.proofs.WritesAnswer.{all_presented, presented}
 
 -- those of both sections are those of the answer
@@ -18,3 +18,13 @@ inputs_presented apex at life keys answer authority groups p =
 pub inputs_of_one : (apex : Name) (at life : ℕ) (keys : List Dnskey) (g : GroupView) (of : Group) → Presents g of
     → all_inputs apex at life keys (g ∷ []) ≡ all_inputs apex at life keys (view_of of ∷ [])
 inputs_of_one apex at life keys g of p = ap (λ v. all_inputs apex at life keys (v ∷ [])) (presented g of p)
+
+-- one key more
+pub inputs_next : (apex : Name) (at life : ℕ) (g : GroupView) (keys : List Dnskey) (i : ℕ) (key : Dnskey) (made : Input) (old new whole : List Input) → i < length keys → key ≡ get_or keys i key
+    → made ≡ input key (octets_of apex at life g key) → old ++ inputs_by apex at life g (drop i keys) ≡ whole → new ≡ old ++ made ∷ [] → new ++ inputs_by apex at life g (drop (i + 1) keys) ≡ whole
+inputs_next apex at life g keys i key made old new whole below is made_is before pushed =
+    let rest = inputs_by apex at life g (drop (i + 1) keys) in
+    let left : drop i keys ≡ key ∷ drop (i + 1) keys = drop-cons keys i key below ∙ (λ j. sym is j ∷ drop (sym (add-one i) j) keys) in
+    ap (λ xs. xs ++ rest) (pushed ∙ ap (λ x. old ++ x ∷ []) made_is)
+    ∙ append_assoc old (input key (octets_of apex at life g key) ∷ []) rest
+    ∙ ap (λ ks. old ++ inputs_by apex at life g ks) (sym left) ∙ before

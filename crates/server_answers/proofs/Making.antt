@@ -17,8 +17,8 @@ use Rattle.server_signatures.proofs.Signing.{own_entries}
 use Rattle.server_answers.specs.Messages.{Makes}
 use Rattle.server_answers.specs.Requests.{IsMadeOf, IsOrWasNoted, ReadsWhole}
 use Rattle.server_answers.specs.Responding.{AnswersQueried, IsMessage, Serving, is_for_keys}
-use Rattle.server_answers.specs.declared.respond.Response.{Response}
-use Rattle.server_answers.specs.declared.respond.Response.TheVariants as response
+use Rattle.server_answers.specs.declared.requests.Response.{Response}
+use Rattle.server_answers.specs.declared.requests.Response.TheVariants as response
 
 -- ---- of a publisher's answers
 

@@ -13,8 +13,8 @@ use Rattle.server_responses.specs.declared.transport.Transport.{Transport}
 use Rattle.server_signatures.specs.declared.answering.Signed.{Signed}
 use Rattle.server_signatures.specs.declared.answering.Signed.TheVariants.{Message, Missing}
 use Rattle.server_answers.specs.Responding.{AnswersQueried, Serving, rcode_of}
-use Rattle.server_answers.specs.declared.respond.Response.{Response}
-use Rattle.server_answers.specs.declared.respond.Response.TheVariants.{Nothing, Reply, Sign}
+use Rattle.server_answers.specs.declared.requests.Response.{Response}
+use Rattle.server_answers.specs.declared.requests.Response.TheVariants.{Nothing, Reply, Sign}
 
 -- a message that reads; what is missing has none
 abbrev pub ReadsWhole : Signed → Type 0

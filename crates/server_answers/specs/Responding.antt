@@ -13,8 +13,8 @@ use Rattle.server_responses.specs.Responses.{AnswersQuery, error_response, is_dn
 use Rattle.server_signatures.specs.Outcomes.{AnswersEach, AnswersKeysEach, RefusesEach, RefusesKeysEach, signed_by}
 use Rattle.server_signatures.specs.Table.{Made, missing}
 use Rattle.server_answers.specs.Blank.{sign_blank, verify_blank}
-use Rattle.server_answers.specs.declared.respond.Response.{Response}
-use Rattle.server_answers.specs.declared.respond.Response.TheVariants.{Nothing, Reply, Sign}
+use Rattle.server_answers.specs.declared.requests.Response.{Response}
+use Rattle.server_answers.specs.declared.requests.Response.TheVariants.{Nothing, Reply, Sign}
 
 -- What a server answers by: the world and the keys of its publisher, a table of signatures, the moment that everything is of, and
 -- how many octets a response may have and this server takes.

@@ -6,7 +6,7 @@
 mod blank;
 mod message;
 pub mod moment;
-pub mod respond;
+pub mod requests;
 
 pub use crate::moment::{DEFAULT_BACKDATE, backdated};
-pub use crate::respond::{Response, ServerTerms, respond};
+pub use crate::requests::{Response, ServerTerms, respond};

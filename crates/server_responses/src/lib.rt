@@ -2,10 +2,10 @@
 //! question, as the client of a query is to have it (RFC 1035, 4.1; RFC 4035, 3.1; RFC 6891).
 #![tactic(auto)]
 
+pub mod composing;
 mod records;
-pub mod response;
 pub mod transport;
 mod write;
 
-pub use crate::response::{ResponseError, error_response, is_dnssec_ok, response};
+pub use crate::composing::{ResponseError, error_response, is_dnssec_ok, response};
 pub use crate::transport::{Transport, size_limit};

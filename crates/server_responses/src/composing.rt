@@ -26,7 +26,7 @@ pub enum ResponseError {
 
 impl From<AllocError> for ResponseError {
     ghost use Rattle.std.specs.Prelude.{◌≡◌};
-    ghost use Rattle.server_responses.specs.declared.response.ResponseError.TheVariants.{Memory};
+    ghost use Rattle.server_responses.specs.declared.composing.ResponseError.TheVariants.{Memory};
 
     ghost from_gives = { λ _ e. e ≡ Memory };
 
