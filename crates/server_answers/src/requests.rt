@@ -121,8 +121,8 @@ fn response_with(
     limit: usize,
     udp_size: u16,
 ) -> Result<Response, AllocError>
-    requires { IfOk made.entry ReadsWhole }
-    ensures { IfOk result (IsMadeOf limit udp_size (queried_of query.now) made.entry) }
+    requires { IfOk made ReadsWhole }
+    ensures { IfOk result (IsMadeOf limit udp_size (queried_of query.now) made) }
 {
     match made {
         Ok(Signed::Message(message)) => match response(alloc, query, &message, limit, udp_size) {

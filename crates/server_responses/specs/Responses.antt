@@ -1,5 +1,5 @@
 -- Responses as they are written (RFC 1035, 4.1; RFC 6891, 6.1).
-use Rattle.std.specs.Prelude.{◌≡◌, ℕ, ◌+◌, ◌*◌, ◌/◌, ◌%◌, ◌≤◌, Bool, true, false, List, [], ◌++◌, length, take, drop, Option, Some, None, Ok, nat_le, if◌then◌else◌}
+use Rattle.std.specs.Prelude.{◌≡◌, ℕ, ◌+◌, ◌*◌, ◌/◌, ◌%◌, ◌≤◌, Bool, true, false, List, [], ◌++◌, length, Option, Some, None, IsErr, Ok, nat_le, if◌then◌else◌}
 use Rattle.std.specs.List.{flat_map}
 use Rattle.std.specs.Int.{w16, to_be_bytes}
 use Rattle.definitions.specs.Limits.{pointer_limit}
@@ -9,7 +9,7 @@ use Rattle.server_queries.specs.Queries.{Queried}
 use Rattle.server_queries.specs.Replies.{edns_octets, one_if_some}
 use Rattle.server_queries.specs.declared.edns.Edns.{Edns}
 use Rattle.server_queries.specs.declared.header.RequestHeader.{RequestHeader}
-use Rattle.server_responses.specs.Sections.{all_shown, negative_ttl}
+use Rattle.server_responses.specs.Sections.{all_shown, answer_section, authority_section, negative_ttl}
 use Rattle.server_responses.specs.declared.records.Section.{Section}
 
 -- DO (RFC 3225, 3)
@@ -40,13 +40,6 @@ reply_octets size q flags answers authority records =
     head_octets q.header.id flags answers authority (one_if_some q.edns) ++ question_octets q.asked.name q.asked.rtype q.asked.class ++ records
     ++ edns_octets size 0 q.edns
 
--- the records of the answer section of a message, which its header counts, and those of its authority section
-abbrev pub answer_section : List ℕ → List Spelled → List Spelled
-answer_section m rs = take (pair m 6) rs
-
-abbrev pub authority_section : List ℕ → List Spelled → List Spelled
-authority_section m rs = take (pair m 8) (drop (pair m 6) rs)
-
 -- what a response has of each
 abbrev pub answers_shown : Queried → List ℕ → List Spelled → List Written
 answers_shown q m rs = all_shown (record { is_authority = false; dnssec_ok = is_dnssec_ok q; asked = q.asked.rtype; negative_ttl = None }) m (answer_section m rs)
@@ -72,6 +65,10 @@ abbrev pub response_of : ℕ → ℕ → Queried → List ℕ → List Spelled �
 response_of limit size q m rs =
     let whole = whole_response size q m rs in
     if nat_le (length whole) limit then whole else truncated_response size q m
+
+-- octets that are no message
+abbrev pub IsUnreadable : List ℕ → Type 0
+IsUnreadable m = IsErr (message pointer_limit m)
 
 -- a message reads, and these octets are the response of it
 abbrev pub AnswersQuery : ℕ → ℕ → Queried → List ℕ → List ℕ → Type 0

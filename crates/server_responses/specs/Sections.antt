@@ -1,10 +1,17 @@
 -- The records of a response, section by section, of those of a message.
-use Rattle.std.specs.Prelude.{ℕ, ◌-◌, Bool, true, false, ◌&&◌, ◌||◌, ◌==◌, not, List, [], ◌∷◌, Option, Some, None, min, if◌then◌else◌}
+use Rattle.std.specs.Prelude.{ℕ, ◌-◌, Bool, true, false, ◌&&◌, ◌||◌, ◌==◌, not, List, [], ◌∷◌, Option, Some, None, drop, min, take, if◌then◌else◌}
 use Rattle.std.specs.List.{flat_map}
 use Rattle.messages.specs.HandedRr.{among}
 use Rattle.messages.specs.Message.{Spelled, behind, data_of, pair, quad}
 use Rattle.messages.specs.Written.{Written, written}
 use Rattle.server_responses.specs.declared.records.Section.{Section}
+
+-- the records of the answer section of a message, which its header counts, and those of its authority section
+abbrev pub answer_section : List ℕ → List Spelled → List Spelled
+answer_section m rs = take (pair m 6) rs
+
+abbrev pub authority_section : List ℕ → List Spelled → List Spelled
+authority_section m rs = take (pair m 8) (drop (pair m 6) rs)
 
 -- the types of records that signing adds: RRSIG, NSEC and NSEC3 (RFC 4034, 3 and 4; RFC 5155, 3)
 abbrev pub is_added : ℕ → Bool

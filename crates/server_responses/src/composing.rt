@@ -1,12 +1,14 @@
 //! A message of a zone's publisher as a client is to have it.
-ghost use Rattle.std.specs.Prelude.{◌≡◌, ◌<◌, map, IfErr, IfOk, IsErr};
-ghost use Rattle.definitions.specs.Limits.{pointer_limit};
-ghost use Rattle.messages.specs.Message.{message};
+ghost use Rattle.std.specs.Prelude.{◌≡◌, ◌++◌, ◌<◌, length, map, IfErr, IfOk, OnOk};
+ghost use Rattle.std.specs.List.{flat_map};
 ghost use Rattle.messages.specs.Record.{spelled};
+ghost use Rattle.messages.specs.Written.{record_octets};
 ghost use Rattle.server_queries.specs.Views.{queried_of};
-ghost use Rattle.server_responses.specs.Responses.{AnswersQuery, error_response, is_dnssec_ok, response_flags, whole_response};
+ghost use Rattle.server_responses.specs.Responses.{AnswersQuery, IsUnreadable, answers_shown, authority_shown, error_response, is_dnssec_ok, response_flags, whole_response};
 
-use crate::records::{Section, behind, first, negative_ttl, pair_at, push_section};
+use crate::records::{
+    Section, answer_section, authority_section, negative_ttl, pair_at, push_section,
+};
 use crate::write::reply_octets;
 use messages::listed::read_message_into;
 use messages::view::ViewRecord;
@@ -51,8 +53,8 @@ pub fn response(
 ) -> Result<Vec<u8>, ResponseError>
     ensures octets { let q = queried_of query.now in
         IfOk result (λ v. AnswersQuery limit udp_size q message.now v.items) }
-    ensures error { IfErr result (λ e. e ≡ ResponseError.Unreadable
-        → IsErr (message pointer_limit message.now)) }
+    ensures error { IfErr result
+        (λ e. e ≡ ResponseError.Unreadable → IsUnreadable message.now) }
 {
     let mut records = Vec::new(alloc);
     let Ok((_view, listed)) = read_message_into(message, &mut records) else {
@@ -64,7 +66,7 @@ pub fn response(
         return Ok(whole);
     }
     let flags = response_flags(query.header, pair_at(message, 2), true);
-    Ok(reply_octets(alloc, query, flags, (0, 0), &[], udp_size)?)
+    Ok(reply_octets(alloc, query, flags, 0, 0, &[], udp_size)?)
 }
 
 /// The response with all of its records.
@@ -78,27 +80,58 @@ fn whole_response(
     ensures { let q = queried_of query.now in let rs = map spelled records.now in
         IfOk result (λ v. v.items ≡ whole_response udp_size q message.now rs) }
 {
-    let answers = first(records, pair_at(message, 6));
-    let rest = behind(records, pair_at(message, 6));
-    let authority = first(rest, pair_at(message, 8));
     let mut octets = Vec::new(alloc);
+    let answers = push_answers(&mut octets, query, message, records)?;
+    let authority = push_authority(&mut octets, query, message, records)?;
+    let flags = response_flags(query.header, pair_at(message, 2), false);
+    reply_octets(alloc, query, flags, answers, authority, &octets, udp_size)
+}
+
+/// Appends what the response has of the answer section, and says how many records these are.
+fn push_answers(
+    out: &mut Vec<u8>,
+    query: &Query<'_>,
+    message: &[u8],
+    records: &[ViewRecord<'_>],
+) -> Result<u16, AllocError>
+    ensures octets { let q = queried_of query.now in
+        let shown = answers_shown q message.now (map spelled records.now) in
+        OnOk result (out.new.items ≡ out.old.items ++ flat_map record_octets shown) }
+    ensures count { let q = queried_of query.now in
+        let shown = answers_shown q message.now (map spelled records.now) in
+        IfOk result (λ n. n ≡ length shown) }
+{
     let section = Section {
         is_authority: false,
         dnssec_ok: is_dnssec_ok(query),
         asked: query.question.rtype,
         negative_ttl: None,
     };
-    let answer_count = push_section(&mut octets, message, answers, &section)?;
+    push_section(out, message, answer_section(message, records), &section)
+}
+
+/// Appends what the response has of the authority section, and says how many records these are.
+fn push_authority(
+    out: &mut Vec<u8>,
+    query: &Query<'_>,
+    message: &[u8],
+    records: &[ViewRecord<'_>],
+) -> Result<u16, AllocError>
+    ensures octets { let q = queried_of query.now in
+        let shown = authority_shown q message.now (map spelled records.now) in
+        OnOk result (out.new.items ≡ out.old.items ++ flat_map record_octets shown) }
+    ensures count { let q = queried_of query.now in
+        let shown = authority_shown q message.now (map spelled records.now) in
+        IfOk result (λ n. n ≡ length shown) }
+{
+    let authority = authority_section(message, records);
     let section = Section {
         is_authority: true,
         dnssec_ok: is_dnssec_ok(query),
         asked: query.question.rtype,
         negative_ttl: negative_ttl(message, authority),
     };
-    let authority_count = push_section(&mut octets, message, authority, &section)?;
-    let flags = response_flags(query.header, pair_at(message, 2), false);
-    let counts = (answer_count, authority_count);
-    reply_octets(alloc, query, flags, counts, &octets, udp_size)
+    push_section(out, message, authority, &section)
 }
 
 /// Whether a query has an OPT record with DO (RFC 3225, 3).
@@ -123,7 +156,7 @@ pub fn error_response(
         IfOk result (λ v. v.items ≡ error_response udp_size q rcode) }
 {
     let flags = 0x8000 + u16::from(query.header.is_recursion_desired()) * 0x0100 + rcode;
-    reply_octets(alloc, query, flags, (0, 0), &[], udp_size)
+    reply_octets(alloc, query, flags, 0, 0, &[], udp_size)
 }
 
 /// The flags of a response: QR, RD of the query, AA and the RCODE of the message, and TC.

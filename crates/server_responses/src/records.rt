@@ -4,7 +4,7 @@ ghost use Rattle.std.specs.List.{flat_map};
 ghost use Rattle.messages.specs.Message.{quad, pair};
 ghost use Rattle.messages.specs.Record.{spelled};
 ghost use Rattle.messages.specs.Written.{record_octets};
-ghost use Rattle.server_responses.specs.Sections.{all_shown, is_left_out, is_soa_or_its_signature, minimum_at, negative_ttl, shown, shown_ttl};
+ghost use Rattle.server_responses.specs.Sections.{all_shown, answer_section, authority_section, is_left_out, is_soa_or_its_signature, minimum_at, negative_ttl, shown, shown_ttl};
 
 use crate::write::push_view_record;
 use messages::view::ViewRecord;
@@ -25,9 +25,33 @@ pub(crate) struct Section {
     pub negative_ttl: Option<Ttl>,
 }
 
+/// The records of the answer section of a message, which its header counts.
+pub(crate) fn answer_section<'r, 'm>(
+    message: &[u8],
+    records: &'r [ViewRecord<'m>],
+) -> &'r [ViewRecord<'m>]
+    ensures records { map spelled result.now
+        ≡ answer_section message.now (map spelled records.now) }
+    ensures few { length result.now ≤ 65535 }
+{
+    first(records, pair_at(message, 6))
+}
+
+/// The records of the authority section of a message, which stand behind those of the answer.
+pub(crate) fn authority_section<'r, 'm>(
+    message: &[u8],
+    records: &'r [ViewRecord<'m>],
+) -> &'r [ViewRecord<'m>]
+    ensures records { map spelled result.now
+        ≡ authority_section message.now (map spelled records.now) }
+    ensures few { length result.now ≤ 65535 }
+{
+    first(behind(records, pair_at(message, 6)), pair_at(message, 8))
+}
+
 /// The first records, at most so many.
-pub(crate) fn first<'r, 'm>(records: &'r [ViewRecord<'m>], count: u16) -> &'r [ViewRecord<'m>]
-    ensures records { result.now ≡ take count records.now }
+fn first<'r, 'm>(records: &'r [ViewRecord<'m>], count: u16) -> &'r [ViewRecord<'m>]
+    ensures records { map spelled result.now ≡ take count (map spelled records.now) }
     ensures few { length result.now ≤ 65535 }
 {
     let count = usize::from(count).min(records.len());
@@ -35,8 +59,8 @@ pub(crate) fn first<'r, 'm>(records: &'r [ViewRecord<'m>], count: u16) -> &'r [V
 }
 
 /// The records behind the first ones.
-pub(crate) fn behind<'r, 'm>(records: &'r [ViewRecord<'m>], count: u16) -> &'r [ViewRecord<'m>]
-    ensures { result.now ≡ drop count records.now }
+fn behind<'r, 'm>(records: &'r [ViewRecord<'m>], count: u16) -> &'r [ViewRecord<'m>]
+    ensures { map spelled result.now ≡ drop count (map spelled records.now) }
 {
     let count = usize::from(count).min(records.len());
     &records[count..]

@@ -5,7 +5,7 @@ ghost use Rattle.std.specs.Prelude.{◌≡◌, ◌++◌, ◌+◌, ◌≤◌, len
 ghost use Rattle.messages.specs.Record.{spelled};
 ghost use Rattle.messages.specs.Written.{question_octets, record_octets};
 ghost use Rattle.names_parsed.specs.Parsed.{parsed_name};
-ghost use Rattle.server_queries.specs.Replies.{opt_octets};
+ghost use Rattle.server_queries.specs.Replies.{opt_bits, opt_octets};
 ghost use Rattle.server_queries.specs.Views.{queried_of};
 ghost use Rattle.server_responses.specs.Responses.{head_octets, reply_octets};
 ghost use Rattle.server_responses.specs.Sections.{written_at};
@@ -26,21 +26,24 @@ pub(crate) fn reply_octets(
     alloc: Global,
     query: &Query<'_>,
     flags: u16,
-    counts: (u16, u16),
+    answers: u16,
+    authority: u16,
     records: &[u8],
     udp_size: u16,
 ) -> Result<Vec<u8>, AllocError>
     ensures { let q = queried_of query.now in
-        let is = reply_octets udp_size q flags counts.0 counts.1 records.now in
+        let is = reply_octets udp_size q flags answers authority records.now in
         IfOk result (λ v. v.items ≡ is) }
 {
     let mut out = Vec::new(alloc);
+    let additional = u16::from(query.edns.is_some());
     push_head(
         &mut out,
         query.header.id,
         flags,
-        counts,
-        u16::from(query.edns.is_some()),
+        answers,
+        authority,
+        additional,
     )?;
     push_question(&mut out, &query.question)?;
     out.extend_from_slice(records)?;
@@ -56,17 +59,18 @@ fn push_head(
     out: &mut Vec<u8>,
     id: u16,
     flags: u16,
-    counts: (u16, u16),
+    answers: u16,
+    authority: u16,
     additional: u16,
 ) -> Result<(), AllocError>
-    ensures { let more = head_octets id flags counts.0 counts.1 additional in
+    ensures { let more = head_octets id flags answers authority additional in
         OnOk result (out.new.items ≡ out.old.items ++ more) }
 {
     push_u16(out, id)?;
     push_u16(out, flags)?;
     push_u16(out, 1)?;
-    push_u16(out, counts.0)?;
-    push_u16(out, counts.1)?;
+    push_u16(out, answers)?;
+    push_u16(out, authority)?;
     push_u16(out, additional)
 }
 
@@ -93,8 +97,15 @@ fn push_opt(out: &mut Vec<u8>, udp_size: u16, dnssec_ok: bool) -> Result<(), All
     out.extend_from_slice(&[0])?;
     push_u16(out, Rtype::OPT.to_int())?;
     push_u16(out, udp_size)?;
-    push_u32(out, if dnssec_ok { 0x8000 } else { 0 })?;
+    push_u32(out, opt_bits(dnssec_ok))?;
     push_u16(out, 0)
+}
+
+/// The TTL of an OPT record of version 0 and of a response code below 16: DO.
+fn opt_bits(dnssec_ok: bool) -> u32
+    ensures { result ≡ opt_bits 0 dnssec_ok }
+{
+    if dnssec_ok { 0x8000 } else { 0 }
 }
 
 /// Appends a record of a message, with a TTL.

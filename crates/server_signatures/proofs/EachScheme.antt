@@ -19,35 +19,35 @@ module _ (table : List Made) (w : World) (keys : ZoneKeys) (at : ℕ) where
   pub each_answer : (asked : Asked) (m : List ℕ) → AnswersQuestion (signed_by w (sign_by table) (verify_by table)) keys at asked m → SpellsAnswer (signed_by w (sign_by table) (verify_by table)) keys at asked m
       → HashesNames w asked → AnswersEach table w keys at asked m
   each_answer asked m is spells hashes = (
-    (λ sign verifies as. (
-      zone_too table sign verifies as (served_in w) w.zone.apex (second_of at) w.life (keys_by_tag keys (signing_in w asked)) asked m is,
-      gives_too table sign verifies as pointer_limit w.zone.apex (second_of at) w.life (by_tag (dnskeys (published keys (signing_in w asked)))) asked (answer_groups (served_in w) asked.name asked.rtype) m spells,
+    (λ sign verifies entries. (
+      zone_too table sign verifies entries (served_in w) w.zone.apex (second_of at) w.life (keys_by_tag keys (signing_in w asked)) asked m is,
+      gives_too table sign verifies entries pointer_limit w.zone.apex (second_of at) w.life (by_tag (dnskeys (published keys (signing_in w asked)))) asked (answer_groups (served_in w) asked.name asked.rtype) m spells,
     )),
     hashes,
   )
 
   pub each_keys : (m : List ℕ) → AnswersKeysQuestion (signed_by w (sign_by table) (verify_by table)) keys at m → SpellsKeys (signed_by w (sign_by table) (verify_by table)) keys at m → AnswersKeysEach table w keys at m
-  each_keys m is spells sign verifies as = (
-    keys_too table sign verifies as (served_in w) w.zone.apex (second_of at) w.life (present_keys keys) (keys_by_tag keys publication.SignsKeys) m is,
-    gives_too table sign verifies as pointer_limit w.zone.apex (second_of at) w.life (by_tag (dnskeys (published keys publication.SignsKeys))) _ _ m spells,
+  each_keys m is spells sign verifies entries = (
+    keys_too table sign verifies entries (served_in w) w.zone.apex (second_of at) w.life (present_keys keys) (keys_by_tag keys publication.SignsKeys) m is,
+    gives_too table sign verifies entries pointer_limit w.zone.apex (second_of at) w.life (by_tag (dnskeys (published keys publication.SignsKeys))) _ _ m spells,
   )
 
   pub each_refusal : (asked : Asked) (f : AnswerFault) → f ≢ fault.SignFailed → RefusesQuestion (signed_by w (sign_by table) (verify_by table)) keys at asked f → RefusesEach table w keys at asked f
   each_refusal asked f other h = (
     other,
-    (λ sign verifies as. refusal_too table sign verifies as w.answers.hash (served_in w) w.zone.apex (second_of at) w.life (keys_by_tag keys (signing_in w asked)) asked f other h),
+    (λ sign verifies entries. refusal_too table sign verifies entries w.answers.hash (served_in w) w.zone.apex (second_of at) w.life (keys_by_tag keys (signing_in w asked)) asked f other h),
   )
 
   pub each_keys_refusal : (f : AnswerFault) → f ≢ fault.SignFailed → RefusesKeysQuestion (signed_by w (sign_by table) (verify_by table)) keys at f → RefusesKeysEach table w keys at f
   each_keys_refusal f other h = (
     other,
-    (λ sign verifies as. keys_refusal_too table sign verifies as (served_in w) w.zone.apex (second_of at) w.life (present_keys keys) (keys_by_tag keys publication.SignsKeys) f other h),
+    (λ sign verifies entries. keys_refusal_too table sign verifies entries (served_in w) w.zone.apex (second_of at) w.life (present_keys keys) (keys_by_tag keys publication.SignsKeys) f other h),
   )
 
   -- what keeps the octets from being told keeps an answer from being given
   pub inputs_refused : (asked : Asked) (f : AnswerFault) → RefusesInputs w asked f → RefusesEach table w keys at asked f
-  inputs_refused asked fault.QuestionNotAllowed h = (cc, λ sign verifies as. h)
-  inputs_refused asked fault.HashFailed h = (cc, λ sign verifies as. h)
+  inputs_refused asked fault.QuestionNotAllowed h = (cc, λ sign verifies entries. h)
+  inputs_refused asked fault.HashFailed h = (cc, λ sign verifies entries. h)
   inputs_refused asked fault.SignFailed h = absurd h
   inputs_refused asked fault.TooLong h = absurd h
-  inputs_refused asked fault.Memory h = (cc, λ sign verifies as. tt)
+  inputs_refused asked fault.Memory h = (cc, λ sign verifies entries. tt)

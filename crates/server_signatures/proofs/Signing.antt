@@ -29,17 +29,17 @@ zip_too P Q f (x ∷ xs) (y ∷ ys) h = (f x y h.0, zip_too P Q f xs ys h.1)
 pub own_entries : (table : List Made) → SignsAs table (sign_by table) (verify_by table)
 own_entries table key octets signature e = (e, ap (λ o. is_signature o signature) e ∙ (bytes_eq-Decides signature signature).1 refl)
 
-module _ (table : List Made) (sign : Dnskey → List ℕ → Option (List ℕ)) (verifies : Dnskey → List ℕ → List ℕ → Bool) (as : SignsAs table sign verifies) where
+module _ (table : List Made) (sign : Dnskey → List ℕ → Option (List ℕ)) (verifies : Dnskey → List ℕ → List ℕ → Bool) (entries : SignsAs table sign verifies) where
   -- a signature that a table verifies passes
   passes_by : (key : Dnskey) (octets signature : List ℕ) (o : Option (List ℕ)) → sign_by table key octets ≡ o → is_signature o signature ≡ true → verifies key octets signature ≡ true
   passes_by key octets signature None e h = absurd (false≢true h)
-  passes_by key octets signature (Some s) e h = subst (λ x. verifies key octets x ≡ true) ((bytes_eq-Decides s signature).0 h) (as key octets s e).1
+  passes_by key octets signature (Some s) e h = subst (λ x. verifies key octets x ≡ true) ((bytes_eq-Decides s signature).0 h) (entries key octets s e).1
 
   -- ---- messages as they are written
 
   data_too : (apex : Name) (at life : ℕ) (g : GroupView) (key : Dnskey) (d : List ℕ) → IsRrsigData (sign_by table) (verify_by table) apex at life g key d → IsRrsigData sign verifies apex at life g key d
   data_too apex at life g key d is =
-      let both = as key (octets_of apex at life g key) is.signature is.made in
+      let both = entries key (octets_of apex at life g key) is.signature is.made in
       record { signature = is.signature; made = both.0; passes = both.1; data_is = is.data_is; tag_fits = is.tag_fits }
 
   written_too : (apex : Name) (at life : ℕ) (keys : List Dnskey) (g : GroupView) (ws : List Written) → IsWritten (sign_by table) (verify_by table) apex at life keys g ws → IsWritten sign verifies apex at life keys g ws
