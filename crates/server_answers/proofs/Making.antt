@@ -1,11 +1,11 @@
 -- Messages that are made, and what becomes of them.
 use Rattle.std.proofs.Common.{◌≡◌, ◌∙◌, ℕ, Bool, true, false, List, refl, sym, ap, subst, inl, inr}
-use Rattle.std.specs.Prelude.{◌⊎◌, Option, Result, Ok, Err, IfErr, IfOk, IsOk}
+use Rattle.std.specs.Prelude.{Option, Result, Ok, Err, IfErr, IfOk, IsOk, OnErr}
 use Rattle.definitions.specs.Limits.{pointer_limit}
 use Rattle.messages.specs.Message.{Asked, Message, message}
 use Rattle.messages.specs.declared.error.MessageError.{MessageError}
 use Rattle.answer_publisher.specs.Inputs.{answer_inputs, keys_inputs}
-use Rattle.answer_publisher.specs.Replacing.{noted}
+use Rattle.answer_publisher.specs.declared.publishing.Publisher.{Publisher}
 use Rattle.answer_publisher.specs.declared.fault.AnswerFault.{AnswerFault}
 use Rattle.server_queries.specs.Queries.{Queried}
 use Rattle.server_responses.specs.Responses.{is_dnssec_ok}
@@ -19,6 +19,14 @@ use Rattle.server_answers.specs.Requests.{IsMadeOf, IsOrWasNoted, ReadsWhole}
 use Rattle.server_answers.specs.Responding.{AnswersQueried, IsMessage, Serving, is_for_keys}
 use Rattle.server_answers.specs.declared.requests.Response.{Response}
 use Rattle.server_answers.specs.declared.requests.Response.TheVariants as response
+
+-- a publisher of which nothing but the latest second is another
+pub rest_of : {S H : Type 0} (p q : Publisher S H) (l : Option ℕ) → q ≡ record p { latest = l } → q ≡ record p { latest = q.latest }
+rest_of p q l e = e ∙ ap (λ (x : Option ℕ). record p { latest = x }) (sym (ap (λ r. r.latest) e))
+
+pub of_err : {T E P : Type 0} (r : Result T E) → P → OnErr r P
+of_err (Ok x) p = tt
+of_err (Err e) p = p
 
 -- ---- of a publisher's answers
 

@@ -1,5 +1,5 @@
 //! The message of which a response is made.
-ghost use Rattle.std.specs.Prelude.{◌≡◌, ◌≢◌, false, true, IfErr, IfOk};
+ghost use Rattle.std.specs.Prelude.{◌≡◌, false, true};
 ghost use Rattle.answer_publisher.specs.World.{world_of};
 ghost use Rattle.messages.specs.Message.{Asked};
 ghost use Rattle.messages.specs.Questions.{asked_of};
@@ -17,12 +17,10 @@ use messages::question::Question;
 use numbers::class::Class;
 use numbers::rtype::Rtype;
 use server_signatures::{MadeSignature, Signed, answer_by_table, dnskey_answer_by_table};
-use std::alloc::Global;
 
 /// The message that answers a question at a moment: signed by a table, or, where nobody wants its
 /// signatures, with such as have no octets.
 pub(crate) fn message_for<S: Scheme, H: Nsec3Hasher>(
-    alloc: Global,
     publisher: &mut Publisher<'_, S, H>,
     table: &[MadeSignature<'_>],
     question: &Question,
@@ -37,15 +35,13 @@ pub(crate) fn message_for<S: Scheme, H: Nsec3Hasher>(
     ensures rest { publisher.new ≡ record publisher.old { latest = publisher.new.latest } }
 {
     if is_for_keys(publisher.apex(), question) {
-        keys_message(alloc, publisher, table, at, is_signed)
-    } else {
-        zone_message(alloc, publisher, table, question, at, is_signed)
+        return keys_message(publisher, table, at, is_signed);
     }
+    zone_message(publisher, table, question, at, is_signed)
 }
 
 /// The answer to a question for the zone's records.
 fn zone_message<S: Scheme, H: Nsec3Hasher>(
-    alloc: Global,
     publisher: &mut Publisher<'_, S, H>,
     table: &[MadeSignature<'_>],
     question: &Question,
@@ -59,14 +55,16 @@ fn zone_message<S: Scheme, H: Nsec3Hasher>(
     ensures rest { publisher.new ≡ record publisher.old { latest = publisher.new.latest } }
 {
     if is_signed {
-        return answer_by_table(alloc, publisher, table, question, at);
+        return answer_by_table(publisher, table, question, at);
     }
-    Ok(Signed::Message(publisher.answer_with(&BlankScheme, question, at)?))
+    match publisher.answer_with(&BlankScheme, question, at) {
+        Ok(message) => Ok(Signed::Message(message)),
+        Err(fault) => Err(fault),
+    }
 }
 
 /// The answer to a question for the keys.
 fn keys_message<S: Scheme, H: Nsec3Hasher>(
-    alloc: Global,
     publisher: &Publisher<'_, S, H>,
     table: &[MadeSignature<'_>],
     at: &UnixTime,
@@ -78,9 +76,12 @@ fn keys_message<S: Scheme, H: Nsec3Hasher>(
         (asked : Asked) → Makes s asked true is_signed p.latest p.latest result }
 {
     if is_signed {
-        return dnskey_answer_by_table(alloc, publisher, table, at);
+        return dnskey_answer_by_table(publisher, table, at);
     }
-    Ok(Signed::Message(publisher.dnskey_answer_with(&BlankScheme, at)?))
+    match publisher.dnskey_answer_with(&BlankScheme, at) {
+        Ok(message) => Ok(Signed::Message(message)),
+        Err(fault) => Err(fault),
+    }
 }
 
 /// Whether a question is for the DNSKEY RRset of the apex.

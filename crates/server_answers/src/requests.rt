@@ -109,7 +109,7 @@ fn answer_query<S: Scheme, H: Nsec3Hasher>(
         (IsOrWasNoted at.now publisher.old.latest publisher.new.latest) }
 {
     let question = question_of(alloc, query)?;
-    let made = message_for(alloc, publisher, table, &question, at, is_dnssec_ok(query));
+    let made = message_for(publisher, table, &question, at, is_dnssec_ok(query));
     response_with(alloc, query, made, limit, udp_size)
 }
 

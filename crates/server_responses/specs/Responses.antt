@@ -1,5 +1,5 @@
 -- Responses as they are written (RFC 1035, 4.1; RFC 6891, 6.1).
-use Rattle.std.specs.Prelude.{◌≡◌, ℕ, ◌+◌, ◌*◌, ◌/◌, ◌%◌, ◌≤◌, Bool, true, false, List, [], ◌++◌, length, Option, Some, None, IsErr, Ok, nat_le, if◌then◌else◌}
+use Rattle.std.specs.Prelude.{◌≡◌, ℕ, ◌+◌, ◌*◌, ◌/◌, ◌%◌, Bool, true, false, List, [], ◌++◌, length, Option, Some, None, IsErr, Ok, nat_le, if◌then◌else◌}
 use Rattle.std.specs.List.{flat_map}
 use Rattle.std.specs.Int.{w16, to_be_bytes}
 use Rattle.definitions.specs.Limits.{pointer_limit}
@@ -10,7 +10,6 @@ use Rattle.server_queries.specs.Replies.{edns_octets, one_if_some}
 use Rattle.server_queries.specs.declared.edns.Edns.{Edns}
 use Rattle.server_queries.specs.declared.header.RequestHeader.{RequestHeader}
 use Rattle.server_responses.specs.Sections.{all_shown, answer_section, authority_section, negative_ttl}
-use Rattle.server_responses.specs.declared.records.Section.{Section}
 
 -- DO (RFC 3225, 3)
 abbrev pub wants_dnssec : Option Edns → Bool
@@ -28,10 +27,13 @@ bit true = 1
 abbrev pub response_flags : RequestHeader → ℕ → Bool → ℕ
 response_flags h flags truncated = 32768 + flags / 1024 % 2 * 1024 + bit truncated * 512 + h.flags / 256 % 2 * 256 + flags % 16
 
+abbrev pub count_octets : ℕ → ℕ → ℕ → List ℕ
+count_octets answers authority additional = to_be_bytes w16 answers ++ to_be_bytes w16 authority ++ to_be_bytes w16 additional
+
 -- id, flags, one question, and how many records the other sections have
 unfoldable pub head_octets : ℕ → ℕ → ℕ → ℕ → ℕ → List ℕ
 head_octets id flags answers authority additional =
-    to_be_bytes w16 id ++ to_be_bytes w16 flags ++ to_be_bytes w16 1 ++ to_be_bytes w16 answers ++ to_be_bytes w16 authority ++ to_be_bytes w16 additional
+    to_be_bytes w16 id ++ to_be_bytes w16 flags ++ to_be_bytes w16 1 ++ count_octets answers authority additional
 
 -- a reply to a query: its question as it was spelled (RFC 5452, 9.1), so many records in these octets, and an OPT record where the
 -- query has one, by a server that takes so many octets by UDP

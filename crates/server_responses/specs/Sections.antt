@@ -1,5 +1,5 @@
 -- The records of a response, section by section, of those of a message.
-use Rattle.std.specs.Prelude.{ℕ, ◌-◌, Bool, true, false, ◌&&◌, ◌||◌, ◌==◌, not, List, [], ◌∷◌, Option, Some, None, drop, min, take, if◌then◌else◌}
+use Rattle.std.specs.Prelude.{ℕ, ◌-◌, Bool, ◌&&◌, ◌||◌, ◌==◌, not, List, [], ◌∷◌, Option, Some, None, drop, min, take, if◌then◌else◌}
 use Rattle.std.specs.List.{flat_map}
 use Rattle.messages.specs.HandedRr.{among}
 use Rattle.messages.specs.Message.{Spelled, behind, data_of, pair, quad}

@@ -51,7 +51,7 @@ pub(crate) fn authority_section<'r, 'm>(
 
 /// The first records, at most so many.
 fn first<'r, 'm>(records: &'r [ViewRecord<'m>], count: u16) -> &'r [ViewRecord<'m>]
-    ensures records { map spelled result.now ≡ take count (map spelled records.now) }
+    ensures records { result.now ≡ take count records.now }
     ensures few { length result.now ≤ 65535 }
 {
     let count = usize::from(count).min(records.len());
@@ -60,7 +60,7 @@ fn first<'r, 'm>(records: &'r [ViewRecord<'m>], count: u16) -> &'r [ViewRecord<'
 
 /// The records behind the first ones.
 fn behind<'r, 'm>(records: &'r [ViewRecord<'m>], count: u16) -> &'r [ViewRecord<'m>]
-    ensures { map spelled result.now ≡ drop count (map spelled records.now) }
+    ensures { result.now ≡ drop count records.now }
 {
     let count = usize::from(count).min(records.len());
     &records[count..]

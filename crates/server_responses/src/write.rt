@@ -7,7 +7,7 @@ ghost use Rattle.messages.specs.Written.{question_octets, record_octets};
 ghost use Rattle.names_parsed.specs.Parsed.{parsed_name};
 ghost use Rattle.server_queries.specs.Replies.{opt_bits, opt_octets};
 ghost use Rattle.server_queries.specs.Views.{queried_of};
-ghost use Rattle.server_responses.specs.Responses.{head_octets, reply_octets};
+ghost use Rattle.server_responses.specs.Responses.{count_octets, head_octets, reply_octets};
 ghost use Rattle.server_responses.specs.Sections.{written_at};
 
 use messages::names::ParsedName;
@@ -69,6 +69,19 @@ fn push_head(
     push_u16(out, id)?;
     push_u16(out, flags)?;
     push_u16(out, 1)?;
+    push_counts(out, answers, authority, additional)
+}
+
+/// Appends the numbers of records of the sections behind the question.
+fn push_counts(
+    out: &mut Vec<u8>,
+    answers: u16,
+    authority: u16,
+    additional: u16,
+) -> Result<(), AllocError>
+    ensures { let more = count_octets answers authority additional in
+        OnOk result (out.new.items ≡ out.old.items ++ more) }
+{
     push_u16(out, answers)?;
     push_u16(out, authority)?;
     push_u16(out, additional)

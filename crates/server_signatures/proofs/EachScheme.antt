@@ -1,9 +1,10 @@
 -- What a publisher gives by a table holds under each scheme that signs as its entries say.
-use Rattle.std.proofs.Common.{◌≡◌, ℕ, List, refl}
+use Rattle.std.proofs.Common.{◌≡◌, ◌∙◌, ℕ, false, List, ap, refl, sym}
 use Rattle.std.specs.Prelude.{◌≢◌}
+use Rattle.std.proofs.lemmas.Bool.{false≢true}
 use Rattle.definitions.specs.Limits.{pointer_limit}
 use Rattle.messages.specs.Message.{Asked}
-use Rattle.answer_shared.specs.Served.{answer_groups, by_tag, key_group, keys_ttl}
+use Rattle.answer_shared.specs.Served.{answer_groups, by_tag}
 use Rattle.answer_publisher_keys.specs.Bindings.{ZoneKeys, dnskeys, keys_by_tag, published}
 use Rattle.answer_publisher_keys.specs.declared.keys.Publication.TheVariants as publication
 use Rattle.answer_publisher.specs.Inputs.{RefusesInputs}
@@ -11,9 +12,13 @@ use Rattle.answer_publisher.specs.World.{AnswersKeysQuestion, AnswersQuestion, H
 use Rattle.answer_publisher.specs.declared.fault.AnswerFault.{AnswerFault}
 use Rattle.answer_publisher.specs.declared.fault.AnswerFault.TheVariants as fault
 use Rattle.answer_scheme.specs.Moments.{second_of}
-use Rattle.server_signatures.specs.Outcomes.{AnswersEach, AnswersKeysEach, RefusesEach, RefusesKeysEach, signed_by}
+use Rattle.server_signatures.specs.Outcomes.{AnswersEach, AnswersKeysEach, RefusesEach, RefusesKeysEach, is_sign_failed, signed_by}
 use Rattle.server_signatures.specs.Table.{Made, sign_by, verify_by}
 use Rattle.server_signatures.proofs.Signing.{gives_too, keys_refusal_too, keys_too, refusal_too, zone_too}
+
+-- a fault that is another one
+pub is_other : (f : AnswerFault) → is_sign_failed f ≡ false → f ≢ fault.SignFailed
+is_other f other e = false≢true (sym other ∙ ap is_sign_failed e)
 
 module _ (table : List Made) (w : World) (keys : ZoneKeys) (at : ℕ) where
   pub each_answer : (asked : Asked) (m : List ℕ) → AnswersQuestion (signed_by w (sign_by table) (verify_by table)) keys at asked m → SpellsAnswer (signed_by w (sign_by table) (verify_by table)) keys at asked m
@@ -46,8 +51,11 @@ module _ (table : List Made) (w : World) (keys : ZoneKeys) (at : ℕ) where
 
   -- what keeps the octets from being told keeps an answer from being given
   pub inputs_refused : (asked : Asked) (f : AnswerFault) → RefusesInputs w asked f → RefusesEach table w keys at asked f
-  inputs_refused asked fault.QuestionNotAllowed h = (cc, λ sign verifies entries. h)
-  inputs_refused asked fault.HashFailed h = (cc, λ sign verifies entries. h)
+  inputs_refused asked fault.QuestionNotAllowed h = (is_other fault.QuestionNotAllowed refl, λ sign verifies entries. h)
+  inputs_refused asked fault.HashFailed h = (is_other fault.HashFailed refl, λ sign verifies entries. h)
   inputs_refused asked fault.SignFailed h = absurd h
   inputs_refused asked fault.TooLong h = absurd h
-  inputs_refused asked fault.Memory h = (cc, λ sign verifies entries. tt)
+  inputs_refused asked fault.Memory h = (is_other fault.Memory refl, λ sign verifies entries. tt)
+
+  pub keys_memory : RefusesKeysEach table w keys at fault.Memory
+  keys_memory = (is_other fault.Memory refl, λ sign verifies entries. tt)

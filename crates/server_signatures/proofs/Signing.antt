@@ -1,5 +1,5 @@
 -- What is signed by a table is signed so by each scheme that signs as its entries say.
-use Rattle.std.proofs.Common.{◌≡◌, ◌∙◌, ℕ, Bool, true, false, List, [], ◌∷◌, Option, Some, None, refl, ap, subst}
+use Rattle.std.proofs.Common.{◌≡◌, ◌∙◌, ℕ, Bool, true, List, [], ◌∷◌, Option, Some, None, refl, ap, subst}
 use Rattle.std.specs.Prelude.{◌≢◌, if◌then◌else◌}
 use Rattle.std.specs.List.{AllZip}
 use Rattle.std.proofs.lemmas.Bool.{false≢true}
@@ -14,7 +14,7 @@ use Rattle.answer_shared.specs.Hashing.{Hasher}
 use Rattle.answer_shared.specs.Served.{Group, Served}
 use Rattle.answer_shared.specs.Told.{AreSignatures, IsSignature, octets_for}
 use Rattle.answer_publisher.specs.Answering.{AnswersKeys, AnswersZone, RefusesAnswer, RefusesKeys}
-use Rattle.answer_publisher.specs.Composed.{IsAnswer, IsSection, IsTooLong, IsWritten, RefusesGroups}
+use Rattle.answer_publisher.specs.Composed.{IsAnswer, IsSection, IsTooLong, IsWritten}
 use Rattle.answer_publisher.specs.declared.fault.AnswerFault.{AnswerFault}
 use Rattle.answer_publisher.specs.declared.fault.AnswerFault.TheVariants as fault
 use Rattle.server_signatures.specs.Table.{Made, SignsAs, is_signature, sign_by, verify_by}

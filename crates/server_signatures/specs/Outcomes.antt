@@ -1,5 +1,5 @@
 -- What comes of an answer that is signed by a table.
-use Rattle.std.specs.Prelude.{◌≡◌, ◌≢◌, ℕ, Bool, List, Option, Result, Ok, Err}
+use Rattle.std.specs.Prelude.{◌≡◌, ◌≢◌, ℕ, Bool, true, false, List, Option, Result, Ok, Err}
 use Rattle.definitions.specs.Dnskey.{Dnskey}
 use Rattle.messages.specs.Message.{Asked}
 use Rattle.answer_publisher_keys.specs.Bindings.{ZoneKeys}
@@ -36,6 +36,10 @@ AnswersKeysEach table w keys at m = EachSigning table w (λ v. AnswersKeysQuesti
 
 abbrev pub RefusesKeysEach : List Made → World → ZoneKeys → ℕ → AnswerFault → Type 0
 RefusesKeysEach table w keys at f = (f ≢ SignFailed) × EachSigning table w (λ v. RefusesKeysQuestion v keys at f)
+
+abbrev pub is_sign_failed : AnswerFault → Bool
+is_sign_failed SignFailed = true
+is_sign_failed _ = false
 
 -- a message that is such, or what is missing: those of some inputs that the table lacks
 abbrev pub IsSigned : List Made → (List ℕ → Type 0) → List Input → Signed → Type 0

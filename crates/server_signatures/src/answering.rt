@@ -1,10 +1,9 @@
 //! Answers by a table of signatures.
-ghost use Rattle.std.specs.Prelude.{◌≡◌, ◌≢◌, ◌↔◌, false, IfErr, IfOk, IsErrOf};
+ghost use Rattle.std.specs.Prelude.{◌≡◌, IfErr, IfOk};
 ghost use Rattle.answer_publisher.specs.Inputs.{answer_inputs, keys_inputs};
-ghost use Rattle.answer_publisher.specs.World.{AnswersKeysQuestion, AnswersQuestion, HashesNames, RefusesKeysQuestion, RefusesQuestion, SpellsAnswer, SpellsKeys, world_of};
-ghost use Rattle.answer_shared.specs.Asking.{is_allowed};
+ghost use Rattle.answer_publisher.specs.World.{world_of};
 ghost use Rattle.messages.specs.Questions.{asked_of};
-ghost use Rattle.server_signatures.specs.Outcomes.{AnswersEach, AnswersKeysEach, IsSigned, RefusesEach, RefusesKeysEach, latest_after};
+ghost use Rattle.server_signatures.specs.Outcomes.{AnswersEach, AnswersKeysEach, IsSigned, RefusesEach, RefusesKeysEach, is_sign_failed, latest_after};
 
 use crate::made::MadeSignature;
 use crate::missing::missing;
@@ -16,7 +15,6 @@ use answer_scheme::Scheme;
 use denial_nsec3_hash::hasher::Nsec3Hasher;
 use keyset::UnixTime;
 use messages::question::Question;
-use std::alloc::Global;
 
 /// What comes of an answer by a table.
 #[derive(Debug, Drop)]
@@ -35,15 +33,11 @@ pub enum Signed {
 /// calls again. Entries of other answers do no harm; of two with one key and octets the first
 /// counts. Signatures are not verified here.
 pub fn answer_by_table<S: Scheme, H: Nsec3Hasher>(
-    alloc: Global,
     publisher: &mut Publisher<'_, S, H>,
     table: &[MadeSignature<'_>],
     question: &Question,
     now: &UnixTime,
 ) -> Result<Signed, AnswerFault>
-    ensures allowed { let asked = asked_of question.now in
-        let allowed = is_allowed publisher.old.zone.apex asked in
-        IsErrOf result AnswerFault.QuestionNotAllowed ↔ (allowed ≡ false) }
     ensures signed { let p = publisher.old in let asked = asked_of question.now in
         let w = world_of S.signature_of S.verifies S.digest_of H.hash_of p in
         let inputs = answer_inputs w p.keys now.now asked in
@@ -56,10 +50,33 @@ pub fn answer_by_table<S: Scheme, H: Nsec3Hasher>(
 {
     match publisher.answer_with(&TableScheme { table }, question, now) {
         Ok(message) => Ok(Signed::Message(message)),
-        Err(AnswerFault::SignFailed) => {
-            let inputs = publisher.signing_inputs(question, now)?;
-            Ok(Signed::Missing(missing(alloc, table, inputs)?))
+        Err(fault) => {
+            if is_sign_failed(fault) {
+                return missing_for(publisher, table, question, now);
+            }
+            Err(fault)
         }
+    }
+}
+
+/// What a table lacks for an answer.
+fn missing_for<S: Scheme, H: Nsec3Hasher>(
+    publisher: &Publisher<'_, S, H>,
+    table: &[MadeSignature<'_>],
+    question: &Question,
+    now: &UnixTime,
+) -> Result<Signed, AnswerFault>
+    ensures signed { let p = publisher.now in let asked = asked_of question.now in
+        let w = world_of S.signature_of S.verifies S.digest_of H.hash_of p in
+        let inputs = answer_inputs w p.keys now.now asked in
+        IfOk result (IsSigned table.now (AnswersEach table.now w p.keys now.now asked) inputs) }
+    ensures fault { let p = publisher.now in let asked = asked_of question.now in
+        let w = world_of S.signature_of S.verifies S.digest_of H.hash_of p in
+        IfErr result (RefusesEach table.now w p.keys now.now asked) }
+    ensures unnoted { latest_after result publisher.now.latest now.now ≡ publisher.now.latest }
+{
+    match publisher.signing_inputs(question, now) {
+        Ok(inputs) => Ok(Signed::Missing(missing(table, inputs))),
         Err(fault) => Err(fault),
     }
 }
@@ -67,7 +84,6 @@ pub fn answer_by_table<S: Scheme, H: Nsec3Hasher>(
 /// Gives the DNSKEY answer as [`Publisher::dnskey_answer`] does, signed by a table as
 /// [`answer_by_table`] signs.
 pub fn dnskey_answer_by_table<S: Scheme, H: Nsec3Hasher>(
-    alloc: Global,
     publisher: &Publisher<'_, S, H>,
     table: &[MadeSignature<'_>],
     now: &UnixTime,
@@ -82,10 +98,38 @@ pub fn dnskey_answer_by_table<S: Scheme, H: Nsec3Hasher>(
 {
     match publisher.dnskey_answer_with(&TableScheme { table }, now) {
         Ok(message) => Ok(Signed::Message(message)),
-        Err(AnswerFault::SignFailed) => {
-            let inputs = publisher.dnskey_signing_inputs(now)?;
-            Ok(Signed::Missing(missing(alloc, table, inputs)?))
+        Err(fault) => {
+            if is_sign_failed(fault) {
+                return missing_keys_for(publisher, table, now);
+            }
+            Err(fault)
         }
-        Err(fault) => Err(fault),
     }
+}
+
+/// What a table lacks for the DNSKEY answer.
+fn missing_keys_for<S: Scheme, H: Nsec3Hasher>(
+    publisher: &Publisher<'_, S, H>,
+    table: &[MadeSignature<'_>],
+    now: &UnixTime,
+) -> Result<Signed, AnswerFault>
+    ensures signed { let p = publisher.now in
+        let w = world_of S.signature_of S.verifies S.digest_of H.hash_of p in
+        let inputs = keys_inputs w p.keys now.now in
+        IfOk result (IsSigned table.now (AnswersKeysEach table.now w p.keys now.now) inputs) }
+    ensures fault { let p = publisher.now in
+        let w = world_of S.signature_of S.verifies S.digest_of H.hash_of p in
+        IfErr result (RefusesKeysEach table.now w p.keys now.now) }
+{
+    match publisher.dnskey_signing_inputs(now) {
+        Ok(inputs) => Ok(Signed::Missing(missing(table, inputs))),
+        Err(_) => Err(AnswerFault::Memory),
+    }
+}
+
+/// Whether a signature was not made.
+fn is_sign_failed(fault: AnswerFault) -> bool
+    ensures { result ≡ is_sign_failed fault }
+{
+    matches!(fault, AnswerFault::SignFailed)
 }

@@ -1,23 +1,21 @@
 //! Signatures that a table lacks.
-ghost use Rattle.std.specs.Prelude.{◌≡◌, IfOk};
+ghost use Rattle.std.specs.Prelude.{◌≡◌};
 ghost use Rattle.server_signatures.specs.Table.{missing, is_missing};
 
 use crate::made::{MadeSignature, signature_in};
 use answer_publisher::signing::SigningInput;
 use answer_shared::dnskey::ZoneKey;
-use std::alloc::{AllocError, Global};
 
 /// The inputs of which a table has no signature, in their order.
 pub(crate) fn missing(
-    alloc: Global,
     table: &[MadeSignature<'_>],
     inputs: Vec<SigningInput>,
-) -> Result<Vec<SigningInput>, AllocError>
-    ensures { IfOk result (λ v. v.items ≡ missing table.now inputs.items) }
+) -> Vec<SigningInput>
+    ensures { result.items ≡ missing table.now inputs.items }
 {
-    let mut inputs = inputs;
-    inputs.retain(|input| is_missing(table, input));
-    Ok(inputs)
+    let mut lacking = inputs;
+    lacking.retain(|input| is_missing(table, input));
+    lacking
 }
 
 /// Whether a table has no signature of an input.

@@ -1,4 +1,4 @@
-use Rattle.std.proofs.Common.{◌≡◌, ◌∙◌, ◌++◌, ℕ, false, length, List, map, subst, ap, rules}
+use Rattle.std.proofs.Common.{◌≡◌, ◌++◌, ℕ, false, length, List, map, subst, rules}
 use Rattle.std.specs.Prelude.{IfOk}
 use Rattle.std.specs.List.{flat_map}
 use Rattle.messages.specs.Message.{pair}

@@ -1,0 +1,10 @@
+use Rattle.answer_publisher.specs.World.{world_of}
+use Rattle.messages.specs.Questions.{asked_of}
+use Rattle.server_signatures.proofs.EachScheme.{inputs_refused}
+use Rattle.server_signatures.proofs.answering.missing_for.Goals as goal
+
+pub returns-in-Err-clause-fault : goal.returns-in-Err-clause-fault
+returns-in-Err-clause-fault g c =
+    let p = c.args.publisher.now in
+    let w = world_of g.S.Scheme.signature_of g.S.Scheme.verifies g.S.Scheme.digest_of g.H.Nsec3Hasher.hash_of p in
+    inputs_refused c.args.table.now w p.keys c.args.now.now (asked_of c.args.question.now) c.in-Err.fault c.in-Err.ensures.fault

@@ -1,0 +1,9 @@
+use Rattle.answer_publisher.specs.World.{world_of}
+use Rattle.server_signatures.proofs.EachScheme.{keys_memory}
+use Rattle.server_signatures.proofs.answering.missing_keys_for.Goals as goal
+
+pub returns-in-Err-clause-fault : goal.returns-in-Err-clause-fault
+returns-in-Err-clause-fault g c =
+    let p = c.args.publisher.now in
+    let w = world_of g.S.Scheme.signature_of g.S.Scheme.verifies g.S.Scheme.digest_of g.H.Nsec3Hasher.hash_of p in
+    keys_memory c.args.table.now w p.keys c.args.now.now
