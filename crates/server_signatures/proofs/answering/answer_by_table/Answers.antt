@@ -1,6 +1,9 @@
-use Rattle.std.proofs.Common.{◌∙◌, sym}
+use Rattle.std.proofs.Common.{◌∙◌, subst, sym}
+use Rattle.std.specs.Prelude.{IfOk}
+use Rattle.answer_publisher.specs.Inputs.{answer_inputs}
 use Rattle.answer_publisher.specs.World.{world_of}
 use Rattle.messages.specs.Questions.{asked_of}
+use Rattle.server_signatures.specs.Outcomes.{AnswersEach, IsSigned}
 use Rattle.server_signatures.proofs.EachScheme.{each_answer, each_refusal, is_other}
 use Rattle.server_signatures.proofs.answering.answer_by_table.Goals as goal
 
@@ -10,9 +13,17 @@ returns-in-Ok-clause-signed g c =
     let w = world_of g.S.Scheme.signature_of g.S.Scheme.verifies g.S.Scheme.digest_of g.H.Nsec3Hasher.hash_of p in
     each_answer c.args.table.now w p.keys c.args.now.now (asked_of c.args.question.now) c.in-Ok.message.items c.in-Ok.ensures.bytes c.in-Ok.ensures.given c.in-Ok.ensures.hashed
 
-pub returns-in-Err-clause-fault : goal.returns-in-Err-clause-fault
-returns-in-Err-clause-fault g c =
+pub returns-else-is_sign_failed-clause-fault : goal.returns-else-is_sign_failed-clause-fault
+returns-else-is_sign_failed-clause-fault g c =
     let p = c.args.publisher.now in
     let w = world_of g.S.Scheme.signature_of g.S.Scheme.verifies g.S.Scheme.digest_of g.H.Nsec3Hasher.hash_of p in
     each_refusal c.args.table.now w p.keys c.args.now.now (asked_of c.args.question.now) c.in-Err.fault
     (is_other c.in-Err.fault (sym c.is_sign_failed.ensures ∙ c.if-is_sign_failed.false)) c.in-Err.ensures.fault
+
+pub returns-then-is_sign_failed-clause-signed : goal.returns-then-is_sign_failed-clause-signed
+returns-then-is_sign_failed-clause-signed g c =
+    let table = c.args.table.now in
+    let at = c.args.now.now in
+    let asked = asked_of c.args.question.now in
+    let world = world_of g.S.Scheme.signature_of g.S.Scheme.verifies g.S.Scheme.digest_of g.H.Nsec3Hasher.hash_of in
+    subst (λ q. IfOk c.missing_for.result (IsSigned table (AnswersEach table (world q) q.keys at asked) (answer_inputs (world q) q.keys at asked))) c.in-Err.ensures.refused c.missing_for.ensures.signed

@@ -9,8 +9,8 @@ returns-in-Ok-clause-signed g c =
     let w = world_of g.S.Scheme.signature_of g.S.Scheme.verifies g.S.Scheme.digest_of g.H.Nsec3Hasher.hash_of p in
     each_keys c.args.table.now w p.keys c.args.now.now c.in-Ok.message.items c.in-Ok.ensures.bytes c.in-Ok.ensures.given
 
-pub returns-in-Err-clause-fault : goal.returns-in-Err-clause-fault
-returns-in-Err-clause-fault g c =
+pub returns-else-is_sign_failed-clause-fault : goal.returns-else-is_sign_failed-clause-fault
+returns-else-is_sign_failed-clause-fault g c =
     let p = c.args.publisher.now in
     let w = world_of g.S.Scheme.signature_of g.S.Scheme.verifies g.S.Scheme.digest_of g.H.Nsec3Hasher.hash_of p in
     each_keys_refusal c.args.table.now w p.keys c.args.now.now c.in-Err.fault
