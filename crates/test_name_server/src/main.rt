@@ -6,10 +6,10 @@
 //! - `soa OWNER SERIAL`, `rr OWNER TTL TYPE OCTETS`: records of the zone `example`, of class IN;
 //!   `publish LIFE`: publishes them with a chain of names, signatures living so many seconds.
 //! - `key OCTETS`: adds a key of algorithm 13 that signs keys and zone.
-//! - `ask TRANSPORT BACKDATE SECONDS OCTETS`: asks the server by `tcp`, or with the most octets that
-//!   it sends by UDP, at a time of its clock, of which answers are so many seconds behind. Printed
-//!   are the number of signatures that it asks for, and its reply, or `nothing`. It takes 1232
-//!   octets by UDP.
+//! - `ask TRANSPORT BACKDATE SECONDS OCTETS`: asks the server by `tcp`, or with the most octets
+//!   that it sends by UDP, at a time of its clock, of which answers are so many seconds behind.
+//!   Printed are the number of signatures that it asks for, and its reply, or `nothing`. It takes
+//!   1232 octets by UDP.
 //!
 //! Octets are hexadecimal digits. Lines that begin with `#` and empty ones are printed alone.
 #![tactic(auto)]

@@ -1,10 +1,10 @@
 //! Reads lines of queries and of messages that answer them, and prints the responses, so that they
 //! are compared with what an independent program writes.
 //!
-//! A line is `TRANSPORT SIZE QUERY MESSAGE`: `tcp`, or the most octets that the server sends by UDP;
-//! how many octets it takes by UDP; and what a client sent and what the zone's publisher made of
-//! it, in hexadecimal digits. Behind it stand the octets of the response, or `unreadable` where the
-//! message does not read.
+//! A line is `TRANSPORT SIZE QUERY MESSAGE`: `tcp`, or the most octets that the server sends by
+//! UDP; how many octets it takes by UDP; and what a client sent and what the zone's publisher made
+//! of it, in hexadecimal digits. Behind it stand the octets of the response, or `unreadable` where
+//! the message does not read.
 //!
 //! Lines that begin with `#` are printed alone.
 #![tactic(auto)]
