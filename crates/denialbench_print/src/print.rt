@@ -91,7 +91,8 @@ fn push_list<T: Item>(out: &mut String, items: &[T]) -> Result<(), AllocError>
     }
 }
 
-fn push_actions(out: &mut String, actions: &[Action]) -> Result<(), AllocError>
+/// Prints that a call on keys is accepted, with its actions.
+pub fn push_actions(out: &mut String, actions: &[Action]) -> Result<(), AllocError>
     ensures { OnOk result (string_bytes out.new ≡ string_bytes out.old
         ++ actions_text actions.now) }
 {
@@ -113,7 +114,8 @@ fn push_key_error(out: &mut String, error: &keyset::Error) -> Result<(), AllocEr
     }
 }
 
-fn push_key_fault(out: &mut String, fault: &KeyFault) -> Result<(), AllocError>
+/// Prints why a call on keys is refused.
+pub fn push_key_fault(out: &mut String, fault: &KeyFault) -> Result<(), AllocError>
     ensures { OnOk result (string_bytes out.new ≡ string_bytes out.old ++ key_refusal fault.now) }
 {
     out.push_str("refused ")?;

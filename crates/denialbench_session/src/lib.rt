@@ -2,7 +2,7 @@
 //! records and the events that follow.
 #![tactic(auto)]
 
-mod event_lines;
+pub mod event_lines;
 mod fields;
 pub mod form;
 pub mod line_error;
@@ -11,4 +11,4 @@ mod number_fields;
 mod reading;
 pub mod session;
 pub mod zone;
-mod zone_lines;
+pub mod zone_lines;

@@ -76,7 +76,7 @@ pub fn read_session(alloc: Global, input: &[u8]) -> Result<Session, SessionError
 }
 
 /// Whether a line is one of a record.
-pub(crate) fn is_record(fields: &[&str]) -> bool
+pub fn is_record(fields: &[&str]) -> bool
     ensures { result ≡ is_record_line (texts fields.now) }
 {
     match fields.first() {
@@ -86,7 +86,7 @@ pub(crate) fn is_record(fields: &[&str]) -> bool
 }
 
 /// Whether a line is one of a replacement.
-pub(crate) fn is_replacement(fields: &[&str]) -> bool
+pub fn is_replacement(fields: &[&str]) -> bool
     ensures { result ≡ is_replacement_line (texts fields.now) }
 {
     match fields.first() {
@@ -96,7 +96,7 @@ pub(crate) fn is_replacement(fields: &[&str]) -> bool
 }
 
 /// The fields of a line, with one blank between two.
-pub(crate) fn fields_of(alloc: Global, text: &str) -> Result<Vec<&str>, AllocError>
+pub fn fields_of(alloc: Global, text: &str) -> Result<Vec<&str>, AllocError>
     ensures { IfOk result (λ v. texts v.items ≡ fields_of text.now) }
 {
     text.split(' ').collect(alloc)

@@ -1,0 +1,131 @@
+-- Journals: the state that lines give, and why a journal is not opened.
+use Rattle.std.specs.Prelude.{◌≡◌, ℕ, ◌+◌, Bool, true, false, List, [], ◌∷◌, ◌++◌, length, is_empty, map, Option, Some, None, if◌then◌else◌}
+use Rattle.std.specs.Str.{is_utf8}
+use Rattle.messages.specs.HandedRr.{HandedRr, handed_of}
+use Rattle.answer_shared.specs.Hashing.{Hasher}
+use Rattle.answer_zone_records.specs.Faults.{RefusesZone}
+use Rattle.denialbench_session.specs.Grammar.{◌>>=◌, ZoneLine, zone_line}
+use Rattle.denialbench_session.specs.Lines.{is_passed_over}
+use Rattle.denialbench_session.specs.Readings.{zone_view}
+use Rattle.denialbench_session.specs.Sessions.{fields_of}
+use Rattle.denialbench_session.specs.declared.line_error.LineFault.TheVariants.{NoZone}
+use Rattle.server_zone.specs.Lines.{has_feed, unfinished, whole_lines}
+use Rattle.server_zone.specs.StateLines.{StateLine, Nothing, Added, Replaced, Called, Other, state_line}
+use Rattle.server_zone.specs.States.{Digest, OfLine, RefusesLine, RefusesTo, State, after, applied_line, made, state_of}
+use Rattle.server_zone.specs.declared.refusal.OpenError.{OpenError}
+use Rattle.server_zone.specs.declared.refusal.Refusal.{Refusal}
+use Rattle.server_zone.specs.declared.refusal.Refusal.TheVariants as refusal
+use Rattle.server_zone.specs.declared.zone.Zone.{Zone}
+use Rattle.server_zone.specs.declared.opening.Phase.{Phase as CodePhase}
+use Rattle.server_zone.specs.declared.opening.Phase.TheVariants as code
+
+-- no line of a zone yet; the zone's line and its own records so far; an event stands behind these
+pub data Phase : Type 0 where
+  Empty : Phase
+  Beginning : ZoneLine → List HandedRr → Phase
+  Running : State → Phase
+
+abbrev pub phase_view : {S H : Type 0} → CodePhase S H → Phase
+phase_view code.Empty = Empty
+phase_view (code.Beginning z rs) = Beginning (zone_view z) (map handed_of rs.items)
+phase_view (code.Running z) = Running (state_of z)
+
+-- the line of the zone, where none stands yet
+abbrev pub first_line : List ℕ → Option Phase
+first_line line = if is_passed_over line then Some Empty else if is_utf8 line then (zone_line (fields_of line) >>= λ z. Some (Beginning z [])) else None
+
+abbrev pub ran : Option State → Option Phase
+ran (Some s) = Some (Running s)
+ran None = None
+
+-- a line where the zone's own records stand: one more of these, or the first event
+abbrev pub own_line : Digest → ZoneLine → List HandedRr → StateLine → Option Phase
+own_line digest z rs Nothing = Some (Beginning z rs)
+own_line digest z rs (Added r) = Some (Beginning z (rs ++ r ∷ []))
+own_line digest z rs l = ran (after digest l (made z rs))
+
+-- a line more
+abbrev pub with_line : Digest → Phase → List ℕ → Option Phase
+with_line digest Empty line = first_line line
+with_line digest (Beginning z rs) line = state_line line >>= λ l. own_line digest z rs l
+with_line digest (Running s) line = ran (applied_line digest s line)
+
+abbrev pub with_lines : Digest → Phase → List (List ℕ) → Option Phase
+with_lines digest p [] = Some p
+with_lines digest p (l ∷ ls) = with_line digest p l >>= λ q. with_lines digest q ls
+
+-- whether no records are gathered for a replacement
+abbrev pub is_settled : Phase → Bool
+is_settled Empty = true
+is_settled (Beginning z rs) = true
+is_settled (Running s) = is_empty s.gathered
+
+-- the state at the end of the lines
+abbrev pub ended : Phase → Option State
+ended Empty = None
+ended (Beginning z rs) = Some (made z rs)
+ended (Running s) = Some s
+
+-- the state that lines give, where each of them is accepted
+abbrev pub state_behind : Digest → List (List ℕ) → Option State
+state_behind digest ls = with_lines digest Empty ls >>= λ p. ended p
+
+-- the state that a journal gives: that of its lines that are whole
+abbrev pub journal_state : Digest → List ℕ → Option State
+journal_state digest text = state_behind digest (whole_lines text)
+
+-- a zone of this scheme and this hasher that gave no answer yet
+pub record IsFresh {S H : Type 0} (scheme : S) (hasher : H) (z : Zone S H) : Type 0 where
+  pub scheme_is : z.publisher.scheme.now ≡ scheme
+  pub hasher_is : z.publisher.zone.hasher ≡ hasher
+  pub unanswered : z.publisher.latest ≡ None
+
+abbrev pub IsOpening : {S H : Type 0} → S → H → CodePhase S H → Type 0
+IsOpening scheme hasher (code.Running z) = IsFresh scheme hasher z
+IsOpening scheme hasher _ = Unit {0}
+
+-- ---- why a journal is not opened
+
+-- why a line is refused where no zone's line stands
+abbrev pub RefusesFirst : List ℕ → Refusal → Type 0
+RefusesFirst line refusal.Memory = Unit {0}
+RefusesFirst line (refusal.Unreadable f) = first_line line ≡ None
+RefusesFirst line f = ⊥
+
+-- why it is refused where the zone's own records stand, which the first event takes together: no answer was given, so no
+-- replacement comes too soon
+abbrev pub RefusesOwn : Digest → Hasher → ZoneLine → List HandedRr → StateLine → Refusal → Type 0
+RefusesOwn digest hash z rs l (refusal.Zone f) = RefusesZone hash z.apex z.mode z.limit rs f
+RefusesOwn digest hash z rs l f = RefusesTo digest hash None (made z rs) l f
+
+abbrev pub RefusesBeginning : Digest → Hasher → ZoneLine → List HandedRr → List ℕ → Refusal → Type 0
+RefusesBeginning digest hash z rs line refusal.Memory = Unit {0}
+RefusesBeginning digest hash z rs line (refusal.Unreadable f) = state_line line ≡ None
+RefusesBeginning digest hash z rs line f = OfLine (λ l. RefusesOwn digest hash z rs l f) (state_line line)
+
+-- why a line is refused behind a phase
+abbrev pub RefusesBehind : Digest → Hasher → Phase → List ℕ → Refusal → Type 0
+RefusesBehind digest hash Empty line f = RefusesFirst line f
+RefusesBehind digest hash (Beginning z rs) line f = RefusesBeginning digest hash z rs line f
+RefusesBehind digest hash (Running s) line f = RefusesLine digest hash None s line f
+
+-- why there is no zone at the end of the lines
+abbrev pub RefusesEnd : Hasher → Phase → Refusal → Type 0
+RefusesEnd hash Empty (refusal.Unreadable NoZone) = Unit {0}
+RefusesEnd hash (Beginning z rs) (refusal.Zone f) = RefusesZone hash z.apex z.mode z.limit rs f
+RefusesEnd hash p f = ⊥
+
+-- why nothing follows: the first whole line of the rest is refused, or there is none, and no zone
+abbrev pub RefusesNext : Digest → Hasher → Phase → List ℕ → Refusal → Type 0
+RefusesNext digest hash p rest f = elim (whole_lines rest) [ [] ↦ RefusesEnd hash p f | line ∷ lines ↦ RefusesBehind digest hash p line f ]
+
+-- The lines up to some front of a journal are accepted. Behind it a whole line is refused, or there is none.
+pub record IsOpenError (digest : Digest) (hash : Hasher) (text : List ℕ) (e : OpenError) : Type 0 where
+  pub front : List ℕ
+  pub rest : List ℕ
+  pub phase : Phase
+  pub text_is : text ≡ front ++ rest
+  pub whole : unfinished front ≡ []
+  pub accepted : with_lines digest Empty (whole_lines front) ≡ Some phase
+  pub number : e.number ≡ length (whole_lines front) + 1
+  pub refused : RefusesNext digest hash phase rest e.reason

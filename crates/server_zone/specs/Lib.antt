@@ -1,0 +1,7 @@
+pub mod Lines
+pub mod StateLines
+pub mod States
+pub mod Journals
+pub mod Refusals
+pub mod Dues
+pub mod JournalLaws

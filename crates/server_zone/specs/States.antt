@@ -1,0 +1,125 @@
+-- The state of a zone, which its lines determine.
+use Rattle.std.specs.Prelude.{◌≡◌, ℕ, ◌==◌, Bool, true, false, List, [], ◌∷◌, ◌++◌, map, Option, Some, None, Result, Ok, Err, if◌then◌else◌}
+use Rattle.std.specs.List.{AllByRecursion}
+use Rattle.std.specs.Str.{is_utf8}
+use Rattle.definitions.specs.Dnskey.{Dnskey}
+use Rattle.keyset_rolls.specs.declared.rolls.Action.{Action}
+use Rattle.messages.specs.Handed.{IsHanded}
+use Rattle.messages.specs.HandedRr.{HandedRr, handed_of}
+use Rattle.answer_shared.specs.Accepted.{IsAccepted}
+use Rattle.answer_shared.specs.Accepting.{sorted_records}
+use Rattle.answer_shared.specs.Hashing.{Hasher}
+use Rattle.answer_shared.specs.ZoneView.{AcceptedZone}
+use Rattle.answer_zone.specs.HashedZone.{accepted_zone}
+use Rattle.answer_zone_records.specs.Faults.{RefusesZone}
+use Rattle.answer_publisher_keys.specs.Bindings.{Call, Outcome, ZoneKeys, apply, no_keys}
+use Rattle.answer_publisher_keys.specs.KeyCalls.{Fails, IsNamed, RanOut, fault_of}
+use Rattle.answer_publisher.specs.Publishing.{digest_at}
+use Rattle.answer_publisher.specs.Replacing.{RefusesReplacement, is_too_soon}
+use Rattle.answer_publisher.specs.World.{zone_by}
+use Rattle.answer_publisher.specs.declared.publishing.Publisher.{Publisher}
+use Rattle.denialbench_session.specs.Grammar.{◌>>=◌, ZoneLine, zone_line}
+use Rattle.denialbench_session.specs.Lines.{is_passed_over}
+use Rattle.denialbench_session.specs.Sessions.{fields_of}
+use Rattle.denialbench_session.specs.declared.line_error.LineFault.TheVariants as line_fault
+use Rattle.server_zone.specs.Lines.{has_feed, unfinished, whole_lines}
+use Rattle.server_zone.specs.StateLines.{StateLine, Nothing, Added, Replaced, Called, Other, state_line}
+use Rattle.server_zone.specs.declared.refusal.Refusal.{Refusal}
+use Rattle.server_zone.specs.declared.refusal.Refusal.TheVariants as refusal
+use Rattle.server_zone.specs.declared.zone.Applied.{Applied}
+use Rattle.server_zone.specs.declared.zone.Applied.TheVariants as applied
+use Rattle.server_zone.specs.declared.zone.Zone.{Zone}
+
+-- the zone, how long its signatures hold, its keys and their rolls, the records that are gathered for the next replacement,
+-- and whether an event stands behind the zone's own records
+pub record State : Type 0 where
+  pub zone : AcceptedZone
+  pub life : ℕ
+  pub keys : ZoneKeys
+  pub gathered : List HandedRr
+  pub begun : Bool
+
+abbrev pub state_of : {S H : Type 0} → Zone S H → State
+state_of z = record { zone = accepted_zone z.publisher.zone; life = z.publisher.life; keys = z.publisher.keys; gathered = map handed_of z.gathered.items; begun = z.begun }
+
+-- a digest of octets by its type (RFC 4034, 5.1.4); None where it fails
+abbrev pub Digest : Type 0
+Digest = ℕ → List ℕ → Option (List ℕ)
+
+abbrev pub digests : Digest → State → Dnskey → Option (List ℕ)
+digests digest s = digest_at digest s.zone.apex
+
+-- a zone of its own records, without keys
+abbrev pub made : ZoneLine → List HandedRr → State
+made z rs = record { zone = zone_by z.apex z.mode z.limit rs; life = z.life; keys = no_keys z.apex; gathered = []; begun = false }
+
+-- a record more for the next replacement
+abbrev pub gathering : HandedRr → State → State
+gathering r s = record s { gathered = s.gathered ++ r ∷ [] }
+
+-- without the records for the next replacement
+abbrev pub ungathered : State → State
+ungathered s = record s { gathered = [] }
+
+-- the records that were gathered in the place of the zone's
+abbrev pub replaced : State → State
+replaced s = record s { zone = record s.zone { records = sorted_records s.gathered }; gathered = []; begun = true }
+
+abbrev pub called : ZoneKeys → State → State
+called keys s = record s { keys = keys; begun = true }
+
+abbrev pub behind_call : Outcome → State → Option State
+behind_call (Ok a) s = Some (called a.0 s)
+behind_call (Err f) s = None
+
+-- the state behind a line that is accepted, as far as the lines alone determine it
+abbrev pub after : Digest → StateLine → State → Option State
+after digest Nothing s = Some s
+after digest (Added r) s = if s.begun then Some (gathering r s) else None
+after digest (Replaced at) s = Some (replaced s)
+after digest (Called at c) s = behind_call (apply (digests digest s) c at s.keys) s
+after digest Other s = None
+
+-- a line applied to an open zone
+abbrev pub applied_line : Digest → State → List ℕ → Option State
+applied_line digest s line = if has_feed line then None else (state_line line >>= λ l. after digest l s)
+
+-- ---- what applying answers
+
+-- An accepted line answers this and leaves the state so; `latest` is the greatest whole second at which an answer was given.
+abbrev pub Follows : Digest → Hasher → Option ℕ → State → StateLine → Applied → State → Type 0
+Follows digest hash latest s Nothing applied.Nothing t = t ≡ s
+Follows digest hash latest s (Added r) applied.Gathered t = (s.begun ≡ true) × (t ≡ gathering r s)
+Follows digest hash latest s (Replaced at) applied.Replaced t =
+    (is_too_soon latest at ≡ false)
+    × AllByRecursion IsHanded s.gathered
+    × IsAccepted hash s.zone.apex s.zone.mode s.zone.limit s.gathered
+    × (t ≡ replaced s)
+Follows digest hash latest s (Called at c) (applied.Actions actions) t =
+    (keys : ZoneKeys) × (apply (digests digest s) c at s.keys ≡ Ok (keys, actions.items)) × (t ≡ called keys s)
+Follows digest hash latest s _ _ t = ⊥
+
+-- why a line that can be read is refused
+abbrev pub RefusesTo : Digest → Hasher → Option ℕ → State → StateLine → Refusal → Type 0
+RefusesTo digest hash latest s l refusal.Memory = Unit {0}
+RefusesTo digest hash latest s (Added r) refusal.TooEarly = s.begun ≡ false
+RefusesTo digest hash latest s (Replaced at) (refusal.Replace f) = RefusesReplacement hash s.zone latest at s.gathered f
+RefusesTo digest hash latest s (Called at c) (refusal.Key f) = IsNamed f × Fails (RanOut c) (fault_of f) (apply (digests digest s) c at s.keys)
+RefusesTo digest hash latest s Other refusal.NotOfState = Unit {0}
+RefusesTo digest hash latest s _ _ = ⊥
+
+-- what the line reads as has this
+abbrev pub OfLine : (StateLine → Type 0) → Option StateLine → Type 0
+OfLine P (Some l) = P l
+OfLine P None = ⊥
+
+-- why a line is refused
+abbrev pub RefusesLine : Digest → Hasher → Option ℕ → State → List ℕ → Refusal → Type 0
+RefusesLine digest hash latest s line refusal.ManyLines = has_feed line ≡ true
+RefusesLine digest hash latest s line (refusal.Unreadable f) = state_line line ≡ None
+RefusesLine digest hash latest s line refusal.Memory = Unit {0}
+RefusesLine digest hash latest s line f = OfLine (λ l. RefusesTo digest hash latest s l f) (state_line line)
+
+-- a publisher is as before but for its keys and the records of its zone
+abbrev pub IsRestKept : {S H : Type 0} → Publisher S H → Publisher S H → Type 0
+IsRestKept old new = new ≡ record old { zone = record old.zone { records = new.zone.records }; keys = new.keys }

@@ -1,0 +1,18 @@
+//! Laws of journals.
+ghost use Rattle.server_zone.specs.JournalLaws.{AcceptedLinesExtend, CutsKeepLines, CutsKeepState, LinesSpellText};
+
+/// A journal that is cut at any octet, by a crash, gives the state of the lines that are whole
+/// there, which are the first of its lines; behind them stand the octets of one unfinished line, or
+/// none.
+pub fn cut_journals()
+    ensures spelled { LinesSpellText }
+    ensures lines { CutsKeepLines }
+    ensures state { CutsKeepState }
+{}
+
+/// A line that an open zone accepts, put behind its journal: opening that gives the state that the
+/// zone has then. So a zone's state is that of its accepted lines, whatever it answered between
+/// them, and all zones of one journal have one state.
+pub fn accepted_lines_extend_journals()
+    ensures { AcceptedLinesExtend }
+{}

@@ -1,0 +1,17 @@
+//! A signed zone whose keeper's lines are a journal: it is opened from text, lines are applied to
+//! it, and it says what is due next. A journal is a session, so its state is that of the session.
+#![tactic(auto)]
+
+pub mod due;
+pub mod laws;
+pub mod line;
+mod lines;
+pub mod opening;
+mod records;
+pub mod refusal;
+pub mod zone;
+
+pub use crate::due::Due;
+pub use crate::opening::Opened;
+pub use crate::refusal::{OpenError, Refusal};
+pub use crate::zone::{Applied, Zone};

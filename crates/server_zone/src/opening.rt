@@ -1,0 +1,238 @@
+//! Opening a zone from its journal.
+ghost use Rattle.std.specs.Prelude.{◌≡◌, ◌++◌, ◌≤◌, [], length, map, IfErr, IfOk, Some, take};
+ghost use Rattle.denialbench_session.specs.Grammar.{◌>>=◌};
+ghost use Rattle.messages.specs.HandedRr.{handed_of};
+ghost use Rattle.answer_zone_records.specs.Faults.{RefusesZone};
+ghost use Rattle.denialbench_session.specs.Readings.{zone_view};
+ghost use Rattle.server_zone.specs.Journals.{IsFresh, IsOpenError, IsOpening, RefusesBehind, RefusesBeginning, RefusesEnd, RefusesFirst, ended, first_line, is_settled, journal_state, own_line, phase_view, with_line};
+ghost use Rattle.server_zone.specs.Lines.{unfinished};
+ghost use Rattle.server_zone.specs.StateLines.{state_line};
+ghost use Rattle.server_zone.specs.States.{made, state_of, ungathered};
+
+use crate::line::{Line, read_line};
+use crate::lines::split_line;
+use crate::refusal::{OpenError, Refusal};
+use crate::zone::Zone;
+use answer_events::record::ZoneRecord;
+use answer_publisher::fault::ZoneFault;
+use answer_publisher::publishing::Publisher;
+use answer_scheme::scheme::Scheme;
+use denial_nsec3_hash::hasher::Nsec3Hasher;
+use denialbench_session::line_error::LineFault;
+use denialbench_session::lines::is_passed_over;
+use denialbench_session::session::fields_of;
+use denialbench_session::zone::Zone as ZoneLine;
+use denialbench_session::zone_lines::read_zone;
+use std::alloc::Global;
+
+/// A zone that was opened from a journal.
+#[derive(Drop)]
+pub struct Opened<'a, S: Scheme, H: Nsec3Hasher> {
+    pub zone: Zone<'a, S, H>,
+    /// How many octets the lines have that end in a line feed. Behind them stands a line that is
+    /// not finished, or nothing: it was not applied.
+    pub whole: usize,
+    /// How many octets stand up to the last line behind which no records were gathered: a journal
+    /// that is cut here holds no half of a replacement.
+    pub settled: usize,
+}
+
+/// How far the lines have come.
+#[derive(Drop)]
+enum Phase<'a, S: Scheme, H: Nsec3Hasher> {
+    /// No line of a zone stands yet.
+    Empty,
+    /// The zone's line, and its own records so far.
+    Beginning(ZoneLine, Vec<ZoneRecord>),
+    /// An event stands.
+    Running(Zone<'a, S, H>),
+}
+
+/// What a zone is opened with.
+#[derive(Clone, Copy)]
+struct Opener<'a, S: Scheme, H: Nsec3Hasher> {
+    alloc: Global,
+    scheme: &'a S,
+    hasher: &'a H,
+}
+
+impl<'a, S: Scheme, H: Nsec3Hasher> Zone<'a, S, H> {
+    /// Opens a zone from its journal: the lines of a session (its zone, its records, then
+    /// replacements and calls on the keys) that end in a line feed. The first line that cannot be
+    /// read or is refused refuses the whole, and so does a line that asks, shows or judges.
+    pub fn open(
+        alloc: Global,
+        journal: &[u8],
+        scheme: &'a S,
+        hasher: &'a H,
+    ) -> Result<Opened<'a, S, H>, OpenError>
+        ensures state { let digest = S.digest_of scheme.now in
+            IfOk result (λ o. journal_state digest journal.now ≡ Some (state_of o.zone)) }
+        ensures fresh { IfOk result (λ o. IsFresh scheme.now hasher.now o.zone) }
+        ensures whole { let rest = unfinished journal.now in
+            IfOk result (λ o. journal.now ≡ take o.whole journal.now ++ rest) }
+        ensures settled { let digest = S.digest_of scheme.now in
+            let settled = λ n. journal_state digest (take n journal.now) in
+            IfOk result (λ o. settled o.settled ≡ Some (ungathered (state_of o.zone))) }
+        ensures inside { IfOk result (λ o. (o.settled ≤ o.whole) × (o.whole ≤ length journal.now)) }
+        ensures err { let digest = S.digest_of scheme.now in let hash = H.hash_of hasher.now in
+            IfErr result (IsOpenError digest hash journal.now) }
+    {
+        let opener = Opener {
+            alloc,
+            scheme,
+            hasher,
+        };
+        let mut phase = Phase::Empty;
+        let (mut rest, mut number, mut settled) = (journal, 0, 0);
+        while let Some((line, behind)) = split_line(rest) {
+            number += 1;
+            phase = match opener.read(phase, line) {
+                Ok(phase) => phase,
+                Err(reason) => return Err(OpenError { number, reason }),
+            };
+            rest = behind;
+            if phase.is_settled() {
+                settled = journal.len() - rest.len();
+            }
+        }
+        let whole = journal.len() - rest.len();
+        match opener.finish(phase) {
+            Ok(zone) => Ok(Opened {
+                zone,
+                whole,
+                settled,
+            }),
+            Err(reason) => {
+                let number = number + 1;
+                Err(OpenError { number, reason })
+            }
+        }
+    }
+}
+
+impl<'a, S: Scheme, H: Nsec3Hasher> Phase<'a, S, H> {
+    /// Whether no records are gathered for a replacement.
+    fn is_settled(&self) -> bool
+        ensures { result ≡ is_settled (phase_view self.now) }
+    {
+        match self {
+            Phase::Running(zone) => zone.is_settled(),
+            Phase::Empty | Phase::Beginning(..) => true,
+        }
+    }
+}
+
+impl<'a, S: Scheme, H: Nsec3Hasher> Opener<'a, S, H> {
+    /// Reads a line more.
+    fn read(
+        &self,
+        phase: Phase<'a, S, H>,
+        line: &[u8],
+    ) -> Result<Phase<'a, S, H>, Refusal>
+        requires { IsOpening self.now.scheme.now self.now.hasher.now phase.entry }
+        ensures ok { let digest = S.digest_of self.now.scheme.now in
+            let with = with_line digest (phase_view phase.entry) line.now in
+            IfOk result (λ q. with ≡ Some (phase_view q)) }
+        ensures kept { IfOk result (IsOpening self.now.scheme.now self.now.hasher.now) }
+        ensures err { let hash = H.hash_of self.now.hasher.now in
+            let refuses = RefusesBehind (S.digest_of self.now.scheme.now) hash in
+            IfErr result (refuses (phase_view phase.entry) line.now) }
+    {
+        match phase {
+            Phase::Empty => self.read_first(line),
+            Phase::Beginning(zone, records) => self.read_own(zone, records, line),
+            Phase::Running(mut zone) => {
+                zone.apply(line)?;
+                Ok(Phase::Running(zone))
+            }
+        }
+    }
+
+    /// Reads a line where no zone's line stands yet.
+    fn read_first(&self, line: &[u8]) -> Result<Phase<'a, S, H>, Refusal>
+        ensures ok { IfOk result (λ q. first_line line.now ≡ Some (phase_view q)) }
+        ensures kept { IfOk result (IsOpening self.now.scheme.now self.now.hasher.now) }
+        ensures err { IfErr result (RefusesFirst line.now) }
+    {
+        if is_passed_over(line) {
+            return Ok(Phase::Empty);
+        }
+        match str::from_utf8(line) {
+            Ok(text) => {
+                let fields = fields_of(self.alloc, text)?;
+                let zone = read_zone(self.alloc, &fields)?;
+                Ok(Phase::Beginning(zone, Vec::new(self.alloc)))
+            }
+            Err(_) => Err(Refusal::Unreadable(LineFault::NotText)),
+        }
+    }
+
+    /// Reads a line where the zone's own records stand: one more, or the first event.
+    fn read_own(
+        &self,
+        zone: ZoneLine,
+        mut records: Vec<ZoneRecord>,
+        line: &[u8],
+    ) -> Result<Phase<'a, S, H>, Refusal>
+        ensures ok { let z = zone_view zone in let rs = map handed_of records.items in
+            let with = own_line (S.digest_of self.now.scheme.now) z rs in
+            IfOk result (λ q. (state_line line.now >>= λ l. with l) ≡ Some (phase_view q)) }
+        ensures kept { IfOk result (IsOpening self.now.scheme.now self.now.hasher.now) }
+        ensures err { let z = zone_view zone in let rs = map handed_of records.items in
+            let digest = S.digest_of self.now.scheme.now in
+            let refuses = RefusesBeginning digest (H.hash_of self.now.hasher.now) z rs in
+            IfErr result (refuses line.now) }
+    {
+        match read_line(self.alloc, line)? {
+            Line::Nothing => Ok(Phase::Beginning(zone, records)),
+            Line::Record(record) => {
+                records.push(record)?;
+                Ok(Phase::Beginning(zone, records))
+            }
+            event => {
+                let mut zone = self.made(zone, records)?;
+                zone.follow(event)?;
+                Ok(Phase::Running(zone))
+            }
+        }
+    }
+
+    /// A zone of its own records.
+    fn made(&self, zone: ZoneLine, records: Vec<ZoneRecord>) -> Result<Zone<'a, S, H>, ZoneFault>
+        ensures ok { let own = made (zone_view zone) (map handed_of records.items) in
+            IfOk result (λ z. state_of z ≡ own) }
+        ensures fresh { IfOk result (IsFresh self.now.scheme.now self.now.hasher.now) }
+        ensures err { let z = zone_view zone in let rs = map handed_of records.items in
+            let hash = H.hash_of self.now.hasher.now in
+            IfErr result (RefusesZone hash z.apex z.mode z.limit rs) }
+    {
+        let publisher = Publisher::new(
+            self.alloc,
+            zone.apex,
+            records,
+            zone.mode,
+            self.scheme,
+            self.hasher,
+            zone.limit,
+            zone.life,
+        )?;
+        Ok(Zone::new(self.alloc, publisher))
+    }
+
+    /// The zone behind all whole lines.
+    fn finish(&self, phase: Phase<'a, S, H>) -> Result<Zone<'a, S, H>, Refusal>
+        requires { IsOpening self.now.scheme.now self.now.hasher.now phase.entry }
+        ensures ok { let state = ended (phase_view phase.entry) in
+            IfOk result (λ z. state ≡ Some (state_of z)) }
+        ensures fresh { IfOk result (IsFresh self.now.scheme.now self.now.hasher.now) }
+        ensures err { let hash = H.hash_of self.now.hasher.now in
+            IfErr result (RefusesEnd hash (phase_view phase.entry)) }
+    {
+        match phase {
+            Phase::Empty => Err(Refusal::Unreadable(LineFault::NoZone)),
+            Phase::Beginning(zone, records) => Ok(self.made(zone, records)?),
+            Phase::Running(zone) => Ok(zone),
+        }
+    }
+}

@@ -1,0 +1,198 @@
+//! A zone that is open, and the lines that are applied to it.
+ghost use Rattle.std.specs.Prelude.{◌≤◌, ◌≡◌, [], IfErr, IfOk, OnErr, OnOk, Some, is_empty, false};
+ghost use Rattle.answer_events.specs.Calls.{call_of};
+ghost use Rattle.answer_events.specs.Events.{added_by_call};
+ghost use Rattle.messages.specs.HandedRr.{handed_of};
+ghost use Rattle.server_zone.specs.Dues.{IsDue};
+ghost use Rattle.server_zone.specs.StateLines.{Added, Called, Replaced, added_in, line_view, state_line};
+ghost use Rattle.server_zone.specs.States.{Follows, IsRestKept, OfLine, RefusesLine, RefusesTo, applied_line, state_of, ungathered};
+
+use crate::due::{Due, due};
+use crate::line::{Line, read_line};
+use crate::lines::has_feed;
+use crate::records::copy_records;
+use crate::refusal::Refusal;
+use answer_events::event::KeyCall;
+use answer_publisher::fault::ReplaceFault;
+use answer_publisher::publishing::Publisher;
+use answer_scheme::scheme::Scheme;
+use denial_nsec3_hash::hasher::Nsec3Hasher;
+use keyset::{Action, RollType, UnixTime};
+use messages::record::ZoneRecord;
+use std::alloc::{AllocError, Global};
+
+/// What an accepted line answers.
+#[derive(Debug, Drop)]
+pub enum Applied {
+    /// The line says nothing: it is empty, or a comment.
+    Nothing,
+    /// The record is kept for the next replacement.
+    Gathered,
+    /// The call on the keys is made; the keeper of the zone does these.
+    Actions(Vec<Action>),
+    /// The zone has the records that were gathered.
+    Replaced,
+}
+
+/// A zone that is open. Its lines determine its state: its records, its keys and their rolls, and
+/// the records that are gathered for the next replacement.
+///
+/// Handles of one journal have one state. Each notes its own last answer, so a replacement is to
+/// lie behind the last answer of every handle.
+#[derive(Drop)]
+pub struct Zone<'a, S: Scheme, H: Nsec3Hasher> {
+    alloc: Global,
+    /// What answers questions. Its keys and records change by lines alone.
+    pub publisher: Publisher<'a, S, H>,
+    gathered: Vec<ZoneRecord>,
+    /// Whether an event stands behind the zone's own records.
+    begun: bool,
+}
+
+impl<'a, S: Scheme, H: Nsec3Hasher> Zone<'a, S, H> {
+    /// A zone without events.
+    pub(crate) fn new(alloc: Global, publisher: Publisher<'a, S, H>) -> Self
+        ensures publisher { result.publisher ≡ publisher.entry }
+        ensures gathered { result.gathered.items ≡ [] }
+        ensures begun { result.begun ≡ false }
+    {
+        Zone {
+            alloc,
+            publisher,
+            gathered: Vec::new(alloc),
+            begun: false,
+        }
+    }
+
+    /// Whether no records are gathered for the next replacement.
+    pub fn is_settled(&self) -> bool
+        ensures { result ≡ is_empty self.now.gathered.items }
+    {
+        self.gathered.is_empty()
+    }
+
+    /// Drops the records that are gathered, as though their lines had not been applied.
+    pub fn forget_gathered(&mut self)
+        ensures state { state_of self.new ≡ ungathered (state_of self.old) }
+        ensures rest { self.new.publisher ≡ self.old.publisher }
+    {
+        self.gathered = Vec::new(self.alloc);
+    }
+
+    /// Applies a line, without its line feed: a record for the next replacement, a replacement, a
+    /// call on the keys; an empty line or a comment changes nothing. A line that is refused leaves
+    /// everything as it was.
+    ///
+    /// What a journal is extended by are the accepted lines, each with a line feed behind it.
+    pub fn apply(&mut self, line: &[u8]) -> Result<Applied, Refusal>
+        ensures ok { let p = self.old.publisher in
+            let digest = S.digest_of p.scheme.now in let hash = H.hash_of p.zone.hasher in
+            let s = state_of self.old in let t = state_of self.new in
+            let follows = λ a l. Follows digest hash p.latest s l a t in
+            IfOk result (λ a. OfLine (follows a) (state_line line.now)) }
+        ensures state { let digest = S.digest_of self.old.publisher.scheme.now in
+            let after = applied_line digest (state_of self.old) line.now in
+            IfOk result (λ _. after ≡ Some (state_of self.new)) }
+        ensures rest { IsRestKept self.old.publisher self.new.publisher }
+        ensures refused { OnErr result (self.new ≡ self.old) }
+        ensures fault { let p = self.old.publisher in
+            let digest = S.digest_of p.scheme.now in let hash = H.hash_of p.zone.hasher in
+            let refuses = RefusesLine digest hash p.latest (state_of self.old) line.now in
+            IfErr result refuses }
+    {
+        if has_feed(line) {
+            return Err(Refusal::ManyLines);
+        }
+        let line = read_line(self.alloc, line)?;
+        self.follow(line)
+    }
+
+    /// Applies a line that was read.
+    pub(crate) fn follow(&mut self, line: Line) -> Result<Applied, Refusal>
+        requires { added_in line ≤ 65531 }
+        ensures ok { let p = self.old.publisher in
+            let digest = S.digest_of p.scheme.now in let hash = H.hash_of p.zone.hasher in
+            let s = state_of self.old in let t = state_of self.new in
+            IfOk result (λ a. Follows digest hash p.latest s (line_view line) a t) }
+        ensures rest { IsRestKept self.old.publisher self.new.publisher }
+        ensures refused { OnErr result (self.new ≡ self.old) }
+        ensures fault { let p = self.old.publisher in
+            let digest = S.digest_of p.scheme.now in let hash = H.hash_of p.zone.hasher in
+            IfErr result (RefusesTo digest hash p.latest (state_of self.old) (line_view line)) }
+    {
+        match line {
+            Line::Nothing => Ok(Applied::Nothing),
+            Line::Record(record) => self.gather(record),
+            Line::Replacement(at) => self.replace(&at),
+            Line::Call(call, at) => self.call(&call, &at),
+            Line::Other => Err(Refusal::NotOfState),
+        }
+    }
+
+    /// Keeps a record for the next replacement.
+    fn gather(&mut self, record: ZoneRecord) -> Result<Applied, Refusal>
+        ensures ok { let p = self.old.publisher in
+            let digest = S.digest_of p.scheme.now in let hash = H.hash_of p.zone.hasher in
+            let s = state_of self.old in let t = state_of self.new in
+            IfOk result (λ a. Follows digest hash p.latest s (Added (handed_of record)) a t) }
+        ensures rest { IsRestKept self.old.publisher self.new.publisher }
+        ensures refused { OnErr result (self.new ≡ self.old) }
+        ensures fault { let p = self.old.publisher in
+            let digest = S.digest_of p.scheme.now in let hash = H.hash_of p.zone.hasher in
+            IfErr result (RefusesTo digest hash p.latest (state_of self.old) (Added (handed_of record))) }
+    {
+        if !self.begun {
+            return Err(Refusal::TooEarly);
+        }
+        self.gathered.push(record)?;
+        Ok(Applied::Gathered)
+    }
+
+    /// Publishes the records that were gathered in the place of the zone's. They stay gathered
+    /// where it is refused.
+    fn replace(&mut self, at: &UnixTime) -> Result<Applied, Refusal>
+        ensures ok { let p = self.old.publisher in
+            let digest = S.digest_of p.scheme.now in let hash = H.hash_of p.zone.hasher in
+            let s = state_of self.old in let t = state_of self.new in
+            IfOk result (λ a. Follows digest hash p.latest s (Replaced at.now) a t) }
+        ensures rest { IsRestKept self.old.publisher self.new.publisher }
+        ensures refused { OnErr result (self.new ≡ self.old) }
+        ensures fault { let p = self.old.publisher in
+            let digest = S.digest_of p.scheme.now in let hash = H.hash_of p.zone.hasher in
+            IfErr result (RefusesTo digest hash p.latest (state_of self.old) (Replaced at.now)) }
+    {
+        if let Some(fault) = self.publisher.refused_ahead(&self.gathered, at) {
+            return Err(Refusal::Replace(fault));
+        }
+        let copies = copy_records(self.alloc, &self.gathered)?;
+        self.publisher.replace_zone(copies, at)?;
+        self.gathered = Vec::new(self.alloc);
+        self.begun = true;
+        Ok(Applied::Replaced)
+    }
+
+    /// Makes a call on the keys.
+    fn call(&mut self, call: &KeyCall, at: &UnixTime) -> Result<Applied, Refusal>
+        requires { added_by_call call.now ≤ 65531 }
+        ensures ok { let p = self.old.publisher in
+            let digest = S.digest_of p.scheme.now in let hash = H.hash_of p.zone.hasher in
+            let s = state_of self.old in let t = state_of self.new in
+            IfOk result (λ a. Follows digest hash p.latest s (Called at.now (call_of call.now)) a t) }
+        ensures rest { IsRestKept self.old.publisher self.new.publisher }
+        ensures refused { OnErr result (self.new ≡ self.old) }
+        ensures fault { let p = self.old.publisher in
+            let digest = S.digest_of p.scheme.now in let hash = H.hash_of p.zone.hasher in
+            IfErr result (RefusesTo digest hash p.latest (state_of self.old) (Called at.now (call_of call.now))) }
+    {
+        let actions = self.publisher.apply(call, at)?;
+        self.begun = true;
+        Ok(Applied::Actions(actions))
+    }
+
+    /// What is due of a roll; nothing where it does not run.
+    pub fn due(&self, rolltype: RollType) -> Result<Option<Due>, AllocError>
+        ensures { IfOk result (IsDue self.now.publisher.keys.keys rolltype) }
+    {
+        due(self.alloc, self.publisher.key_set(), rolltype)
+    }
+}
