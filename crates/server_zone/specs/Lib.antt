@@ -3,5 +3,4 @@ pub mod StateLines
 pub mod States
 pub mod Journals
 pub mod Refusals
-pub mod Dues
 pub mod JournalLaws

@@ -2,7 +2,6 @@
 //! it, and it says what is due next. A journal is a session, so its state is that of the session.
 #![tactic(auto)]
 
-pub mod due;
 pub mod laws;
 pub mod line;
 mod lines;
@@ -11,7 +10,7 @@ mod records;
 pub mod refusal;
 pub mod zone;
 
-pub use crate::due::Due;
+pub use keyset_due::Due;
 pub use crate::opening::Opened;
 pub use crate::refusal::{OpenError, Refusal};
 pub use crate::zone::{Applied, Zone};

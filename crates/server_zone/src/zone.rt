@@ -3,11 +3,11 @@ ghost use Rattle.std.specs.Prelude.{◌≤◌, ◌≡◌, [], IfErr, IfOk, OnErr
 ghost use Rattle.answer_events.specs.Calls.{call_of};
 ghost use Rattle.answer_events.specs.Events.{added_by_call};
 ghost use Rattle.messages.specs.HandedRr.{handed_of};
-ghost use Rattle.server_zone.specs.Dues.{IsDue};
+ghost use Rattle.keyset_due.specs.Dues.{IsDue};
 ghost use Rattle.server_zone.specs.StateLines.{Added, Called, Replaced, added_in, line_view, state_line};
 ghost use Rattle.server_zone.specs.States.{Follows, IsRestKept, OfLine, RefusesLine, RefusesTo, applied_line, state_of, ungathered};
 
-use crate::due::{Due, due};
+use keyset_due::{Due, due};
 use crate::line::{Line, read_line};
 use crate::lines::has_feed;
 use crate::records::copy_records;

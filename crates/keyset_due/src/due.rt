@@ -1,12 +1,13 @@
-//! What the keeper of a zone owes, and when.
-ghost use Rattle.std.specs.Prelude.{◌≡◌, ◌<◌, ◌^◌, IfOk, Some};
+//! What the keeper of keys owes, and when.
+ghost use Rattle.std.specs.Prelude.{◌≡◌, ℕ, ◌<◌, ◌≤◌, ◌*◌, ◌^◌, ◌↔◌, IfOk, Some};
 ghost use Rattle.keyset_rolls.specs.Rolls.{awaited, stamp_read};
-ghost use Rattle.keyset.specs.KeyState.{misses, phase_of, wait_fault};
-ghost use Rattle.server_zone.specs.Dues.{IsDue, IsPassedFrom, IsWaitFrom, end_of, greatest_end};
+ghost use Rattle.keyset.specs.KeyState.{by_reference, misses, phase_of, wait_fault};
+ghost use Rattle.keyset_due.specs.Dues.{IsDue, IsPassedFrom, IsReached, IsWaitFrom, end_of, greatest_end};
 
 use keyset::{Action, Key, KeySet, RollState, RollType, UnixTime};
 use keyset_rolls::Turn;
 use std::alloc::{AllocError, Global};
+use std::collections::HashMap;
 use std::time::Duration;
 
 const NANOS_PER_SEC: u128 = 1_000_000_000;
@@ -17,17 +18,13 @@ pub struct Due {
     pub phase: RollState,
     /// What the phase asks the keeper for; nothing while a wait lasts.
     pub actions: Vec<Action>,
-    /// The first whole second at which the wait of the phase is accepted; nothing where there is
-    /// none, or the phase is no wait.
+    /// The first whole second at which the wait of the phase is accepted, as it is at each one
+    /// behind; nothing where there is none below 2^64, or the phase is no wait.
     pub from: Option<u64>,
 }
 
 /// What is due of a roll; nothing where it does not run.
-pub(crate) fn due(
-    alloc: Global,
-    keys: &KeySet,
-    rolltype: RollType,
-) -> Result<Option<Due>, AllocError>
+pub fn due(alloc: Global, keys: &KeySet, rolltype: RollType) -> Result<Option<Due>, AllocError>
     ensures { IfOk result (IsDue keys.now rolltype) }
 {
     let Some(phase) = phase_of(keys, rolltype) else {
@@ -62,27 +59,41 @@ fn accepted_from(keys: &KeySet, rolltype: RollType, phase: RollState) -> Option<
 fn wait_from(keys: &KeySet, rolltype: RollType, turn: Turn, ttl: u32) -> Option<u64>
     ensures { IsPassedFrom result (λ now. wait_fault rolltype turn ttl now keys.now.keys) }
 {
+    let keys = keys.keys();
     if misses_stamp(keys, rolltype, turn) {
         return None;
     }
-    let nanos = greatest_end(keys, rolltype, turn, ttl);
-    u64::try_from(nanos.div_ceil(NANOS_PER_SEC)).ok()
+    first_second(greatest_end(keys, rolltype, turn, ttl))
+}
+
+/// The first whole second at or behind a moment that is given in nanoseconds.
+fn first_second(nanos: u128) -> Option<u64>
+    requires { nanos < 2 ^ 96 }
+    ensures { (second : ℕ) → second < 2 ^ 64
+        → (nanos ≤ second * 1000000000) ↔ IsReached result second }
+{
+    let seconds = (nanos + NANOS_PER_SEC - 1) / NANOS_PER_SEC;
+    if seconds > u128::from(u64::MAX) {
+        return None;
+    }
+    Some(seconds as u64)
 }
 
 /// Whether a key that a wait looks at lacks the stamp that it reads.
-fn misses_stamp(keys: &KeySet, rolltype: RollType, turn: Turn) -> bool
-    ensures { result ≡ misses rolltype turn keys.now.keys }
+fn misses_stamp(keys: &HashMap<String, Key>, rolltype: RollType, turn: Turn) -> bool
+    ensures { result ≡ misses rolltype turn (by_reference keys.now.entries) }
 {
-    keys.keys().values().any(|key| rolltype.misses_stamp(turn, key))
+    keys.values().any(|key| rolltype.misses_stamp(turn, key))
 }
 
 /// The moment, in nanoseconds, from which no key holds a wait back.
-fn greatest_end(keys: &KeySet, rolltype: RollType, turn: Turn, ttl: u32) -> u128
-    ensures exact { result ≡ greatest_end rolltype turn ttl keys.now.keys }
-    ensures small { result < 2 ^ 127 }
+fn greatest_end(keys: &HashMap<String, Key>, rolltype: RollType, turn: Turn, ttl: u32) -> u128
+    ensures exact { let es = by_reference keys.now.entries in
+        result ≡ greatest_end rolltype turn ttl es }
+    ensures small { result < 2 ^ 96 }
 {
     let mut greatest = 0;
-    for key in keys.keys().values() {
+    for key in keys.values() {
         greatest = end_of(key, rolltype, turn, ttl).max(greatest);
     }
     greatest
@@ -91,14 +102,25 @@ fn greatest_end(keys: &KeySet, rolltype: RollType, turn: Turn, ttl: u32) -> u128
 /// The moment, in nanoseconds, from which a key does not hold a wait back.
 fn end_of(key: &Key, rolltype: RollType, turn: Turn, ttl: u32) -> u128
     ensures exact { result ≡ end_of ttl (awaited turn rolltype key.now) }
-    ensures small { result < 2 ^ 127 }
+    ensures small { result < 2 ^ 96 }
 {
     let beginning = UnixTime::new(Duration::from_secs(0));
     let whole = rolltype.rest(turn, key, ttl, &beginning);
-    match stamp_read(key, rolltype, turn) {
-        Some(since) if whole > 0 => beginning.elapsed(&since).as_nanos() + whole,
-        _ => 0,
+    let Some(since) = stamp_read(key, rolltype, turn) else {
+        return 0;
+    };
+    if whole == 0 {
+        return 0;
     }
+    nanos_of(&since) + whole
+}
+
+/// The nanoseconds of a moment.
+fn nanos_of(moment: &UnixTime) -> u128
+    ensures value { result ≡ moment.now }
+    ensures small { result < 2 ^ 94 }
+{
+    UnixTime::new(Duration::from_secs(0)).elapsed(moment).as_nanos()
 }
 
 /// The stamp that a wait reads.

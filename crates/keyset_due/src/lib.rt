@@ -1,0 +1,7 @@
+//! What is due of the rolls that run: what each asks for, and from when on its next wait is
+//! accepted.
+#![tactic(auto)]
+
+pub mod due;
+
+pub use crate::due::{Due, due};
