@@ -1,6 +1,6 @@
 -- From when on a wait is accepted.
-use Rattle.std.proofs.Common.{◌≡◌, ℕ, ◌+◌, ◌*◌, ◌-◌, ◌<◌, ◌≤◌, ◌^◌, ◌==◌, ◌||◌, Bool, true, false, cond, List, [], ◌∷◌, map, max, refl, sym, ap, subst, ◌∙◌, arith, eqb}
-use Rattle.std.specs.Prelude.{Option, Some, None, Ok, Err, ◌↔◌}
+use Rattle.std.proofs.Common.{◌≡◌, ℕ, ◌+◌, ◌*◌, ◌<◌, ◌≤◌, ◌^◌, ◌||◌, Bool, true, false, cond, List, [], ◌∷◌, refl, ap, subst, arith, eqb}
+use Rattle.std.specs.Prelude.{Option, Some, None, Ok, ◌↔◌}
 use Rattle.std.specs.List.{AllByRecursion}
 use Rattle.std.proofs.lemmas.Bool.Decides.{nat_tests}
 use Rattle.keyset_rolls.specs.declared.rolls.Action.{Action}
@@ -12,7 +12,7 @@ use Rattle.keyset_rolls.specs.declared.rolls.Turn.TheVariants.{First, Second}
 use Rattle.keyset_rolls.specs.Rolls.{awaited, is_missing, rest_of, waited1, waited2}
 use Rattle.keyset_rolls.specs.Actions.{actions_in}
 use Rattle.keyset.specs.KeyRuns.{is_accepted}
-use Rattle.keyset.specs.KeyState.{Key, KeySetState, Reference, Refusal, MissingTimestamp, Wait, entered, greatest, greatest_rest, misses, on_keys, phase_of, unless_fault, wait1, wait2, wait_fault}
+use Rattle.keyset.specs.KeyState.{Key, KeySetState, Reference, Refusal, MissingTimestamp, Wait, entered, greatest_rest, misses, on_keys, phase_of, unless_fault, wait1, wait2, wait_fault}
 use Rattle.keyset.specs.KeyLaws.{HasPassed}
 use Rattle.keyset.proofs.KeyWaits.{WaitsAreExact-holds}
 use Rattle.keyset_due.specs.Dues.{IsAcceptedFrom, IsPassedFrom, IsReached, end_of, greatest_end}
@@ -80,8 +80,8 @@ module _ (r : RollType) (t : Turn) (ttl now : ℕ) where
       let rest = greatest_rest r t ttl now es in
       let fault : wait_fault r t ttl now es ≡ Some MissingTimestamp = ap (λ b. cond b (Some MissingTimestamp) (cond (eqb rest 0) None (Some (Wait rest)))) m in
       (λ f. absurd (none_some fault f), λ h. absurd h) where
-    none_some : {o : Option Refusal} → o ≡ Some MissingTimestamp → o ≡ None → ⊥
-    none_some e f = cc
+        none_some : {o : Option Refusal} → o ≡ Some MissingTimestamp → o ≡ None → ⊥
+        none_some e f = cc
 
 -- ---- the calls
 

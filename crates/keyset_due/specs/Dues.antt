@@ -5,11 +5,10 @@ use Rattle.keyset_rolls.specs.declared.rolls.RollState.{RollState}
 use Rattle.keyset_rolls.specs.declared.rolls.RollState.TheVariants as state
 use Rattle.keyset_rolls.specs.declared.rolls.RollType.{RollType}
 use Rattle.keyset_rolls.specs.declared.rolls.Turn.{Turn}
-use Rattle.keyset_rolls.specs.declared.rolls.Turn.TheVariants as turn
 use Rattle.keyset_rolls.specs.Rolls.{awaited}
 use Rattle.keyset.specs.KeyRuns.{is_accepted}
 use Rattle.keyset.specs.KeyState.{Answer, Key, KeySetState, Reference, Refusal, greatest, phase_of, wait1, wait2}
-use Rattle.keyset_due.specs.declared.due.Due.{Due}
+use Rattle.keyset_due.specs.declared.dues.Due.{Due}
 
 -- a moment, in whole seconds, at or behind one that may be missing
 abbrev pub IsReached : Option ℕ → ℕ → Type 0

@@ -2,6 +2,6 @@
 //! accepted.
 #![tactic(auto)]
 
-pub mod due;
+pub mod dues;
 
-pub use crate::due::{Due, due};
+pub use crate::dues::{Due, due_of};

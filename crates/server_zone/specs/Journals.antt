@@ -12,10 +12,10 @@ use Rattle.denialbench_session.specs.declared.line_error.LineFault.TheVariants.{
 use Rattle.server_zone.specs.Lines.{has_feed, unfinished, whole_lines}
 use Rattle.server_zone.specs.StateLines.{StateLine, Nothing, Added, Replaced, Called, Other, state_line}
 use Rattle.server_zone.specs.States.{Digest, OfLine, RefusesLine, RefusesTo, State, after, applied_line, made, state_of}
-use Rattle.server_zone.specs.declared.refusal.OpenError.{OpenError}
-use Rattle.server_zone.specs.declared.refusal.Refusal.{Refusal}
-use Rattle.server_zone.specs.declared.refusal.Refusal.TheVariants as refusal
-use Rattle.server_zone.specs.declared.zone.Zone.{Zone}
+use Rattle.server_zone.specs.declared.refusals.OpenError.{OpenError}
+use Rattle.server_zone.specs.declared.refusals.Refusal.{Refusal}
+use Rattle.server_zone.specs.declared.refusals.Refusal.TheVariants as refusal
+use Rattle.server_zone.specs.declared.open_zone.Zone.{Zone}
 use Rattle.server_zone.specs.declared.opening.Phase.{Phase as CodePhase}
 use Rattle.server_zone.specs.declared.opening.Phase.TheVariants as code
 

@@ -24,11 +24,11 @@ use Rattle.denialbench_session.specs.Sessions.{fields_of}
 use Rattle.denialbench_session.specs.declared.line_error.LineFault.TheVariants as line_fault
 use Rattle.server_zone.specs.Lines.{has_feed, unfinished, whole_lines}
 use Rattle.server_zone.specs.StateLines.{StateLine, Nothing, Added, Replaced, Called, Other, state_line}
-use Rattle.server_zone.specs.declared.refusal.Refusal.{Refusal}
-use Rattle.server_zone.specs.declared.refusal.Refusal.TheVariants as refusal
-use Rattle.server_zone.specs.declared.zone.Applied.{Applied}
-use Rattle.server_zone.specs.declared.zone.Applied.TheVariants as applied
-use Rattle.server_zone.specs.declared.zone.Zone.{Zone}
+use Rattle.server_zone.specs.declared.refusals.Refusal.{Refusal}
+use Rattle.server_zone.specs.declared.refusals.Refusal.TheVariants as refusal
+use Rattle.server_zone.specs.declared.open_zone.Applied.{Applied}
+use Rattle.server_zone.specs.declared.open_zone.Applied.TheVariants as applied
+use Rattle.server_zone.specs.declared.open_zone.Zone.{Zone}
 
 -- the zone, how long its signatures hold, its keys and their rolls, the records that are gathered for the next replacement,
 -- and whether an event stands behind the zone's own records

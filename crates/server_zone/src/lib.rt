@@ -7,10 +7,10 @@ pub mod line;
 mod lines;
 pub mod opening;
 mod records;
-pub mod refusal;
-pub mod zone;
+pub mod refusals;
+pub mod open_zone;
 
 pub use keyset_due::Due;
 pub use crate::opening::Opened;
-pub use crate::refusal::{OpenError, Refusal};
-pub use crate::zone::{Applied, Zone};
+pub use crate::refusals::{OpenError, Refusal};
+pub use crate::open_zone::{Applied, Zone};

@@ -11,8 +11,8 @@ ghost use Rattle.server_zone.specs.States.{made, state_of, ungathered};
 
 use crate::line::{Line, read_line};
 use crate::lines::split_line;
-use crate::refusal::{OpenError, Refusal};
-use crate::zone::Zone;
+use crate::refusals::{OpenError, Refusal};
+use crate::open_zone::Zone;
 use answer_events::record::ZoneRecord;
 use answer_publisher::fault::ZoneFault;
 use answer_publisher::publishing::Publisher;

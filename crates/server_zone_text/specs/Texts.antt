@@ -2,11 +2,11 @@
 use Rattle.std.specs.Prelude.{ℕ, List, [], ◌++◌, codes, decimal}
 use Rattle.denialbench_print.specs.Names.{replace_fault_name, zone_fault_name}
 use Rattle.denialbench_print.specs.Printed.{actions_text, key_refusal}
-use Rattle.server_zone.specs.declared.refusal.OpenError.{OpenError}
-use Rattle.server_zone.specs.declared.refusal.Refusal.{Refusal}
-use Rattle.server_zone.specs.declared.refusal.Refusal.TheVariants.{Unreadable, ManyLines, NotOfState, TooEarly, Zone, Key, Replace, Memory}
-use Rattle.server_zone.specs.declared.zone.Applied.{Applied}
-use Rattle.server_zone.specs.declared.zone.Applied.TheVariants.{Nothing, Gathered, Actions, Replaced}
+use Rattle.server_zone.specs.declared.refusals.OpenError.{OpenError}
+use Rattle.server_zone.specs.declared.refusals.Refusal.{Refusal}
+use Rattle.server_zone.specs.declared.refusals.Refusal.TheVariants.{Unreadable, ManyLines, NotOfState, TooEarly, Zone, Key, Replace, Memory}
+use Rattle.server_zone.specs.declared.open_zone.Applied.{Applied}
+use Rattle.server_zone.specs.declared.open_zone.Applied.TheVariants.{Nothing, Gathered, Actions, Replaced}
 
 abbrev pub applied_text : Applied → List ℕ
 applied_text Nothing = []

@@ -89,9 +89,8 @@ impl Desk {
 
     /// Notes what is seen of the zone.
     fn note(&mut self) -> Option<()> {
-        let mut copy = Zone::open(self.alloc, &self.journal, &BenchScheme, &Sha1Hasher).ok()?;
         let octets = self.journal.len();
-        let summary = summary(self.alloc, &mut copy.zone)?;
+        let summary = summary(self.alloc, self.zone.as_mut()?)?;
         self.seen.push(Seen { octets, summary }).ok()
     }
 
@@ -110,11 +109,22 @@ impl Desk {
             Err(refusal) => {
                 push_refusal(&mut said, &refusal).ok()?;
                 if matches!(refusal, Refusal::Replace(_)) {
-                    zone.forget_gathered();
+                    self.forget()?;
                 }
             }
         }
         Some(said)
+    }
+
+    /// Forgets the records that are gathered, and cuts their lines off the journal.
+    fn forget(&mut self) -> Option<()> {
+        let opened = Zone::open(self.alloc, &self.journal, &BenchScheme, &Sha1Hasher).ok()?;
+        self.journal.truncate(opened.settled);
+        while self.seen.last().is_some_and(|seen| seen.octets > opened.settled) {
+            self.seen.pop();
+        }
+        self.zone.as_mut()?.forget_gathered();
+        Some(())
     }
 
     /// Answers a question, which is noted.
@@ -177,16 +187,26 @@ impl Desk {
 
     /// Opens the journal cut at each octet behind the zone's own records.
     fn cuts(&mut self) -> Option<String> {
-        for seen in &self.seen {
-            let octets = seen.octets;
-            let mut opened =
-                Zone::open(self.alloc, &self.journal[..octets], &BenchScheme, &Sha1Hasher).ok()?;
-            if opened.whole != octets || summary(self.alloc, &mut opened.zone)? != seen.summary {
+        let own = self.seen.first()?.octets;
+        let mut seen = 0;
+        for octets in own..self.journal.len() + 1 {
+            if self.seen.get(seen + 1).is_some_and(|next| next.octets == octets) {
+                seen += 1;
+            }
+            if !self.is_as_seen(octets, self.seen.get(seen)?)? {
                 return format!(in self.alloc; "differs at {octets}").ok();
             }
         }
         let count = self.journal.len();
         format!(in self.alloc; "{count}").ok()
+    }
+
+    /// Whether the journal's first octets give what was seen, and count the octets of whole lines.
+    fn is_as_seen(&self, octets: usize, seen: &Seen) -> Option<bool> {
+        let front = self.journal.get(..octets)?;
+        let mut opened = Zone::open(self.alloc, front, &BenchScheme, &Sha1Hasher).ok()?;
+        let summary = summary(self.alloc, &mut opened.zone)?;
+        Some(opened.whole == seen.octets && summary == seen.summary)
     }
 }
 

@@ -3,7 +3,7 @@ use Rattle.std.proofs.lemmas.Iterator.Search.{any_from_yields_List}
 use Rattle.std.proofs.lemmas.Iterator.Consumers.{YieldsList-from_rest}
 use Rattle.keyset_rolls.specs.Rolls.{awaited, is_missing}
 use Rattle.keyset.proofs.KeyMaps.{any_value-by_reference}
-use Rattle.keyset_due.proofs.due.misses_stamp.Goals as goal
+use Rattle.keyset_due.proofs.dues.misses_stamp.Goals as goal
 
 pub returns : goal.returns
 returns c =

@@ -4,7 +4,7 @@ use Rattle.keyset.specs.KeyState.{greatest, Key}
 use Rattle.keyset_rolls.specs.Rolls.{awaited}
 use Rattle.keyset.proofs.KeyMaps.{greatest-by_reference}
 use Rattle.keyset_due.specs.Dues.{end_of}
-use Rattle.keyset_due.proofs.due.greatest_end.Goals as goal
+use Rattle.keyset_due.proofs.dues.greatest_end.Goals as goal
 
 ended : (f : Key → ℕ) (n : ℕ) (left all : List Key) → max n (greatest (map f left)) ≡ greatest (map f all) → left ≡ [] → n ≡ greatest (map f all)
 ended f n left all h e =

@@ -7,11 +7,11 @@ ghost use Rattle.keyset_due.specs.Dues.{IsDue};
 ghost use Rattle.server_zone.specs.StateLines.{Added, Called, Replaced, added_in, line_view, state_line};
 ghost use Rattle.server_zone.specs.States.{Follows, IsRestKept, OfLine, RefusesLine, RefusesTo, applied_line, state_of, ungathered};
 
-use keyset_due::{Due, due};
+use keyset_due::{Due, due_of};
 use crate::line::{Line, read_line};
 use crate::lines::has_feed;
 use crate::records::copy_records;
-use crate::refusal::Refusal;
+use crate::refusals::Refusal;
 use answer_events::event::KeyCall;
 use answer_publisher::fault::ReplaceFault;
 use answer_publisher::publishing::Publisher;
@@ -193,6 +193,6 @@ impl<'a, S: Scheme, H: Nsec3Hasher> Zone<'a, S, H> {
     pub fn due(&self, rolltype: RollType) -> Result<Option<Due>, AllocError>
         ensures { IfOk result (IsDue self.now.publisher.keys.keys rolltype) }
     {
-        due(self.alloc, self.publisher.key_set(), rolltype)
+        due_of(self.alloc, self.publisher.key_set(), rolltype)
     }
 }

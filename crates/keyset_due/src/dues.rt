@@ -24,7 +24,7 @@ pub struct Due {
 }
 
 /// What is due of a roll; nothing where it does not run.
-pub fn due(alloc: Global, keys: &KeySet, rolltype: RollType) -> Result<Option<Due>, AllocError>
+pub fn due_of(alloc: Global, keys: &KeySet, rolltype: RollType) -> Result<Option<Due>, AllocError>
     ensures { IfOk result (IsDue keys.now rolltype) }
 {
     let Some(phase) = phase_of(keys, rolltype) else {
@@ -120,7 +120,9 @@ fn nanos_of(moment: &UnixTime) -> u128
     ensures value { result ≡ moment.now }
     ensures small { result < 2 ^ 94 }
 {
-    UnixTime::new(Duration::from_secs(0)).elapsed(moment).as_nanos()
+    UnixTime::new(Duration::from_secs(0))
+        .elapsed(moment)
+        .as_nanos()
 }
 
 /// The stamp that a wait reads.
@@ -133,9 +135,7 @@ fn stamp_read(key: &Key, rolltype: RollType, turn: Turn) -> Option<UnixTime>
         (Turn::First, _) => stamps.visible(),
         (Turn::Second, RollType::KskRoll | RollType::AlgorithmRoll) => stamps.ds_visible(),
         (Turn::Second, RollType::KskDoubleDsRoll) => stamps.visible(),
-        (
-            Turn::Second,
-            RollType::ZskRoll | RollType::ZskDoubleSignatureRoll | RollType::CskRoll,
-        ) => stamps.rrsig_visible(),
+        (Turn::Second, RollType::ZskRoll | RollType::ZskDoubleSignatureRoll | RollType::CskRoll) =>
+            stamps.rrsig_visible(),
     }
 }

@@ -58,7 +58,7 @@ impl From<LineError> for Refusal {
 
 impl From<KeyFault> for Refusal {
     ghost use Rattle.std.specs.Prelude.{◌≡◌};
-    ghost use Rattle.server_zone.specs.declared.refusal.Refusal.TheVariants.{Key};
+    ghost use Rattle.server_zone.specs.declared.refusals.Refusal.TheVariants.{Key};
 
     ghost from_gives = { λ fault refusal. refusal ≡ Key fault };
 
@@ -69,7 +69,7 @@ impl From<KeyFault> for Refusal {
 
 impl From<ReplaceFault> for Refusal {
     ghost use Rattle.std.specs.Prelude.{◌≡◌};
-    ghost use Rattle.server_zone.specs.declared.refusal.Refusal.TheVariants.{Replace};
+    ghost use Rattle.server_zone.specs.declared.refusals.Refusal.TheVariants.{Replace};
 
     ghost from_gives = { λ fault refusal. refusal ≡ Replace fault };
 
@@ -80,7 +80,7 @@ impl From<ReplaceFault> for Refusal {
 
 impl From<ZoneFault> for Refusal {
     ghost use Rattle.std.specs.Prelude.{◌≡◌};
-    ghost use Rattle.server_zone.specs.declared.refusal.Refusal.TheVariants.{Zone};
+    ghost use Rattle.server_zone.specs.declared.refusals.Refusal.TheVariants.{Zone};
 
     ghost from_gives = { λ fault refusal. refusal ≡ Zone fault };
 
@@ -91,7 +91,7 @@ impl From<ZoneFault> for Refusal {
 
 impl From<AllocError> for Refusal {
     ghost use Rattle.std.specs.Prelude.{◌≡◌};
-    ghost use Rattle.server_zone.specs.declared.refusal.Refusal.TheVariants.{Memory};
+    ghost use Rattle.server_zone.specs.declared.refusals.Refusal.TheVariants.{Memory};
 
     ghost from_gives = { λ _ refusal. refusal ≡ Memory };
 
@@ -102,7 +102,7 @@ impl From<AllocError> for Refusal {
 
 impl<T: Drop> From<AllocFailed<T>> for Refusal {
     ghost use Rattle.std.specs.Prelude.{◌≡◌};
-    ghost use Rattle.server_zone.specs.declared.refusal.Refusal.TheVariants.{Memory};
+    ghost use Rattle.server_zone.specs.declared.refusals.Refusal.TheVariants.{Memory};
 
     ghost from_gives = { λ _ refusal. refusal ≡ Memory };
 
