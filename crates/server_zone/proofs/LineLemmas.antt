@@ -1,6 +1,7 @@
 -- Lines that end in a line feed, of texts that are joined and cut.
-use Rattle.std.proofs.Common.{◌≡◌, ℕ, zero, suc, ◌==◌, ◌||◌, Bool, true, false, cond, List, [], ◌∷◌, ◌++◌, take, refl, sym, ap, ◌∙◌, append_assoc}
-use Rattle.std.specs.List.{list_any, flat_map}
+use Rattle.std.proofs.Common.{◌≡◌, ℕ, zero, suc, ◌+◌, ◌-◌, ◌<◌, ◌≤◌, ◌==◌, ◌||◌, Bool, true, false, not, cond, List, [], ◌∷◌, ◌++◌, length, take, drop, take_all, length-drop, Some, None, refl, sym, ap, subst, ◌∙◌, append_assoc, arith, nat_lt}
+use Rattle.std.specs.List.{list_any, flat_map, position, prefix_len}
+use Rattle.std.proofs.lemmas.Bool.Decides.{nat_tests}
 use Rattle.std.proofs.lemmas.Bool.{eqb-true}
 use Rattle.server_zone.specs.Lines.{has_feed, led, whole_lines, unfinished}
 
@@ -139,3 +140,58 @@ cut_lines (c ∷ cs) (suc at) =
       | true ↦ (suc cut.0, ap (λ ls. [] ∷ ls) cut.1)
       | false ↦ (cut.0, ap (led c) cut.1 ∙ led_take c cut.0 (whole_lines cs))
     ]
+
+-- ---- the first line feed
+
+-- how many octets stand in front of it
+abbrev ahead : List ℕ → ℕ
+ahead xs = prefix_len (λ c. not (c == 10)) xs
+
+longer : (c : ℕ) (cs : List ℕ) (k : ℕ) → cs ≡ take k cs ++ 10 ∷ drop (k + 1) cs → c ∷ cs ≡ take (1 + k) (c ∷ cs) ++ 10 ∷ drop (1 + k + 1) (c ∷ cs)
+longer c cs k e =
+    let p : 1 + k ≡ suc k = omega arith in
+    let q : 1 + k + 1 ≡ suc (k + 1) = omega arith in
+    rw (q, p) (ap (λ xs. c ∷ xs) e)
+
+unfed : (c : ℕ) (cs : List ℕ) (k : ℕ) → (c == 10) ≡ false → has_feed (take k cs) ≡ false → has_feed (take (1 + k) (c ∷ cs)) ≡ false
+unfed c cs k n h =
+    let p : 1 + k ≡ suc k = omega arith in
+    rw p (ap (λ b. b || has_feed (take k cs)) n ∙ h)
+
+cut_cond : (c : ℕ) (cs : List ℕ) (b : Bool) → (c == 10) ≡ b → cond (not b) (1 + ahead cs) 0 < length (c ∷ cs)
+    → (ahead cs < length cs → (cs ≡ take (ahead cs) cs ++ 10 ∷ drop (ahead cs + 1) cs) × (has_feed (take (ahead cs) cs) ≡ false))
+    → (c ∷ cs ≡ take (cond (not b) (1 + ahead cs) 0) (c ∷ cs) ++ 10 ∷ drop (cond (not b) (1 + ahead cs) 0 + 1) (c ∷ cs)) × (has_feed (take (cond (not b) (1 + ahead cs) 0) (c ∷ cs)) ≡ false)
+cut_cond c cs true is h f = (ap (λ d. d ∷ cs) (eqb-true c 10 is), refl)
+cut_cond c cs false is h f =
+    let k = f (omega arith) in
+    (longer c cs (ahead cs) k.0, unfed c cs (ahead cs) is k.1)
+
+cut_at : (xs : List ℕ) → ahead xs < length xs → (xs ≡ take (ahead xs) xs ++ 10 ∷ drop (ahead xs + 1) xs) × (has_feed (take (ahead xs) xs) ≡ false)
+cut_at [] h = absurd (omega arith)
+cut_at (c ∷ cs) h = cut_cond c cs (c == 10) refl h (λ l. cut_at cs l)
+
+none_cond : (c : ℕ) (cs : List ℕ) (b : Bool) → length (c ∷ cs) ≤ cond (not b) (1 + ahead cs) 0 → (length cs ≤ ahead cs → has_feed cs ≡ false) → (b || has_feed cs) ≡ false
+none_cond c cs true h f = absurd (omega arith)
+none_cond c cs false h f = f (omega arith)
+
+none_at : (xs : List ℕ) → length xs ≤ ahead xs → has_feed xs ≡ false
+none_at [] h = refl
+none_at (c ∷ cs) h = none_cond c cs (c == 10) h (λ l. none_at cs l)
+
+is_none : (n m : ℕ) → cond (nat_lt n m) (Some n) None ≡ None → m ≤ n
+is_none n m e = grind (arith, nat_tests)
+
+is_some : (n m k : ℕ) → cond (nat_lt n m) (Some n) None ≡ Some k → (n < m) × (n ≡ k)
+is_some n m k e = grind (arith, nat_tests)
+
+pub no_feed_at : (xs : List ℕ) → position (λ c. c == 10) xs ≡ None → has_feed xs ≡ false
+no_feed_at xs e = none_at xs (is_none (ahead xs) (length xs) e)
+
+whole_rest : (xs : List ℕ) (n : ℕ) → take (length xs - n) (drop n xs) ≡ drop n xs
+whole_rest xs n = take_all (length xs - n) (drop n xs) (omega (arith, length-drop {A = ℕ}))
+
+pub feed_at : (xs : List ℕ) (k : ℕ) → position (λ c. c == 10) xs ≡ Some k → (xs ≡ take k xs ++ 10 ∷ take (length xs - (k + 1)) (drop (k + 1) xs)) × (has_feed (take k xs) ≡ false)
+feed_at xs k e =
+    let f : (ahead xs < length xs) × (ahead xs ≡ k) = is_some (ahead xs) (length xs) k e in
+    let cut = subst (λ n. (xs ≡ take n xs ++ 10 ∷ drop (n + 1) xs) × (has_feed (take n xs) ≡ false)) f.1 (cut_at xs f.0) in
+    (cut.0 ∙ sym (ap (λ ys. take k xs ++ 10 ∷ ys) (whole_rest xs (k + 1))), cut.1)
