@@ -5,19 +5,25 @@ use Rattle.messages.specs.HandedRr.{HandedRr}
 use Rattle.denialbench_session.specs.Grammar.{◌>>=◌, ZoneLine}
 use Rattle.answer_events.specs.Calls.{Call}
 use Rattle.server_zone.specs.Lines.{has_feed, unfinished, whole_lines}
-use Rattle.server_zone.specs.StateLines.{StateLine, Nothing, Added, Replaced, Called, Other, state_line}
-use Rattle.server_zone.specs.States.{Digest, State, after, applied_line, made}
-use Rattle.server_zone.specs.Journals.{Phase, Empty, Beginning, Running, ended, journal_state, own_line, ran, state_behind, with_line, with_lines}
+use Rattle.answer_shared.specs.Hashing.{Hasher}
+use Rattle.answer_zone_records.specs.declared.fault.ZoneFault.{ZoneFault}
+use Rattle.denialbench_session.specs.declared.line_error.LineFault.{LineFault}
+use Rattle.server_zone.specs.declared.refusals.Refusal.{Refusal}
+use Rattle.server_zone.specs.declared.refusals.Refusal.TheVariants as refusal
+use Rattle.server_zone.specs.StateLines.{StateLine, Nothing, Added, Replaced, Called, Other, is_event, state_line}
+use Rattle.server_zone.specs.States.{Digest, RefusesTo, State, after, applied_line, made}
+use Rattle.server_zone.specs.Journals.{Phase, Empty, Beginning, Running, RefusesBeginning, RefusesOwn, ended, journal_state, own_line, ran, state_behind, with_line, with_lines}
 use Rattle.server_zone.specs.JournalLaws.{AcceptedLinesExtend, CutsKeepState}
 use Rattle.server_zone.proofs.LineLemmas.{cut_lines, line_behind}
+use Rattle.server_zone.proofs.StateLemmas.{of_line}
 
 -- ---- options
 
-bind_ok : {A B : Type 0} (o : Option A) (f : A → Option B) (y : B) → (o >>= f) ≡ Some y → (x : A) × (o ≡ Some x) × (f x ≡ Some y)
+pub bind_ok : {A B : Type 0} (o : Option A) (f : A → Option B) (y : B) → (o >>= f) ≡ Some y → (x : A) × (o ≡ Some x) × (f x ≡ Some y)
 bind_ok (Some x) f y h = (x, refl, h)
 bind_ok None f y h = absurd (cc)
 
-bind_some : {A B : Type 0} (o : Option A) (f : A → Option B) (x : A) → o ≡ Some x → (o >>= f) ≡ f x
+pub bind_some : {A B : Type 0} (o : Option A) (f : A → Option B) (x : A) → o ≡ Some x → (o >>= f) ≡ f x
 bind_some o f x e = ap (λ p. p >>= f) e
 
 bind_again : {A B C : Type 0} (o : Option A) (f : A → Option B) (g : B → Option C) → ((o >>= f) >>= g) ≡ (o >>= λ x. f x >>= g)
@@ -90,3 +96,50 @@ accepted_lines_extend digest text line s t h e a =
 
 pub cuts_keep_state : CutsKeepState
 cuts_keep_state digest text at = let cut = cut_lines text at in (cut.0, ap (state_behind digest) cut.1)
+
+-- ---- the first event, and lines behind it
+
+pub own_event : (digest : Digest) (z : ZoneLine) (rs : List HandedRr) (l : StateLine) (t : State) → is_event l ≡ true → after digest l (made z rs) ≡ Some t → own_line digest z rs l ≡ Some (Running t)
+own_event digest z rs Nothing t e h = absurd (cc)
+own_event digest z rs (Added r) t e h = absurd (cc)
+own_event digest z rs (Replaced at) t e h = ap ran h
+own_event digest z rs (Called at c) t e h = ap ran h
+own_event digest z rs Other t e h = ap ran h
+
+no_zone : (digest : Digest) (hash : Hasher) (latest : Option ℕ) (s : State) (l : StateLine) (f : ZoneFault) → RefusesTo digest hash latest s l (refusal.Zone f) → ⊥
+no_zone digest hash latest s Nothing f h = h
+no_zone digest hash latest s (Added r) f h = h
+no_zone digest hash latest s (Replaced at) f h = h
+no_zone digest hash latest s (Called at c) f h = h
+no_zone digest hash latest s Other f h = h
+
+pub own_refused : (digest : Digest) (hash : Hasher) (z : ZoneLine) (rs : List HandedRr) (l : StateLine) (f : Refusal) → RefusesTo digest hash None (made z rs) l f → RefusesOwn digest hash z rs l f
+own_refused digest hash z rs l (refusal.Zone f) h = absurd (no_zone digest hash None (made z rs) l f h)
+own_refused digest hash z rs l (refusal.Unreadable f) h = h
+own_refused digest hash z rs l refusal.ManyLines h = h
+own_refused digest hash z rs l refusal.NotOfState h = h
+own_refused digest hash z rs l refusal.TooEarly h = h
+own_refused digest hash z rs l (refusal.Key f) h = h
+own_refused digest hash z rs l (refusal.Replace f) h = h
+own_refused digest hash z rs l refusal.Memory h = h
+
+own_unread : (digest : Digest) (hash : Hasher) (z : ZoneLine) (rs : List HandedRr) (l : StateLine) (f : LineFault) → RefusesTo digest hash None (made z rs) l (refusal.Unreadable f) → ⊥
+own_unread digest hash z rs Nothing f h = h
+own_unread digest hash z rs (Added r) f h = h
+own_unread digest hash z rs (Replaced at) f h = h
+own_unread digest hash z rs (Called at c) f h = h
+own_unread digest hash z rs Other f h = h
+
+-- a line that was read where the zone's own records stand
+pub beginning_read : (digest : Digest) (hash : Hasher) (z : ZoneLine) (rs : List HandedRr) (line : List ℕ) (l : StateLine) (f : Refusal) → state_line line ≡ Some l → RefusesOwn digest hash z rs l f → RefusesBeginning digest hash z rs line f
+beginning_read digest hash z rs line l refusal.Memory e h = tt
+beginning_read digest hash z rs line l (refusal.Unreadable f) e h = absurd (own_unread digest hash z rs l f h)
+beginning_read digest hash z rs line l refusal.ManyLines e h = of_line (λ k. RefusesOwn digest hash z rs k refusal.ManyLines) (state_line line) l e h
+beginning_read digest hash z rs line l refusal.NotOfState e h = of_line (λ k. RefusesOwn digest hash z rs k refusal.NotOfState) (state_line line) l e h
+beginning_read digest hash z rs line l refusal.TooEarly e h = of_line (λ k. RefusesOwn digest hash z rs k refusal.TooEarly) (state_line line) l e h
+beginning_read digest hash z rs line l (refusal.Zone f) e h = of_line (λ k. RefusesOwn digest hash z rs k (refusal.Zone f)) (state_line line) l e h
+beginning_read digest hash z rs line l (refusal.Key f) e h = of_line (λ k. RefusesOwn digest hash z rs k (refusal.Key f)) (state_line line) l e h
+beginning_read digest hash z rs line l (refusal.Replace f) e h = of_line (λ k. RefusesOwn digest hash z rs k (refusal.Replace f)) (state_line line) l e h
+
+pub own_read : (digest : Digest) (z : ZoneLine) (rs : List HandedRr) (line : List ℕ) (l : StateLine) (p : Phase) → state_line line ≡ Some l → own_line digest z rs l ≡ Some p → (state_line line >>= λ k. own_line digest z rs k) ≡ Some p
+own_read digest z rs line l p e h = bind_some (state_line line) (own_line digest z rs) l e ∙ h

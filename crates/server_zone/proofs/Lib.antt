@@ -1,2 +1,6 @@
 pub mod LineLemmas
+pub mod StateLemmas
 pub mod JournalLemmas
+pub mod ReadLemmas
+pub mod OpeningLemmas
+pub mod Opening

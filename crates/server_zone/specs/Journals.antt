@@ -1,5 +1,5 @@
 -- Journals: the state that lines give, and why a journal is not opened.
-use Rattle.std.specs.Prelude.{◌≡◌, ℕ, ◌+◌, Bool, true, false, List, [], ◌∷◌, ◌++◌, length, is_empty, map, Option, Some, None, if◌then◌else◌}
+use Rattle.std.specs.Prelude.{◌≡◌, ℕ, ◌+◌, Bool, true, false, List, [], ◌∷◌, ◌++◌, length, is_empty, take, map, Option, Some, None, if◌then◌else◌}
 use Rattle.std.specs.Str.{is_utf8}
 use Rattle.messages.specs.HandedRr.{HandedRr, handed_of}
 use Rattle.answer_shared.specs.Hashing.{Hasher}
@@ -83,6 +83,16 @@ pub record IsFresh {S H : Type 0} (scheme : S) (hasher : H) (z : Zone S H) : Typ
 abbrev pub IsOpening : {S H : Type 0} → S → H → CodePhase S H → Type 0
 IsOpening scheme hasher (code.Running z) = IsFresh scheme hasher z
 IsOpening scheme hasher _ = Unit {0}
+
+-- whether the line of a zone stands
+abbrev pub is_there : Phase → Bool
+is_there Empty = false
+is_there (Beginning z rs) = true
+is_there (Running s) = true
+
+-- a journal that is cut at this octet gives a state in which no records are gathered
+abbrev pub IsSettledAt : Digest → List ℕ → ℕ → Type 0
+IsSettledAt digest text at = (s : State) × (journal_state digest (take at text) ≡ Some s) × (s.gathered ≡ [])
 
 -- ---- why a journal is not opened
 

@@ -1,5 +1,5 @@
 -- What the lines of a journal say behind that of its zone.
-use Rattle.std.specs.Prelude.{ℕ, List, Option, Some, None, if◌then◌else◌}
+use Rattle.std.specs.Prelude.{ℕ, Bool, true, false, List, Option, Some, None, if◌then◌else◌}
 use Rattle.std.specs.Str.{is_utf8}
 use Rattle.answer_events.specs.Calls.{Call, call_of}
 use Rattle.answer_events.specs.Events.{added_by_call}
@@ -42,6 +42,14 @@ fields_line fields =
 -- a line behind that of the zone; None where it can't be read there
 abbrev pub state_line : List ℕ → Option StateLine
 state_line text = if is_passed_over text then Some Nothing else if is_utf8 text then fields_line (fields_of text) else None
+
+-- whether it is an event
+abbrev pub is_event : StateLine → Bool
+is_event Nothing = false
+is_event (Added r) = false
+is_event (Replaced at) = true
+is_event (Called at c) = true
+is_event Other = true
 
 -- what the code reads
 abbrev pub line_view : Line → StateLine

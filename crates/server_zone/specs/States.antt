@@ -99,14 +99,38 @@ Follows digest hash latest s (Called at c) (applied.Actions actions) t =
     (keys : ZoneKeys) × (apply (digests digest s) c at s.keys ≡ Ok (keys, actions.items)) × (t ≡ called keys s)
 Follows digest hash latest s _ _ t = ⊥
 
+-- want of memory alone
+abbrev pub IsMemory : Refusal → Type 0
+IsMemory refusal.Memory = Unit {0}
+IsMemory _ = ⊥
+
+abbrev pub RefusesRecord : State → Refusal → Type 0
+RefusesRecord s refusal.Memory = Unit {0}
+RefusesRecord s refusal.TooEarly = s.begun ≡ false
+RefusesRecord s _ = ⊥
+
+abbrev pub RefusesReplaced : Hasher → Option ℕ → State → ℕ → Refusal → Type 0
+RefusesReplaced hash latest s at refusal.Memory = Unit {0}
+RefusesReplaced hash latest s at (refusal.Replace f) = RefusesReplacement hash s.zone latest at s.gathered f
+RefusesReplaced hash latest s at _ = ⊥
+
+abbrev pub RefusesCall : Digest → State → ℕ → Call → Refusal → Type 0
+RefusesCall digest s at c refusal.Memory = Unit {0}
+RefusesCall digest s at c (refusal.Key f) = IsNamed f × Fails (RanOut c) (fault_of f) (apply (digests digest s) c at s.keys)
+RefusesCall digest s at c _ = ⊥
+
+abbrev pub RefusesOther : Refusal → Type 0
+RefusesOther refusal.Memory = Unit {0}
+RefusesOther refusal.NotOfState = Unit {0}
+RefusesOther _ = ⊥
+
 -- why a line that can be read is refused
 abbrev pub RefusesTo : Digest → Hasher → Option ℕ → State → StateLine → Refusal → Type 0
-RefusesTo digest hash latest s l refusal.Memory = Unit {0}
-RefusesTo digest hash latest s (Added r) refusal.TooEarly = s.begun ≡ false
-RefusesTo digest hash latest s (Replaced at) (refusal.Replace f) = RefusesReplacement hash s.zone latest at s.gathered f
-RefusesTo digest hash latest s (Called at c) (refusal.Key f) = IsNamed f × Fails (RanOut c) (fault_of f) (apply (digests digest s) c at s.keys)
-RefusesTo digest hash latest s Other refusal.NotOfState = Unit {0}
-RefusesTo digest hash latest s _ _ = ⊥
+RefusesTo digest hash latest s Nothing f = IsMemory f
+RefusesTo digest hash latest s (Added r) f = RefusesRecord s f
+RefusesTo digest hash latest s (Replaced at) f = RefusesReplaced hash latest s at f
+RefusesTo digest hash latest s (Called at c) f = RefusesCall digest s at c f
+RefusesTo digest hash latest s Other f = RefusesOther f
 
 -- what the line reads as has this
 abbrev pub OfLine : (StateLine → Type 0) → Option StateLine → Type 0

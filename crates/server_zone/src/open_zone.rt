@@ -13,7 +13,6 @@ use crate::lines::has_feed;
 use crate::records::copy_records;
 use crate::refusals::Refusal;
 use answer_events::event::KeyCall;
-use answer_publisher::fault::ReplaceFault;
 use answer_publisher::publishing::Publisher;
 use answer_scheme::scheme::Scheme;
 use denial_nsec3_hash::hasher::Nsec3Hasher;
@@ -161,9 +160,6 @@ impl<'a, S: Scheme, H: Nsec3Hasher> Zone<'a, S, H> {
             let digest = S.digest_of p.scheme.now in let hash = H.hash_of p.zone.hasher in
             IfErr result (RefusesTo digest hash p.latest (state_of self.old) (Replaced at.now)) }
     {
-        if let Some(fault) = self.publisher.refused_ahead(&self.gathered, at) {
-            return Err(Refusal::Replace(fault));
-        }
         let copies = copy_records(self.alloc, &self.gathered)?;
         self.publisher.replace_zone(copies, at)?;
         self.gathered = Vec::new(self.alloc);

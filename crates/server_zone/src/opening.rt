@@ -1,13 +1,13 @@
 //! Opening a zone from its journal.
-ghost use Rattle.std.specs.Prelude.{◌≡◌, ◌++◌, ◌≤◌, [], length, map, IfErr, IfOk, Some, take};
+ghost use Rattle.std.specs.Prelude.{◌≡◌, ◌++◌, ◌≤◌, is_empty, length, map, IfErr, IfOk, None, Some, take, true};
 ghost use Rattle.denialbench_session.specs.Grammar.{◌>>=◌};
 ghost use Rattle.messages.specs.HandedRr.{handed_of};
 ghost use Rattle.answer_zone_records.specs.Faults.{RefusesZone};
 ghost use Rattle.denialbench_session.specs.Readings.{zone_view};
-ghost use Rattle.server_zone.specs.Journals.{IsFresh, IsOpenError, IsOpening, RefusesBehind, RefusesBeginning, RefusesEnd, RefusesFirst, ended, first_line, is_settled, journal_state, own_line, phase_view, with_line};
+ghost use Rattle.server_zone.specs.Journals.{IsFresh, IsOpenError, IsOpening, IsSettledAt, RefusesBehind, RefusesBeginning, RefusesEnd, RefusesFirst, RefusesOwn, ended, first_line, is_settled, journal_state, own_line, phase_view, ran, with_line};
 ghost use Rattle.server_zone.specs.Lines.{unfinished};
-ghost use Rattle.server_zone.specs.StateLines.{state_line};
-ghost use Rattle.server_zone.specs.States.{made, state_of, ungathered};
+ghost use Rattle.server_zone.specs.StateLines.{added_in, is_event, line_view, state_line};
+ghost use Rattle.server_zone.specs.States.{RefusesLine, applied_line, made, state_of};
 
 use crate::line::{Line, read_line};
 use crate::lines::split_line;
@@ -32,8 +32,9 @@ pub struct Opened<'a, S: Scheme, H: Nsec3Hasher> {
     /// How many octets the lines have that end in a line feed. Behind them stands a line that is
     /// not finished, or nothing: it was not applied.
     pub whole: usize,
-    /// How many octets stand up to the last line behind which no records were gathered: a journal
-    /// that is cut here holds no half of a replacement.
+    /// How many octets stand up to the last line behind which no records were gathered. Where it is
+    /// less than `whole`, a replacement is half written, and a journal that is cut here is as it
+    /// was before, as long as nothing but the replacement stands behind.
     pub settled: usize,
 }
 
@@ -72,8 +73,9 @@ impl<'a, S: Scheme, H: Nsec3Hasher> Zone<'a, S, H> {
         ensures whole { let rest = unfinished journal.now in
             IfOk result (λ o. journal.now ≡ take o.whole journal.now ++ rest) }
         ensures settled { let digest = S.digest_of scheme.now in
-            let settled = λ n. journal_state digest (take n journal.now) in
-            IfOk result (λ o. settled o.settled ≡ Some (ungathered (state_of o.zone))) }
+            IfOk result (λ o. IsSettledAt digest journal.now o.settled) }
+        ensures all { IfOk result (λ o. is_empty o.zone.gathered.items ≡ true
+            → o.settled ≡ o.whole) }
         ensures inside { IfOk result (λ o. (o.settled ≤ o.whole) × (o.whole ≤ length journal.now)) }
         ensures err { let digest = S.digest_of scheme.now in let hash = H.hash_of hasher.now in
             IfErr result (IsOpenError digest hash journal.now) }
@@ -142,10 +144,7 @@ impl<'a, S: Scheme, H: Nsec3Hasher> Opener<'a, S, H> {
         match phase {
             Phase::Empty => self.read_first(line),
             Phase::Beginning(zone, records) => self.read_own(zone, records, line),
-            Phase::Running(mut zone) => {
-                zone.apply(line)?;
-                Ok(Phase::Running(zone))
-            }
+            Phase::Running(zone) => go_on(zone, line),
         }
     }
 
@@ -190,11 +189,34 @@ impl<'a, S: Scheme, H: Nsec3Hasher> Opener<'a, S, H> {
                 records.push(record)?;
                 Ok(Phase::Beginning(zone, records))
             }
-            event => {
-                let mut zone = self.made(zone, records)?;
-                zone.follow(event)?;
-                Ok(Phase::Running(zone))
-            }
+            Line::Replacement(at) => self.begin(zone, records, Line::Replacement(at)),
+            Line::Call(call, at) => self.begin(zone, records, Line::Call(call, at)),
+            Line::Other => self.begin(zone, records, Line::Other),
+        }
+    }
+
+    /// Applies the first event to the zone of its own records.
+    fn begin(
+        &self,
+        zone: ZoneLine,
+        records: Vec<ZoneRecord>,
+        event: Line,
+    ) -> Result<Phase<'a, S, H>, Refusal>
+        requires event { is_event (line_view event) ≡ true }
+        requires small { added_in event ≤ 65531 }
+        ensures ok { let z = zone_view zone in let rs = map handed_of records.items in
+            let with = own_line (S.digest_of self.now.scheme.now) z rs (line_view event) in
+            IfOk result (λ q. with ≡ Some (phase_view q)) }
+        ensures kept { IfOk result (IsOpening self.now.scheme.now self.now.hasher.now) }
+        ensures err { let z = zone_view zone in let rs = map handed_of records.items in
+            let digest = S.digest_of self.now.scheme.now in
+            let hash = H.hash_of self.now.hasher.now in
+            IfErr result (RefusesOwn digest hash z rs (line_view event)) }
+    {
+        let mut zone = self.made(zone, records)?;
+        match zone.follow(event) {
+            Ok(_) => Ok(Phase::Running(zone)),
+            Err(refusal) => Err(refusal),
         }
     }
 
@@ -234,5 +256,26 @@ impl<'a, S: Scheme, H: Nsec3Hasher> Opener<'a, S, H> {
             Phase::Beginning(zone, records) => Ok(self.made(zone, records)?),
             Phase::Running(zone) => Ok(zone),
         }
+    }
+}
+
+/// Applies a line more.
+fn go_on<'a, S: Scheme, H: Nsec3Hasher>(
+    mut zone: Zone<'a, S, H>,
+    line: &[u8],
+) -> Result<Phase<'a, S, H>, Refusal>
+    ensures ok { let z = zone.entry in
+        let with = applied_line (S.digest_of z.publisher.scheme.now) (state_of z) line.now in
+        IfOk result (λ q. ran with ≡ Some (phase_view q)) }
+    ensures kept { let z = zone.entry in
+        let opening = IsOpening z.publisher.scheme.now z.publisher.zone.hasher in
+        (z.publisher.latest ≡ None) → IfOk result opening }
+    ensures err { let z = zone.entry in let p = z.publisher in
+        let digest = S.digest_of p.scheme.now in let hash = H.hash_of p.zone.hasher in
+        IfErr result (RefusesLine digest hash p.latest (state_of z) line.now) }
+{
+    match zone.apply(line) {
+        Ok(_) => Ok(Phase::Running(zone)),
+        Err(refusal) => Err(refusal),
     }
 }

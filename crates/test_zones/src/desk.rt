@@ -119,10 +119,9 @@ impl Desk {
     /// Forgets the records that are gathered, and cuts their lines off the journal.
     fn forget(&mut self) -> Option<()> {
         let opened = Zone::open(self.alloc, &self.journal, &BenchScheme, &Sha1Hasher).ok()?;
-        self.journal.truncate(opened.settled);
-        while self.seen.last().is_some_and(|seen| seen.octets > opened.settled) {
-            self.seen.pop();
-        }
+        let settled = opened.settled;
+        self.journal.truncate(settled);
+        self.seen.retain(|seen| seen.octets <= settled);
         self.zone.as_mut()?.forget_gathered();
         Some(())
     }
@@ -150,7 +149,8 @@ impl Desk {
     fn wait(&mut self, rest: &str) -> Option<String> {
         let (begin, from) = rest.rsplit_once(' ')?;
         let first: u64 = from.parse().ok()?;
-        for second in first..first + 100_000 {
+        for step in 0..100_000 {
+            let second = first.checked_add(step)?;
             let line = format!(in self.alloc; "{begin} {second}").ok()?;
             if self.zone.as_mut()?.apply(line.as_bytes()).is_ok() {
                 return format!(in self.alloc; "{second}").ok();
@@ -187,14 +187,14 @@ impl Desk {
 
     /// Opens the journal cut at each octet behind the zone's own records.
     fn cuts(&mut self) -> Option<String> {
-        let own = self.seen.first()?.octets;
-        let mut seen = 0;
-        for octets in own..self.journal.len() + 1 {
-            if self.seen.get(seen + 1).is_some_and(|next| next.octets == octets) {
-                seen += 1;
-            }
-            if !self.is_as_seen(octets, self.seen.get(seen)?)? {
-                return format!(in self.alloc; "differs at {octets}").ok();
+        for place in 0..self.seen.len() {
+            let next = self.seen.get(place + 1).map(|seen| seen.octets);
+            let end = next.unwrap_or(self.journal.len() + 1);
+            let seen = self.seen.get(place)?;
+            for octets in seen.octets..end {
+                if !self.is_as_seen(octets, seen)? {
+                    return format!(in self.alloc; "differs at {octets}").ok();
+                }
             }
         }
         let count = self.journal.len();

@@ -1,0 +1,188 @@
+-- The loop that opens a journal.
+use Rattle.std.proofs.Common.{◌≡◌, ℕ, ◌+◌, ◌≤◌, ◌-◌, Bool, true, false, cond, List, [], ◌∷◌, ◌++◌, length, take, drop, refl, sym, ap, subst, ◌∙◌, arith, append_assoc, append-nil, length-append, Option, Some, None}
+use Rattle.std.specs.Prelude.{Ok, Err, is_empty}
+use Rattle.std.proofs.Math.Seq.{take-append_seam}
+use Rattle.messages.specs.HandedRr.{HandedRr}
+use Rattle.answer_publisher_keys.specs.Bindings.{Outcome, apply}
+use Rattle.answer_shared.specs.Hashing.{Hasher}
+use Rattle.denialbench_session.specs.Grammar.{◌>>=◌, ZoneLine, zone_line}
+use Rattle.denialbench_session.specs.Lines.{is_passed_over}
+use Rattle.denialbench_session.specs.Sessions.{fields_of}
+use Rattle.std.specs.Str.{is_utf8}
+use Rattle.server_zone.specs.Lines.{has_feed, unfinished, whole_lines}
+use Rattle.server_zone.specs.StateLines.{StateLine, Nothing, Added, Replaced, Called, Other, state_line}
+use Rattle.server_zone.specs.States.{Digest, State, after, applied_line, behind_call, digests, made}
+use Rattle.server_zone.specs.Journals.{IsOpenError, IsOpening, IsSettledAt, Phase, Empty, Beginning, Running, RefusesBehind, RefusesEnd, RefusesNext, ended, first_line, is_settled, is_there, journal_state, own_line, phase_view, with_line, with_lines}
+use Rattle.server_zone.specs.declared.opening.Phase.{Phase as CodePhase}
+use Rattle.server_zone.specs.declared.refusals.Refusal.{Refusal}
+use Rattle.server_zone.specs.declared.refusals.OpenError.{OpenError}
+use Rattle.server_zone.proofs.LineLemmas.{all_unfinished, ends_behind, line_behind, line_in_front, no_lines, unfinished_append, whole_append}
+use Rattle.server_zone.proofs.JournalLemmas.{accepted_line, bind_ok, bind_some, with_whole_line}
+
+-- what was read, and where no records were gathered last
+pub record Progress {S H : Type 0} (digest : Digest) (scheme : S) (hasher : H) (journal rest : List ℕ) (phase : CodePhase S H) (number settled : ℕ) : Type 0 where
+  pub front : List ℕ
+  pub text_is : journal ≡ front ++ rest
+  pub whole : unfinished front ≡ []
+  pub accepted : with_lines digest Empty (whole_lines front) ≡ Some (phase_view phase)
+  pub kept : IsOpening scheme hasher phase
+  pub number_is : number ≡ length (whole_lines front)
+  pub counted : number + length rest ≤ length journal
+  pub settled_in : settled + length rest ≤ length journal
+  pub last : Phase
+  pub last_accepted : with_lines digest Empty (whole_lines (take settled journal)) ≡ Some last
+  pub last_settled : is_settled last ≡ true
+  pub last_there : is_there (phase_view phase) ≡ true → is_there last ≡ true
+  pub all_settled : is_settled (phase_view phase) ≡ true → settled + length rest ≡ length journal
+
+-- ---- a line behind which records are gathered stands behind that of the zone
+
+first_settled : (line : List ℕ) (q : Phase) → first_line line ≡ Some q → is_settled q ≡ true
+first_settled line q e = passed (is_passed_over line) (is_utf8 line) e where
+  begun : (z : Option ZoneLine) → (z >>= λ w. Some (Beginning w [])) ≡ Some q → is_settled q ≡ true
+  begun (Some w) h = let is : Beginning w [] ≡ q = cc in ap is_settled (sym is)
+  begun None h = absurd (cc)
+  passed : (b u : Bool) → cond b (Some Empty) (cond u (zone_line (fields_of line) >>= λ w. Some (Beginning w [])) None) ≡ Some q → is_settled q ≡ true
+  passed true u h = let is : Empty ≡ q = cc in ap is_settled (sym is)
+  passed false true h = begun (zone_line (fields_of line)) h
+  passed false false h = absurd (cc)
+
+pub gathers_behind : (digest : Digest) (p q : Phase) (line : List ℕ) → with_line digest p line ≡ Some q → is_settled q ≡ false → is_there p ≡ true
+gathers_behind digest Empty q line e n = let s = first_settled line q e in absurd (cc)
+gathers_behind digest (Beginning z rs) q line e n = refl
+gathers_behind digest (Running s) q line e n = refl
+
+keeps_there : (digest : Digest) (p q : Phase) (line : List ℕ) → with_line digest p line ≡ Some q → is_settled q ≡ false → is_there q ≡ true
+keeps_there digest p Empty line e n = absurd (cc)
+keeps_there digest p (Beginning z rs) line e n = refl
+keeps_there digest p (Running s) line e n = refl
+
+-- ---- a line more
+
+regroup : (front line behind : List ℕ) → front ++ (line ++ 10 ∷ behind) ≡ (front ++ line ++ 10 ∷ []) ++ behind
+regroup front line behind = sym (append_assoc (front ++ line) (10 ∷ []) behind ∙ append_assoc front line (10 ∷ behind))
+
+cut_front : (journal front behind : List ℕ) (n : ℕ) → journal ≡ front ++ behind → n + length behind ≡ length journal → take n journal ≡ front
+cut_front journal front behind n e h =
+    let size : n ≡ length front = omega (arith, ap length e, length-append front behind) in
+    (λ i. take (size i) (e i)) ∙ take-append_seam front behind
+
+module _ {S H : Type 0} (digest : Digest) (scheme : S) (hasher : H) (journal rest line behind : List ℕ) (phase q : CodePhase S H) (number settled : ℕ)
+    (p : Progress digest scheme hasher journal rest phase number settled) (cut : rest ≡ line ++ 10 ∷ behind) (feedless : has_feed line ≡ false)
+    (goes : with_line digest (phase_view phase) line ≡ Some (phase_view q)) (kept : IsOpening scheme hasher q) where
+  next_front : List ℕ
+  next_front = p.front ++ line ++ 10 ∷ []
+
+  next_text : journal ≡ next_front ++ behind
+  unfolding next_front
+  next_text = p.text_is ∙ ap (λ xs. p.front ++ xs) cut ∙ regroup p.front line behind
+
+  next_accepted : with_lines digest Empty (whole_lines next_front) ≡ Some (phase_view q)
+  unfolding next_front
+  next_accepted = with_whole_line digest (phase_view phase) (phase_view q) p.front line p.whole feedless p.accepted goes
+
+  next_number : number + 1 ≡ length (whole_lines next_front)
+  unfolding next_front
+  next_number = omega (arith, p.number_is, ap length (line_behind p.front line p.whole feedless), length-append (whole_lines p.front) (line ∷ []))
+
+  shorter : length rest ≡ length line + 1 + length behind
+  shorter = omega (arith, ap length cut, length-append line (10 ∷ behind))
+
+  pub progress_settled : (n : ℕ) → n + length behind ≡ length journal → is_settled (phase_view q) ≡ true → Progress digest scheme hasher journal behind q (number + 1) n
+  unfolding next_front
+  progress_settled n h s = record {
+    front = next_front;
+    text_is = next_text;
+    whole = ends_behind p.front line p.whole;
+    accepted = next_accepted;
+    kept = kept;
+    number_is = next_number;
+    counted = omega (arith, p.counted, shorter);
+    settled_in = omega (arith, h);
+    last = phase_view q;
+    last_accepted = ap (λ xs. with_lines digest Empty (whole_lines xs)) (cut_front journal next_front behind n next_text h) ∙ next_accepted;
+    last_settled = s;
+    last_there = λ t. t;
+    all_settled = λ _. h;
+  }
+
+  pub progress_gathering : is_settled (phase_view q) ≡ false → Progress digest scheme hasher journal behind q (number + 1) settled
+  unfolding next_front
+  progress_gathering s = record {
+    front = next_front;
+    text_is = next_text;
+    whole = ends_behind p.front line p.whole;
+    accepted = next_accepted;
+    kept = kept;
+    number_is = next_number;
+    counted = omega (arith, p.counted, shorter);
+    settled_in = omega (arith, p.settled_in, shorter);
+    last = p.last;
+    last_accepted = p.last_accepted;
+    last_settled = p.last_settled;
+    last_there = λ _. p.last_there (gathers_behind digest (phase_view phase) (phase_view q) line goes s);
+    all_settled = λ t. absurd (cc (t, s));
+  }
+
+-- a line that is refused
+pub open_refused : {S H : Type 0} (digest : Digest) (hash : Hasher) (scheme : S) (hasher : H) (journal rest line behind : List ℕ) (phase : CodePhase S H) (number settled : ℕ) (reason : Refusal)
+    → Progress digest scheme hasher journal rest phase number settled → rest ≡ line ++ 10 ∷ behind → has_feed line ≡ false → RefusesBehind digest hash (phase_view phase) line reason
+    → IsOpenError digest hash journal (record { number = number + 1; reason = reason })
+open_refused digest hash scheme hasher journal rest line behind phase number settled reason p cut feedless refused = record {
+  front = p.front;
+  rest = rest;
+  phase = phase_view phase;
+  text_is = p.text_is;
+  whole = p.whole;
+  accepted = p.accepted;
+  number = ap (λ n. n + 1) p.number_is;
+  refused = subst (λ ls. next_of ls) (sym (ap whole_lines cut ∙ line_in_front line behind feedless)) refused;
+} where
+  next_of : List (List ℕ) → Type 0
+  next_of [] = RefusesEnd hash (phase_view phase) reason
+  next_of (l ∷ ls) = RefusesBehind digest hash (phase_view phase) l reason
+
+-- no zone at the end
+pub end_refused : {S H : Type 0} (digest : Digest) (hash : Hasher) (scheme : S) (hasher : H) (journal rest : List ℕ) (phase : CodePhase S H) (number settled : ℕ) (reason : Refusal)
+    → Progress digest scheme hasher journal rest phase number settled → has_feed rest ≡ false → RefusesEnd hash (phase_view phase) reason
+    → IsOpenError digest hash journal (record { number = number + 1; reason = reason })
+end_refused digest hash scheme hasher journal rest phase number settled reason p feedless refused = record {
+  front = p.front;
+  rest = rest;
+  phase = phase_view phase;
+  text_is = p.text_is;
+  whole = p.whole;
+  accepted = p.accepted;
+  number = ap (λ n. n + 1) p.number_is;
+  refused = subst (λ ls. next_of ls) (sym (no_lines rest feedless)) refused;
+} where
+  next_of : List (List ℕ) → Type 0
+  next_of [] = RefusesEnd hash (phase_view phase) reason
+  next_of (l ∷ ls) = RefusesBehind digest hash (phase_view phase) l reason
+
+-- ---- the end of the lines
+
+module _ {S H : Type 0} (digest : Digest) (scheme : S) (hasher : H) (journal rest : List ℕ) (phase : CodePhase S H) (number settled : ℕ)
+    (p : Progress digest scheme hasher journal rest phase number settled) (feedless : has_feed rest ≡ false) where
+  end_lines : whole_lines journal ≡ whole_lines p.front
+  end_lines =
+      ap whole_lines p.text_is ∙ whole_append p.front rest p.whole ∙ ap (λ ls. whole_lines p.front ++ ls) (no_lines rest feedless) ∙ append-nil (whole_lines p.front)
+
+  pub end_state : (s : State) → ended (phase_view phase) ≡ Some s → journal_state digest journal ≡ Some s
+  end_state s e = bind_some (with_lines digest Empty (whole_lines journal)) ended (phase_view phase) (ap (with_lines digest Empty) end_lines ∙ p.accepted) ∙ e
+
+  pub end_whole : (n : ℕ) → n + length rest ≡ length journal → journal ≡ take n journal ++ unfinished journal
+  end_whole n h =
+      let is : unfinished journal ≡ rest = ap unfinished p.text_is ∙ unfinished_append p.front rest p.whole ∙ all_unfinished rest feedless in
+      p.text_is ∙ (λ i. cut_front journal p.front rest n p.text_is h (~ i) ++ is (~ i))
+
+  settled_end : (q : Phase) → with_lines digest Empty (whole_lines (take settled journal)) ≡ Some q → is_settled q ≡ true → is_there q ≡ true → IsSettledAt digest journal settled
+  settled_end Empty e s t = absurd (cc)
+  settled_end (Beginning z rs) e s t = (made z rs, bind_some (with_lines digest Empty (whole_lines (take settled journal))) ended (Beginning z rs) e, refl)
+  settled_end (Running r) e s t = (r, bind_some (with_lines digest Empty (whole_lines (take settled journal))) ended (Running r) e, none r.gathered s) where
+    none : (rs : List HandedRr) → is_empty rs ≡ true → rs ≡ []
+    none [] h = refl
+    none (x ∷ xs) h = absurd (cc)
+
+  pub end_settled : is_there (phase_view phase) ≡ true → IsSettledAt digest journal settled
+  end_settled t = settled_end p.last p.last_accepted p.last_settled (p.last_there t)

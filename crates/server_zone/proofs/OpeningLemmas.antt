@@ -1,0 +1,43 @@
+-- A zone while it is opened.
+use Rattle.std.proofs.Common.{◌≡◌, ℕ, ◌+◌, ◌≤◌, ◌-◌, Bool, true, false, List, [], ◌∷◌, ◌++◌, length, take, drop, refl, sym, ap, subst, ◌∙◌, arith, append_assoc, length-append, Option, Some, None}
+use Rattle.messages.specs.HandedRr.{HandedRr}
+use Rattle.answer_shared.specs.Hashing.{Hasher}
+use Rattle.answer_publisher.specs.declared.publishing.Publisher.{Publisher}
+use Rattle.denialbench_session.specs.Grammar.{ZoneLine}
+use Rattle.server_zone.specs.Lines.{has_feed, unfinished, whole_lines}
+use Rattle.server_zone.specs.StateLines.{StateLine, is_event, state_line}
+use Rattle.server_zone.specs.States.{Digest, Follows, IsRestKept, RefusesLine, RefusesTo, State, after, applied_line, made, state_of, ungathered}
+use Rattle.server_zone.specs.Journals.{IsFresh, Phase, Empty, Beginning, Running, RefusesOwn, ended, own_line, with_line, with_lines}
+use Rattle.server_zone.specs.declared.open_zone.Applied.{Applied}
+use Rattle.server_zone.specs.declared.open_zone.Zone.{Zone}
+use Rattle.server_zone.specs.declared.refusals.Refusal.{Refusal}
+use Rattle.server_zone.proofs.StateLemmas.{follows_after}
+use Rattle.server_zone.proofs.JournalLemmas.{own_event, own_refused}
+
+pub begun : (digest digest' : Digest) (hash : Hasher) (latest : Option ℕ) (z : ZoneLine) (rs : List HandedRr) (l : StateLine) (s t : State) (a : Applied) → digest' ≡ digest → s ≡ made z rs → is_event l ≡ true → Follows digest' hash latest s l a t → own_line digest z rs l ≡ Some (Running t)
+begun digest digest' hash latest z rs l s t a d is e h =
+    own_event digest z rs l t e (sym (λ i. after (d i) l (is i)) ∙ follows_after digest' hash latest s t l a h)
+
+pub refused_as : (digest digest' : Digest) (hash hash' : Hasher) (latest latest' : Option ℕ) (s s' : State) (l : StateLine) (f : Refusal) → digest' ≡ digest → hash' ≡ hash → latest' ≡ latest → s' ≡ s → RefusesTo digest' hash' latest' s' l f → RefusesTo digest hash latest s l f
+refused_as digest digest' hash hash' latest latest' s s' l f d k n is h =
+    subst (λ u. RefusesTo digest hash latest u l f) is
+    (subst (λ u. RefusesTo digest hash u s' l f) n
+    (subst (λ u. RefusesTo digest u latest' s' l f) k
+    (subst (λ u. RefusesTo u hash' latest' s' l f) d h)))
+
+pub begun_refused : (digest digest' : Digest) (hash hash' : Hasher) (latest : Option ℕ) (z : ZoneLine) (rs : List HandedRr) (l : StateLine) (s : State) (f : Refusal) → digest' ≡ digest → hash' ≡ hash → latest ≡ None → s ≡ made z rs → RefusesTo digest' hash' latest s l f → RefusesOwn digest hash z rs l f
+begun_refused digest digest' hash hash' latest z rs l s f d k n is h =
+    own_refused digest hash z rs l f (refused_as digest digest' hash hash' None latest (made z rs) s l f d k n is h)
+
+pub line_refused_as : (digest digest' : Digest) (hash hash' : Hasher) (latest latest' : Option ℕ) (s : State) (line : List ℕ) (f : Refusal) → digest' ≡ digest → hash' ≡ hash → latest' ≡ latest → RefusesLine digest' hash' latest' s line f → RefusesLine digest hash latest s line f
+line_refused_as digest digest' hash hash' latest latest' s line f d k n h =
+    subst (λ u. RefusesLine digest hash u s line f) n
+    (subst (λ u. RefusesLine digest u latest' s line f) k
+    (subst (λ u. RefusesLine u hash' latest' s line f) d h))
+
+pub fresh_after : {S H : Type 0} (scheme : S) (hasher : H) (old new : Zone S H) → IsRestKept old.publisher new.publisher → IsFresh scheme hasher old → IsFresh scheme hasher new
+fresh_after scheme hasher old new rest f = record {
+  scheme_is = ap (λ p. p.scheme.now) rest ∙ f.scheme_is;
+  hasher_is = ap (λ p. p.zone.hasher) rest ∙ f.hasher_is;
+  unanswered = ap (λ p. p.latest) rest ∙ f.unanswered;
+}
