@@ -75,7 +75,7 @@ impl<'a, S: Scheme, H: Nsec3Hasher> Zone<'a, S, H> {
         ensures state { state_of self.new ≡ ungathered (state_of self.old) }
         ensures rest { self.new.publisher ≡ self.old.publisher }
     {
-        self.gathered = Vec::new(self.alloc);
+        self.gathered.clear();
     }
 
     /// Applies a line, without its line feed: a record for the next replacement, a replacement, a

@@ -1,0 +1,39 @@
+use Rattle.std.proofs.Common.{ap, subst, sym, ◌∙◌}
+use Rattle.std.specs.Prelude.{IfErr}
+use Rattle.std.proofs.lemmas.Result.{IfOk-weaker}
+use Rattle.answer_publisher.proofs.Refusals.{if_err_map}
+use Rattle.server_zone.specs.Journals.{IsFresh, IsOpening, RefusesBehind, phase_view, ran, with_line}
+use Rattle.server_zone.specs.States.{RefusesLine, applied_line, state_of}
+use Rattle.server_zone.proofs.OpeningLemmas.{line_refused_as}
+use Rattle.server_zone.proofs.opening.Opener.read.Goals as goal
+
+pub returns-in-Running-clause-ok : goal.returns-in-Running-clause-ok
+returns-in-Running-clause-ok g c =
+    let scheme = c.args.self.now.scheme.now in
+    let digest = g.S.Scheme.digest_of scheme in
+    let line = c.args.line.now in
+    let z = c.in-Running.zone in
+    let fresh : IsFresh scheme c.args.self.now.hasher.now z = subst (IsOpening scheme c.args.self.now.hasher.now) c.in-Running.is c.requires in
+    let same = ap (λ u. ran (applied_line (g.S.Scheme.digest_of u) (state_of z) line)) fresh.scheme_is in
+    IfOk-weaker c.go_on.result _ _ (λ q e. ap (λ p. with_line digest (phase_view p) line) c.in-Running.is ∙ sym same ∙ e) c.go_on.ensures.ok
+
+pub returns-in-Running-clause-kept : goal.returns-in-Running-clause-kept
+returns-in-Running-clause-kept g c =
+    let scheme = c.args.self.now.scheme.now in
+    let hasher = c.args.self.now.hasher.now in
+    let z = c.in-Running.zone in
+    let fresh : IsFresh scheme hasher z = subst (IsOpening scheme hasher) c.in-Running.is c.requires in
+    IfOk-weaker c.go_on.result _ _ (λ q h. subst (λ u. IsOpening scheme u q) fresh.hasher_is (subst (λ u. IsOpening u z.publisher.zone.hasher q) fresh.scheme_is h)) (c.go_on.ensures.kept fresh.unanswered)
+
+pub returns-in-Running-clause-err : goal.returns-in-Running-clause-err
+returns-in-Running-clause-err g c =
+    let scheme = c.args.self.now.scheme.now in
+    let hasher = c.args.self.now.hasher.now in
+    let digest = g.S.Scheme.digest_of scheme in
+    let hash = g.H.Nsec3Hasher.hash_of hasher in
+    let line = c.args.line.now in
+    let z = c.in-Running.zone in
+    let fresh : IsFresh scheme hasher z = subst (IsOpening scheme hasher) c.in-Running.is c.requires in
+    if_err_map _ (λ f. RefusesBehind digest hash (phase_view c.args.phase) line f) c.go_on.result
+    (λ f h. subst (λ p. RefusesBehind digest hash (phase_view p) line f) (sym c.in-Running.is) (line_refused_as digest _ hash _ _ _ (state_of z) line f (ap g.S.Scheme.digest_of fresh.scheme_is) (ap g.H.Nsec3Hasher.hash_of fresh.hasher_is) fresh.unanswered h))
+    c.go_on.ensures.err
