@@ -12,28 +12,12 @@ use Rattle.std.specs.Str.{is_utf8}
 use Rattle.server_zone.specs.Lines.{has_feed, unfinished, whole_lines}
 use Rattle.server_zone.specs.StateLines.{StateLine, Nothing, Added, Replaced, Called, Other, state_line}
 use Rattle.server_zone.specs.States.{Digest, State, after, applied_line, behind_call, digests, made}
-use Rattle.server_zone.specs.Journals.{IsOpenError, IsOpening, IsSettledAt, Phase, Empty, Beginning, Running, RefusesBehind, RefusesEnd, RefusesNext, ended, first_line, is_settled, is_there, journal_state, own_line, phase_view, with_line, with_lines}
+use Rattle.server_zone.specs.Journals.{HasRead, IsOpenError, IsOpening, IsSettledAt, Phase, Empty, Beginning, Running, RefusesBehind, RefusesEnd, RefusesLines, ended, first_line, is_settled, is_there, journal_state, own_line, phase_view, with_line, with_lines}
 use Rattle.server_zone.specs.declared.opening.Phase.{Phase as CodePhase}
 use Rattle.server_zone.specs.declared.refusals.Refusal.{Refusal}
 use Rattle.server_zone.specs.declared.refusals.OpenError.{OpenError}
 use Rattle.server_zone.proofs.LineLemmas.{all_unfinished, ends_behind, line_behind, line_in_front, no_lines, unfinished_append, whole_append}
 use Rattle.server_zone.proofs.JournalLemmas.{accepted_line, bind_ok, bind_some, with_whole_line}
-
--- what was read, and where no records were gathered last
-pub record Progress {S H : Type 0} (digest : Digest) (scheme : S) (hasher : H) (journal rest : List ℕ) (phase : CodePhase S H) (number settled : ℕ) : Type 0 where
-  pub front : List ℕ
-  pub text_is : journal ≡ front ++ rest
-  pub whole : unfinished front ≡ []
-  pub accepted : with_lines digest Empty (whole_lines front) ≡ Some (phase_view phase)
-  pub kept : IsOpening scheme hasher phase
-  pub number_is : number ≡ length (whole_lines front)
-  pub counted : number + length rest ≤ length journal
-  pub settled_in : settled + length rest ≤ length journal
-  pub last : Phase
-  pub last_accepted : with_lines digest Empty (whole_lines (take settled journal)) ≡ Some last
-  pub last_settled : is_settled last ≡ true
-  pub last_there : is_there (phase_view phase) ≡ true → is_there last ≡ true
-  pub all_settled : is_settled (phase_view phase) ≡ true → settled + length rest ≡ length journal
 
 -- ---- a line behind which records are gathered stands behind that of the zone
 
@@ -52,11 +36,6 @@ gathers_behind digest Empty q line e n = let s = first_settled line q e in absur
 gathers_behind digest (Beginning z rs) q line e n = refl
 gathers_behind digest (Running s) q line e n = refl
 
-keeps_there : (digest : Digest) (p q : Phase) (line : List ℕ) → with_line digest p line ≡ Some q → is_settled q ≡ false → is_there q ≡ true
-keeps_there digest p Empty line e n = absurd (cc)
-keeps_there digest p (Beginning z rs) line e n = refl
-keeps_there digest p (Running s) line e n = refl
-
 -- ---- a line more
 
 regroup : (front line behind : List ℕ) → front ++ (line ++ 10 ∷ behind) ≡ (front ++ line ++ 10 ∷ []) ++ behind
@@ -68,7 +47,7 @@ cut_front journal front behind n e h =
     (λ i. take (size i) (e i)) ∙ take-append_seam front behind
 
 module _ {S H : Type 0} (digest : Digest) (scheme : S) (hasher : H) (journal rest line behind : List ℕ) (phase q : CodePhase S H) (number settled : ℕ)
-    (p : Progress digest scheme hasher journal rest phase number settled) (cut : rest ≡ line ++ 10 ∷ behind) (feedless : has_feed line ≡ false)
+    (p : HasRead digest scheme hasher journal rest phase number settled) (cut : rest ≡ line ++ 10 ∷ behind) (feedless : has_feed line ≡ false)
     (goes : with_line digest (phase_view phase) line ≡ Some (phase_view q)) (kept : IsOpening scheme hasher q) where
   next_front : List ℕ
   next_front = p.front ++ line ++ 10 ∷ []
@@ -88,7 +67,7 @@ module _ {S H : Type 0} (digest : Digest) (scheme : S) (hasher : H) (journal res
   shorter : length rest ≡ length line + 1 + length behind
   shorter = omega (arith, ap length cut, length-append line (10 ∷ behind))
 
-  pub progress_settled : (n : ℕ) → n + length behind ≡ length journal → is_settled (phase_view q) ≡ true → Progress digest scheme hasher journal behind q (number + 1) n
+  pub progress_settled : (n : ℕ) → n + length behind ≡ length journal → is_settled (phase_view q) ≡ true → HasRead digest scheme hasher journal behind q (number + 1) n
   unfolding next_front
   progress_settled n h s = record {
     front = next_front;
@@ -106,7 +85,7 @@ module _ {S H : Type 0} (digest : Digest) (scheme : S) (hasher : H) (journal res
     all_settled = λ _. h;
   }
 
-  pub progress_gathering : is_settled (phase_view q) ≡ false → Progress digest scheme hasher journal behind q (number + 1) settled
+  pub progress_gathering : is_settled (phase_view q) ≡ false → HasRead digest scheme hasher journal behind q (number + 1) settled
   unfolding next_front
   progress_gathering s = record {
     front = next_front;
@@ -121,12 +100,12 @@ module _ {S H : Type 0} (digest : Digest) (scheme : S) (hasher : H) (journal res
     last_accepted = p.last_accepted;
     last_settled = p.last_settled;
     last_there = λ _. p.last_there (gathers_behind digest (phase_view phase) (phase_view q) line goes s);
-    all_settled = λ t. absurd (cc (t, s));
+    all_settled = λ t. absurd (cc);
   }
 
 -- a line that is refused
 pub open_refused : {S H : Type 0} (digest : Digest) (hash : Hasher) (scheme : S) (hasher : H) (journal rest line behind : List ℕ) (phase : CodePhase S H) (number settled : ℕ) (reason : Refusal)
-    → Progress digest scheme hasher journal rest phase number settled → rest ≡ line ++ 10 ∷ behind → has_feed line ≡ false → RefusesBehind digest hash (phase_view phase) line reason
+    → HasRead digest scheme hasher journal rest phase number settled → rest ≡ line ++ 10 ∷ behind → has_feed line ≡ false → RefusesBehind digest hash (phase_view phase) line reason
     → IsOpenError digest hash journal (record { number = number + 1; reason = reason })
 open_refused digest hash scheme hasher journal rest line behind phase number settled reason p cut feedless refused = record {
   front = p.front;
@@ -136,15 +115,12 @@ open_refused digest hash scheme hasher journal rest line behind phase number set
   whole = p.whole;
   accepted = p.accepted;
   number = ap (λ n. n + 1) p.number_is;
-  refused = subst (λ ls. next_of ls) (sym (ap whole_lines cut ∙ line_in_front line behind feedless)) refused;
-} where
-  next_of : List (List ℕ) → Type 0
-  next_of [] = RefusesEnd hash (phase_view phase) reason
-  next_of (l ∷ ls) = RefusesBehind digest hash (phase_view phase) l reason
+  refused = subst (RefusesLines digest hash (phase_view phase) reason) (sym (ap whole_lines cut ∙ line_in_front line behind feedless)) refused;
+}
 
 -- no zone at the end
 pub end_refused : {S H : Type 0} (digest : Digest) (hash : Hasher) (scheme : S) (hasher : H) (journal rest : List ℕ) (phase : CodePhase S H) (number settled : ℕ) (reason : Refusal)
-    → Progress digest scheme hasher journal rest phase number settled → has_feed rest ≡ false → RefusesEnd hash (phase_view phase) reason
+    → HasRead digest scheme hasher journal rest phase number settled → has_feed rest ≡ false → RefusesEnd hash (phase_view phase) reason
     → IsOpenError digest hash journal (record { number = number + 1; reason = reason })
 end_refused digest hash scheme hasher journal rest phase number settled reason p feedless refused = record {
   front = p.front;
@@ -154,16 +130,13 @@ end_refused digest hash scheme hasher journal rest phase number settled reason p
   whole = p.whole;
   accepted = p.accepted;
   number = ap (λ n. n + 1) p.number_is;
-  refused = subst (λ ls. next_of ls) (sym (no_lines rest feedless)) refused;
-} where
-  next_of : List (List ℕ) → Type 0
-  next_of [] = RefusesEnd hash (phase_view phase) reason
-  next_of (l ∷ ls) = RefusesBehind digest hash (phase_view phase) l reason
+  refused = subst (RefusesLines digest hash (phase_view phase) reason) (sym (no_lines rest feedless)) refused;
+}
 
 -- ---- the end of the lines
 
 module _ {S H : Type 0} (digest : Digest) (scheme : S) (hasher : H) (journal rest : List ℕ) (phase : CodePhase S H) (number settled : ℕ)
-    (p : Progress digest scheme hasher journal rest phase number settled) (feedless : has_feed rest ≡ false) where
+    (p : HasRead digest scheme hasher journal rest phase number settled) (feedless : has_feed rest ≡ false) where
   end_lines : whole_lines journal ≡ whole_lines p.front
   end_lines =
       ap whole_lines p.text_is ∙ whole_append p.front rest p.whole ∙ ap (λ ls. whole_lines p.front ++ ls) (no_lines rest feedless) ∙ append-nil (whole_lines p.front)
@@ -174,7 +147,7 @@ module _ {S H : Type 0} (digest : Digest) (scheme : S) (hasher : H) (journal res
   pub end_whole : (n : ℕ) → n + length rest ≡ length journal → journal ≡ take n journal ++ unfinished journal
   end_whole n h =
       let is : unfinished journal ≡ rest = ap unfinished p.text_is ∙ unfinished_append p.front rest p.whole ∙ all_unfinished rest feedless in
-      p.text_is ∙ (λ i. cut_front journal p.front rest n p.text_is h (~ i) ++ is (~ i))
+      p.text_is ∙ sym (λ i. cut_front journal p.front rest n p.text_is h i ++ is i)
 
   settled_end : (q : Phase) → with_lines digest Empty (whole_lines (take settled journal)) ≡ Some q → is_settled q ≡ true → is_there q ≡ true → IsSettledAt digest journal settled
   settled_end Empty e s t = absurd (cc)

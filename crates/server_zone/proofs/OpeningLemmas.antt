@@ -37,7 +37,7 @@ line_refused_as digest digest' hash hash' latest latest' s line f d k n h =
 
 pub fresh_after : {S H : Type 0} (scheme : S) (hasher : H) (old new : Zone S H) → IsRestKept old.publisher new.publisher → IsFresh scheme hasher old → IsFresh scheme hasher new
 fresh_after scheme hasher old new rest f = record {
-  scheme_is = ap (λ p. p.scheme.now) rest ∙ f.scheme_is;
-  hasher_is = ap (λ p. p.zone.hasher) rest ∙ f.hasher_is;
-  unanswered = ap (λ p. p.latest) rest ∙ f.unanswered;
+  scheme_is = ap (λ (p : Publisher S H). p.scheme.now) rest ∙ f.scheme_is;
+  hasher_is = ap (λ (p : Publisher S H). p.zone.hasher) rest ∙ f.hasher_is;
+  unanswered = ap (λ (p : Publisher S H). p.latest) rest ∙ f.unanswered;
 }

@@ -1,5 +1,5 @@
 -- Journals: the state that lines give, and why a journal is not opened.
-use Rattle.std.specs.Prelude.{◌≡◌, ℕ, ◌+◌, Bool, true, false, List, [], ◌∷◌, ◌++◌, length, is_empty, take, map, Option, Some, None, if◌then◌else◌}
+use Rattle.std.specs.Prelude.{◌≡◌, ℕ, ◌+◌, ◌≤◌, Bool, true, false, List, [], ◌∷◌, ◌++◌, length, is_empty, take, map, Option, Some, None, if◌then◌else◌}
 use Rattle.std.specs.Str.{is_utf8}
 use Rattle.messages.specs.HandedRr.{HandedRr, handed_of}
 use Rattle.answer_shared.specs.Hashing.{Hasher}
@@ -94,6 +94,23 @@ is_there (Running s) = true
 abbrev pub IsSettledAt : Digest → List ℕ → ℕ → Type 0
 IsSettledAt digest text at = (s : State) × (journal_state digest (take at text) ≡ Some s) × (s.gathered ≡ [])
 
+-- A front of a journal was read, so many lines, up to a phase; the phase at an octet in it was the last in which no records were
+-- gathered.
+pub record HasRead {S H : Type 0} (digest : Digest) (scheme : S) (hasher : H) (journal rest : List ℕ) (phase : CodePhase S H) (number settled : ℕ) : Type 0 where
+  pub front : List ℕ
+  pub text_is : journal ≡ front ++ rest
+  pub whole : unfinished front ≡ []
+  pub accepted : with_lines digest Empty (whole_lines front) ≡ Some (phase_view phase)
+  pub kept : IsOpening scheme hasher phase
+  pub number_is : number ≡ length (whole_lines front)
+  pub counted : number + length rest ≤ length journal
+  pub settled_in : settled + length rest ≤ length journal
+  pub last : Phase
+  pub last_accepted : with_lines digest Empty (whole_lines (take settled journal)) ≡ Some last
+  pub last_settled : is_settled last ≡ true
+  pub last_there : is_there (phase_view phase) ≡ true → is_there last ≡ true
+  pub all_settled : is_settled (phase_view phase) ≡ true → settled + length rest ≡ length journal
+
 -- ---- why a journal is not opened
 
 -- why a line is refused where no zone's line stands
@@ -125,9 +142,10 @@ RefusesEnd hash Empty (refusal.Unreadable NoZone) = Unit {0}
 RefusesEnd hash (Beginning z rs) (refusal.Zone f) = RefusesZone hash z.apex z.mode z.limit rs f
 RefusesEnd hash p f = ⊥
 
--- why nothing follows: the first whole line of the rest is refused, or there is none, and no zone
-abbrev pub RefusesNext : Digest → Hasher → Phase → List ℕ → Refusal → Type 0
-RefusesNext digest hash p rest f = elim (whole_lines rest) [ [] ↦ RefusesEnd hash p f | line ∷ lines ↦ RefusesBehind digest hash p line f ]
+-- why nothing follows: the first of the lines is refused, or there is none, and no zone
+abbrev pub RefusesLines : Digest → Hasher → Phase → Refusal → List (List ℕ) → Type 0
+RefusesLines digest hash p f [] = RefusesEnd hash p f
+RefusesLines digest hash p f (line ∷ lines) = RefusesBehind digest hash p line f
 
 -- The lines up to some front of a journal are accepted. Behind it a whole line is refused, or there is none.
 pub record IsOpenError (digest : Digest) (hash : Hasher) (text : List ℕ) (e : OpenError) : Type 0 where
@@ -138,4 +156,4 @@ pub record IsOpenError (digest : Digest) (hash : Hasher) (text : List ℕ) (e : 
   pub whole : unfinished front ≡ []
   pub accepted : with_lines digest Empty (whole_lines front) ≡ Some phase
   pub number : e.number ≡ length (whole_lines front) + 1
-  pub refused : RefusesNext digest hash phase rest e.reason
+  pub refused : RefusesLines digest hash phase e.reason (whole_lines rest)

@@ -1,11 +1,11 @@
 //! Opening a zone from its journal.
-ghost use Rattle.std.specs.Prelude.{◌≡◌, ◌++◌, ◌≤◌, is_empty, length, map, IfErr, IfOk, None, Some, take, true};
+ghost use Rattle.std.specs.Prelude.{◌≡◌, ◌++◌, ◌≤◌, is_empty, length, map, IfErr, IfOk, None, Some, false, take, true};
 ghost use Rattle.denialbench_session.specs.Grammar.{◌>>=◌};
 ghost use Rattle.messages.specs.HandedRr.{handed_of};
 ghost use Rattle.answer_zone_records.specs.Faults.{RefusesZone};
 ghost use Rattle.denialbench_session.specs.Readings.{zone_view};
-ghost use Rattle.server_zone.specs.Journals.{IsFresh, IsOpenError, IsOpening, IsSettledAt, RefusesBehind, RefusesBeginning, RefusesEnd, RefusesFirst, RefusesOwn, ended, first_line, is_settled, journal_state, own_line, phase_view, ran, with_line};
-ghost use Rattle.server_zone.specs.Lines.{unfinished};
+ghost use Rattle.server_zone.specs.Journals.{HasRead, IsFresh, IsOpenError, IsOpening, IsSettledAt, RefusesBehind, RefusesBeginning, RefusesEnd, RefusesFirst, RefusesOwn, ended, first_line, is_settled, journal_state, own_line, phase_view, ran, with_line};
+ghost use Rattle.server_zone.specs.Lines.{has_feed, unfinished};
 ghost use Rattle.server_zone.specs.StateLines.{added_in, is_event, line_view, state_line};
 ghost use Rattle.server_zone.specs.States.{RefusesLine, applied_line, made, state_of};
 
@@ -50,7 +50,7 @@ enum Phase<'a, S: Scheme, H: Nsec3Hasher> {
 }
 
 /// What a zone is opened with.
-#[derive(Clone, Copy)]
+#[derive(Drop)]
 struct Opener<'a, S: Scheme, H: Nsec3Hasher> {
     alloc: Global,
     scheme: &'a S,
@@ -85,32 +85,33 @@ impl<'a, S: Scheme, H: Nsec3Hasher> Zone<'a, S, H> {
             scheme,
             hasher,
         };
-        let mut phase = Phase::Empty;
-        let (mut rest, mut number, mut settled) = (journal, 0, 0);
-        while let Some((line, behind)) = split_line(rest) {
-            number += 1;
-            phase = match opener.read(phase, line) {
-                Ok(phase) => phase,
-                Err(reason) => return Err(OpenError { number, reason }),
-            };
-            rest = behind;
-            if phase.is_settled() {
-                settled = journal.len() - rest.len();
-            }
-        }
-        let whole = journal.len() - rest.len();
-        match opener.finish(phase) {
+        let read = match opener.read_lines(journal) {
+            Ok(read) => read,
+            Err(error) => return Err(error),
+        };
+        let whole = journal.len() - read.rest.len();
+        match opener.finish(read.phase) {
             Ok(zone) => Ok(Opened {
                 zone,
                 whole,
-                settled,
+                settled: read.settled,
             }),
-            Err(reason) => {
-                let number = number + 1;
-                Err(OpenError { number, reason })
-            }
+            Err(reason) => Err(OpenError {
+                number: read.number + 1,
+                reason,
+            }),
         }
     }
+}
+
+/// What was read of a journal, and what was not.
+#[derive(Drop)]
+struct Progress<'a, 'j, S: Scheme, H: Nsec3Hasher> {
+    phase: Phase<'a, S, H>,
+    rest: &'j [u8],
+    /// How many lines were read.
+    number: usize,
+    settled: usize,
 }
 
 impl<'a, S: Scheme, H: Nsec3Hasher> Phase<'a, S, H> {
@@ -126,6 +127,40 @@ impl<'a, S: Scheme, H: Nsec3Hasher> Phase<'a, S, H> {
 }
 
 impl<'a, S: Scheme, H: Nsec3Hasher> Opener<'a, S, H> {
+    /// Reads the lines of a journal that end in a line feed.
+    fn read_lines<'j>(&self, journal: &'j [u8]) -> Result<Progress<'a, 'j, S, H>, OpenError>
+        ensures ok { let scheme = self.now.scheme.now in let digest = S.digest_of scheme in
+            let has_read = HasRead digest scheme self.now.hasher.now journal.now in
+            IfOk result (λ p. has_read p.rest.now p.phase p.number p.settled) }
+        ensures all { IfOk result (λ p. has_feed p.rest.now ≡ false) }
+        ensures err { let hash = H.hash_of self.now.hasher.now in
+            let is_error = IsOpenError (S.digest_of self.now.scheme.now) hash in
+            IfErr result (is_error journal.now) }
+    {
+        let (mut phase, mut rest) = (Phase::Empty, journal);
+        let (mut number, mut settled) = (0, 0);
+        while let Some((line, behind)) = split_line(rest) {
+            phase = match self.read(phase, line) {
+                Ok(phase) => phase,
+                Err(reason) => {
+                    let number = number + 1;
+                    return Err(OpenError { number, reason });
+                }
+            };
+            number += 1;
+            rest = behind;
+            if phase.is_settled() {
+                settled = journal.len() - rest.len();
+            }
+        }
+        Ok(Progress {
+            phase,
+            rest,
+            number,
+            settled,
+        })
+    }
+
     /// Reads a line more.
     fn read(
         &self,
