@@ -3,4 +3,4 @@ pub mod StateLemmas
 pub mod JournalLemmas
 pub mod ReadLemmas
 pub mod OpeningLemmas
-pub mod Opening
+pub mod HasReadLemmas

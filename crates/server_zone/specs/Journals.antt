@@ -1,5 +1,5 @@
 -- Journals: the state that lines give, and why a journal is not opened.
-use Rattle.std.specs.Prelude.{◌≡◌, ℕ, ◌+◌, ◌≤◌, Bool, true, false, List, [], ◌∷◌, ◌++◌, length, is_empty, take, map, Option, Some, None, if◌then◌else◌}
+use Rattle.std.specs.Prelude.{◌≡◌, ℕ, ◌+◌, ◌≤◌, ◌==◌, Bool, true, false, List, [], ◌∷◌, ◌++◌, length, take, map, Option, Some, None, if◌then◌else◌}
 use Rattle.std.specs.Str.{is_utf8}
 use Rattle.messages.specs.HandedRr.{HandedRr, handed_of}
 use Rattle.answer_shared.specs.Hashing.{Hasher}
@@ -58,7 +58,7 @@ with_lines digest p (l ∷ ls) = with_line digest p l >>= λ q. with_lines diges
 abbrev pub is_settled : Phase → Bool
 is_settled Empty = true
 is_settled (Beginning z rs) = true
-is_settled (Running s) = is_empty s.gathered
+is_settled (Running s) = length s.gathered == 0
 
 -- the state at the end of the lines
 abbrev pub ended : Phase → Option State

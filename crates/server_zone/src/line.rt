@@ -65,8 +65,9 @@ fn line_of(event: Event) -> Line
     ensures small { added_in result ≤ added_octets event }
     ensures view { line_view result ≡ event_kind (event_view event) }
 {
-    match event.act {
-        Act::Key(call) => Line::Call(call, event.at),
+    let Event { at, act } = event;
+    match act {
+        Act::Key(call) => Line::Call(call, at),
         _ => Line::Other,
     }
 }

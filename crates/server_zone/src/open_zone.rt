@@ -1,5 +1,5 @@
 //! A zone that is open, and the lines that are applied to it.
-ghost use Rattle.std.specs.Prelude.{◌≤◌, ◌≡◌, [], IfErr, IfOk, OnErr, OnOk, Some, is_empty, false};
+ghost use Rattle.std.specs.Prelude.{◌≤◌, ◌≡◌, ◌==◌, [], IfErr, IfOk, OnErr, OnOk, Some, false, length};
 ghost use Rattle.answer_events.specs.Calls.{call_of};
 ghost use Rattle.answer_events.specs.Events.{added_by_call};
 ghost use Rattle.messages.specs.HandedRr.{handed_of};
@@ -65,7 +65,7 @@ impl<'a, S: Scheme, H: Nsec3Hasher> Zone<'a, S, H> {
 
     /// Whether no records are gathered for the next replacement.
     pub fn is_settled(&self) -> bool
-        ensures { result ≡ is_empty self.now.gathered.items }
+        ensures { result ≡ (length self.now.gathered.items == 0) }
     {
         self.gathered.is_empty()
     }
@@ -129,21 +129,21 @@ impl<'a, S: Scheme, H: Nsec3Hasher> Zone<'a, S, H> {
     }
 
     /// Keeps a record for the next replacement.
-    fn gather(&mut self, record: ZoneRecord) -> Result<Applied, Refusal>
+    fn gather(&mut self, added: ZoneRecord) -> Result<Applied, Refusal>
         ensures ok { let p = self.old.publisher in
             let digest = S.digest_of p.scheme.now in let hash = H.hash_of p.zone.hasher in
             let s = state_of self.old in let t = state_of self.new in
-            IfOk result (λ a. Follows digest hash p.latest s (Added (handed_of record)) a t) }
+            IfOk result (λ a. Follows digest hash p.latest s (Added (handed_of added)) a t) }
         ensures rest { IsRestKept self.old.publisher self.new.publisher }
         ensures refused { OnErr result (self.new ≡ self.old) }
         ensures fault { let p = self.old.publisher in
             let digest = S.digest_of p.scheme.now in let hash = H.hash_of p.zone.hasher in
-            IfErr result (RefusesTo digest hash p.latest (state_of self.old) (Added (handed_of record))) }
+            IfErr result (RefusesTo digest hash p.latest (state_of self.old) (Added (handed_of added))) }
     {
         if !self.begun {
             return Err(Refusal::TooEarly);
         }
-        self.gathered.push(record)?;
+        self.gathered.push(added)?;
         Ok(Applied::Gathered)
     }
 

@@ -1,5 +1,5 @@
 //! Opening a zone from its journal.
-ghost use Rattle.std.specs.Prelude.{◌≡◌, ◌++◌, ◌≤◌, is_empty, length, map, IfErr, IfOk, None, Some, false, take, true};
+ghost use Rattle.std.specs.Prelude.{◌≡◌, ◌++◌, ◌≤◌, ◌==◌, length, map, IfErr, IfOk, None, Some, false, take, true};
 ghost use Rattle.denialbench_session.specs.Grammar.{◌>>=◌};
 ghost use Rattle.messages.specs.HandedRr.{handed_of};
 ghost use Rattle.answer_zone_records.specs.Faults.{RefusesZone};
@@ -74,7 +74,7 @@ impl<'a, S: Scheme, H: Nsec3Hasher> Zone<'a, S, H> {
             IfOk result (λ o. journal.now ≡ take o.whole journal.now ++ rest) }
         ensures settled { let digest = S.digest_of scheme.now in
             IfOk result (λ o. IsSettledAt digest journal.now o.settled) }
-        ensures all { IfOk result (λ o. is_empty o.zone.gathered.items ≡ true
+        ensures all { IfOk result (λ o. (length o.zone.gathered.items == 0) ≡ true
             → o.settled ≡ o.whole) }
         ensures inside { IfOk result (λ o. (o.settled ≤ o.whole) × (o.whole ≤ length journal.now)) }
         ensures err { let digest = S.digest_of scheme.now in let hash = H.hash_of hasher.now in

@@ -1,6 +1,6 @@
 -- The loop that opens a journal.
 use Rattle.std.proofs.Common.{◌≡◌, ℕ, ◌+◌, ◌≤◌, ◌-◌, Bool, true, false, cond, List, [], ◌∷◌, ◌++◌, length, take, drop, refl, sym, ap, subst, ◌∙◌, arith, append_assoc, append-nil, length-append, Option, Some, None}
-use Rattle.std.specs.Prelude.{Ok, Err, is_empty}
+use Rattle.std.specs.Prelude.{◌==◌}
 use Rattle.std.proofs.Math.Seq.{take-append_seam}
 use Rattle.messages.specs.HandedRr.{HandedRr}
 use Rattle.answer_publisher_keys.specs.Bindings.{Outcome, apply}
@@ -153,7 +153,7 @@ module _ {S H : Type 0} (digest : Digest) (scheme : S) (hasher : H) (journal res
   settled_end Empty e s t = absurd (cc)
   settled_end (Beginning z rs) e s t = (made z rs, bind_some (with_lines digest Empty (whole_lines (take settled journal))) ended (Beginning z rs) e, refl)
   settled_end (Running r) e s t = (r, bind_some (with_lines digest Empty (whole_lines (take settled journal))) ended (Running r) e, none r.gathered s) where
-    none : (rs : List HandedRr) → is_empty rs ≡ true → rs ≡ []
+    none : (rs : List HandedRr) → (length rs == 0) ≡ true → rs ≡ []
     none [] h = refl
     none (x ∷ xs) h = absurd (cc)
 
