@@ -2,6 +2,7 @@
 use Rattle.std.proofs.Common.{◌≡◌, ℕ, ◌+◌, ◌≤◌, ◌-◌, Bool, true, false, cond, List, [], ◌∷◌, ◌++◌, length, take, drop, refl, sym, ap, subst, ◌∙◌, arith, append_assoc, append-nil, length-append, Option, Some, None}
 use Rattle.std.specs.Prelude.{◌==◌}
 use Rattle.std.proofs.Math.Seq.{take-append_seam}
+use Rattle.std.proofs.lemmas.Bool.{false≢true}
 use Rattle.messages.specs.HandedRr.{HandedRr}
 use Rattle.answer_publisher_keys.specs.Bindings.{Outcome, apply}
 use Rattle.answer_shared.specs.Hashing.{Hasher}
@@ -150,7 +151,7 @@ module _ {S H : Type 0} (digest : Digest) (scheme : S) (hasher : H) (journal res
       p.text_is ∙ sym (λ i. cut_front journal p.front rest n p.text_is h i ++ is i)
 
   settled_end : (q : Phase) → with_lines digest Empty (whole_lines (take settled journal)) ≡ Some q → is_settled q ≡ true → is_there q ≡ true → IsSettledAt digest journal settled
-  settled_end Empty e s t = absurd (cc)
+  settled_end Empty e s t = absurd (false≢true t)
   settled_end (Beginning z rs) e s t = (made z rs, bind_some (with_lines digest Empty (whole_lines (take settled journal))) ended (Beginning z rs) e, refl)
   settled_end (Running r) e s t = (r, bind_some (with_lines digest Empty (whole_lines (take settled journal))) ended (Running r) e, none r.gathered s) where
     none : (rs : List HandedRr) → (length rs == 0) ≡ true → rs ≡ []

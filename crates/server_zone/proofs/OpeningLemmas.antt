@@ -5,18 +5,21 @@ use Rattle.answer_shared.specs.Hashing.{Hasher}
 use Rattle.answer_publisher.specs.declared.publishing.Publisher.{Publisher}
 use Rattle.denialbench_session.specs.Grammar.{ZoneLine}
 use Rattle.server_zone.specs.Lines.{has_feed, unfinished, whole_lines}
-use Rattle.server_zone.specs.StateLines.{StateLine, is_event, state_line}
+use Rattle.server_zone.specs.StateLines.{StateLine, Nothing, Added, Replaced, Called, Other, is_event, state_line}
 use Rattle.server_zone.specs.States.{Digest, Follows, IsRestKept, RefusesLine, RefusesTo, State, after, applied_line, made, state_of, ungathered}
-use Rattle.server_zone.specs.Journals.{IsFresh, Phase, Empty, Beginning, Running, RefusesOwn, ended, own_line, with_line, with_lines}
+use Rattle.server_zone.specs.Journals.{IsFresh, Phase, Empty, Beginning, Running, RefusesOwn, ended, own_line, ran, with_line, with_lines}
 use Rattle.server_zone.specs.declared.open_zone.Applied.{Applied}
 use Rattle.server_zone.specs.declared.open_zone.Zone.{Zone}
 use Rattle.server_zone.specs.declared.refusals.Refusal.{Refusal}
-use Rattle.server_zone.proofs.StateLemmas.{follows_after}
-use Rattle.server_zone.proofs.JournalLemmas.{own_event, own_refused}
+use Rattle.server_zone.proofs.JournalLemmas.{own_refused}
 
-pub begun : (digest digest' : Digest) (hash : Hasher) (latest : Option ℕ) (z : ZoneLine) (rs : List HandedRr) (l : StateLine) (s t : State) (a : Applied) → digest' ≡ digest → s ≡ made z rs → is_event l ≡ true → Follows digest' hash latest s l a t → own_line digest z rs l ≡ Some (Running t)
-begun digest digest' hash latest z rs l s t a d is e h =
-    own_event digest z rs l t e (sym (λ i. after (d i) l (is i)) ∙ follows_after digest' hash latest s t l a h)
+-- the first event is followed as by the zone of its own records
+pub begun : (digest : Digest) (z : ZoneLine) (rs : List HandedRr) (l : StateLine) → is_event l ≡ true → own_line digest z rs l ≡ ran (after digest l (made z rs))
+begun digest z rs Nothing e = absurd (cc)
+begun digest z rs (Added r) e = absurd (cc)
+begun digest z rs (Replaced at) e = refl
+begun digest z rs (Called at c) e = refl
+begun digest z rs Other e = refl
 
 pub refused_as : (digest digest' : Digest) (hash hash' : Hasher) (latest latest' : Option ℕ) (s s' : State) (l : StateLine) (f : Refusal) → digest' ≡ digest → hash' ≡ hash → latest' ≡ latest → s' ≡ s → RefusesTo digest' hash' latest' s' l f → RefusesTo digest hash latest s l f
 refused_as digest digest' hash hash' latest latest' s s' l f d k n is h =
@@ -36,7 +39,7 @@ line_refused_as digest digest' hash hash' latest latest' s line f d k n h =
     (subst (λ u. RefusesLine u hash' latest' s line f) d h))
 
 pub fresh_after : {S H : Type 0} (scheme : S) (hasher : H) (old new : Zone S H) → IsRestKept old.publisher new.publisher → IsFresh scheme hasher old → IsFresh scheme hasher new
-fresh_after scheme hasher old new rest f = record {
+fresh_after {S = S} {H = H} scheme hasher old new rest f = record {
   scheme_is = ap (λ (p : Publisher S H). p.scheme.now) rest ∙ f.scheme_is;
   hasher_is = ap (λ (p : Publisher S H). p.zone.hasher) rest ∙ f.hasher_is;
   unanswered = ap (λ (p : Publisher S H). p.latest) rest ∙ f.unanswered;

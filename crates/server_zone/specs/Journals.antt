@@ -44,10 +44,13 @@ own_line digest z rs Nothing = Some (Beginning z rs)
 own_line digest z rs (Added r) = Some (Beginning z (rs ++ r ∷ []))
 own_line digest z rs l = ran (after digest l (made z rs))
 
+abbrev pub with_own : Digest → ZoneLine → List HandedRr → List ℕ → Option Phase
+with_own digest z rs line = state_line line >>= λ l. own_line digest z rs l
+
 -- a line more
 abbrev pub with_line : Digest → Phase → List ℕ → Option Phase
 with_line digest Empty line = first_line line
-with_line digest (Beginning z rs) line = state_line line >>= λ l. own_line digest z rs l
+with_line digest (Beginning z rs) line = with_own digest z rs line
 with_line digest (Running s) line = ran (applied_line digest s line)
 
 abbrev pub with_lines : Digest → Phase → List (List ℕ) → Option Phase

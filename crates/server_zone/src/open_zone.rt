@@ -87,13 +87,14 @@ impl<'a, S: Scheme, H: Nsec3Hasher> Zone<'a, S, H> {
         ensures ok { let p = self.old.publisher in
             let digest = S.digest_of p.scheme.now in let hash = H.hash_of p.zone.hasher in
             let s = state_of self.old in let t = state_of self.new in
-            let follows = λ a l. Follows digest hash p.latest s l a t in
-            IfOk result (λ a. OfLine (follows a) (state_line line.now)) }
+            let follows = Follows digest hash p.latest s in
+            IfOk result (λ a. OfLine (λ l. follows l a t) (state_line line.now)) }
         ensures state { let digest = S.digest_of self.old.publisher.scheme.now in
             let after = applied_line digest (state_of self.old) line.now in
             IfOk result (λ _. after ≡ Some (state_of self.new)) }
         ensures rest { IsRestKept self.old.publisher self.new.publisher }
-        ensures refused { OnErr result (self.new ≡ self.old) }
+        ensures refused { OnErr result (state_of self.new ≡ state_of self.old) }
+        ensures same { OnErr result (self.new.publisher ≡ self.old.publisher) }
         ensures fault { let p = self.old.publisher in
             let digest = S.digest_of p.scheme.now in let hash = H.hash_of p.zone.hasher in
             let refuses = RefusesLine digest hash p.latest (state_of self.old) line.now in
@@ -114,7 +115,8 @@ impl<'a, S: Scheme, H: Nsec3Hasher> Zone<'a, S, H> {
             let s = state_of self.old in let t = state_of self.new in
             IfOk result (λ a. Follows digest hash p.latest s (line_view line) a t) }
         ensures rest { IsRestKept self.old.publisher self.new.publisher }
-        ensures refused { OnErr result (self.new ≡ self.old) }
+        ensures refused { OnErr result (state_of self.new ≡ state_of self.old) }
+        ensures same { OnErr result (self.new.publisher ≡ self.old.publisher) }
         ensures fault { let p = self.old.publisher in
             let digest = S.digest_of p.scheme.now in let hash = H.hash_of p.zone.hasher in
             IfErr result (RefusesTo digest hash p.latest (state_of self.old) (line_view line)) }
@@ -135,7 +137,8 @@ impl<'a, S: Scheme, H: Nsec3Hasher> Zone<'a, S, H> {
             let s = state_of self.old in let t = state_of self.new in
             IfOk result (λ a. Follows digest hash p.latest s (Added (handed_of added)) a t) }
         ensures rest { IsRestKept self.old.publisher self.new.publisher }
-        ensures refused { OnErr result (self.new ≡ self.old) }
+        ensures refused { OnErr result (state_of self.new ≡ state_of self.old) }
+        ensures same { OnErr result (self.new.publisher ≡ self.old.publisher) }
         ensures fault { let p = self.old.publisher in
             let digest = S.digest_of p.scheme.now in let hash = H.hash_of p.zone.hasher in
             IfErr result (RefusesTo digest hash p.latest (state_of self.old) (Added (handed_of added))) }
@@ -155,16 +158,21 @@ impl<'a, S: Scheme, H: Nsec3Hasher> Zone<'a, S, H> {
             let s = state_of self.old in let t = state_of self.new in
             IfOk result (λ a. Follows digest hash p.latest s (Replaced at.now) a t) }
         ensures rest { IsRestKept self.old.publisher self.new.publisher }
-        ensures refused { OnErr result (self.new ≡ self.old) }
+        ensures refused { OnErr result (state_of self.new ≡ state_of self.old) }
+        ensures same { OnErr result (self.new.publisher ≡ self.old.publisher) }
         ensures fault { let p = self.old.publisher in
             let digest = S.digest_of p.scheme.now in let hash = H.hash_of p.zone.hasher in
             IfErr result (RefusesTo digest hash p.latest (state_of self.old) (Replaced at.now)) }
     {
         let copies = copy_records(self.alloc, &self.gathered)?;
-        self.publisher.replace_zone(copies, at)?;
-        self.gathered = Vec::new(self.alloc);
-        self.begun = true;
-        Ok(Applied::Replaced)
+        match self.publisher.replace_zone(copies, at) {
+            Ok(()) => {
+                self.gathered = Vec::new(self.alloc);
+                self.begun = true;
+                Ok(Applied::Replaced)
+            }
+            Err(fault) => Err(Refusal::Replace(fault)),
+        }
     }
 
     /// Makes a call on the keys.
@@ -175,14 +183,19 @@ impl<'a, S: Scheme, H: Nsec3Hasher> Zone<'a, S, H> {
             let s = state_of self.old in let t = state_of self.new in
             IfOk result (λ a. Follows digest hash p.latest s (Called at.now (call_of call.now)) a t) }
         ensures rest { IsRestKept self.old.publisher self.new.publisher }
-        ensures refused { OnErr result (self.new ≡ self.old) }
+        ensures refused { OnErr result (state_of self.new ≡ state_of self.old) }
+        ensures same { OnErr result (self.new.publisher ≡ self.old.publisher) }
         ensures fault { let p = self.old.publisher in
             let digest = S.digest_of p.scheme.now in let hash = H.hash_of p.zone.hasher in
             IfErr result (RefusesTo digest hash p.latest (state_of self.old) (Called at.now (call_of call.now))) }
     {
-        let actions = self.publisher.apply(call, at)?;
-        self.begun = true;
-        Ok(Applied::Actions(actions))
+        match self.publisher.apply(call, at) {
+            Ok(actions) => {
+                self.begun = true;
+                Ok(Applied::Actions(actions))
+            }
+            Err(fault) => Err(Refusal::Key(fault)),
+        }
     }
 
     /// What is due of a roll; nothing where it does not run.

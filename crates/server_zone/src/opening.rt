@@ -1,13 +1,12 @@
 //! Opening a zone from its journal.
 ghost use Rattle.std.specs.Prelude.{◌≡◌, ◌++◌, ◌≤◌, ◌==◌, length, map, IfErr, IfOk, None, Some, false, take, true};
-ghost use Rattle.denialbench_session.specs.Grammar.{◌>>=◌};
 ghost use Rattle.messages.specs.HandedRr.{handed_of};
 ghost use Rattle.answer_zone_records.specs.Faults.{RefusesZone};
 ghost use Rattle.denialbench_session.specs.Readings.{zone_view};
-ghost use Rattle.server_zone.specs.Journals.{HasRead, IsFresh, IsOpenError, IsOpening, IsSettledAt, RefusesBehind, RefusesBeginning, RefusesEnd, RefusesFirst, RefusesOwn, ended, first_line, is_settled, journal_state, own_line, phase_view, ran, with_line};
+ghost use Rattle.server_zone.specs.Journals.{HasRead, IsFresh, IsOpenError, IsOpening, IsSettledAt, RefusesBehind, RefusesBeginning, RefusesEnd, RefusesFirst, RefusesOwn, ended, first_line, is_settled, journal_state, own_line, phase_view, ran, with_line, with_own};
 ghost use Rattle.server_zone.specs.Lines.{has_feed, unfinished};
-ghost use Rattle.server_zone.specs.StateLines.{added_in, is_event, line_view, state_line};
-ghost use Rattle.server_zone.specs.States.{RefusesLine, applied_line, made, state_of};
+ghost use Rattle.server_zone.specs.StateLines.{added_in, is_event, line_view};
+ghost use Rattle.server_zone.specs.States.{RefusesLine, RefusesTo, after, applied_line, made, state_of};
 
 use crate::line::{Line, read_line};
 use crate::lines::split_line;
@@ -210,8 +209,8 @@ impl<'a, S: Scheme, H: Nsec3Hasher> Opener<'a, S, H> {
         line: &[u8],
     ) -> Result<Phase<'a, S, H>, Refusal>
         ensures ok { let z = zone_view zone in let rs = map handed_of records.items in
-            let with = own_line (S.digest_of self.now.scheme.now) z rs in
-            IfOk result (λ q. (state_line line.now >>= λ l. with l) ≡ Some (phase_view q)) }
+            let with = with_own (S.digest_of self.now.scheme.now) z rs line.now in
+            IfOk result (λ q. with ≡ Some (phase_view q)) }
         ensures kept { IfOk result (IsOpening self.now.scheme.now self.now.hasher.now) }
         ensures err { let z = zone_view zone in let rs = map handed_of records.items in
             let digest = S.digest_of self.now.scheme.now in
@@ -248,10 +247,9 @@ impl<'a, S: Scheme, H: Nsec3Hasher> Opener<'a, S, H> {
             let hash = H.hash_of self.now.hasher.now in
             IfErr result (RefusesOwn digest hash z rs (line_view event)) }
     {
-        let mut zone = self.made(zone, records)?;
-        match zone.follow(event) {
-            Ok(_) => Ok(Phase::Running(zone)),
-            Err(refusal) => Err(refusal),
+        match self.made(zone, records) {
+            Ok(zone) => follow_first(zone, event),
+            Err(fault) => Err(Refusal::Zone(fault)),
         }
     }
 
@@ -288,9 +286,34 @@ impl<'a, S: Scheme, H: Nsec3Hasher> Opener<'a, S, H> {
     {
         match phase {
             Phase::Empty => Err(Refusal::Unreadable(LineFault::NoZone)),
-            Phase::Beginning(zone, records) => Ok(self.made(zone, records)?),
+            Phase::Beginning(zone, records) => match self.made(zone, records) {
+                Ok(zone) => Ok(zone),
+                Err(fault) => Err(Refusal::Zone(fault)),
+            },
             Phase::Running(zone) => Ok(zone),
         }
+    }
+}
+
+/// Applies the first event.
+fn follow_first<'a, S: Scheme, H: Nsec3Hasher>(
+    mut zone: Zone<'a, S, H>,
+    event: Line,
+) -> Result<Phase<'a, S, H>, Refusal>
+    requires { added_in event ≤ 65531 }
+    ensures ok { let z = zone.entry in let digest = S.digest_of z.publisher.scheme.now in
+        let after = after digest (line_view event) (state_of z) in
+        IfOk result (λ q. ran after ≡ Some (phase_view q)) }
+    ensures kept { let z = zone.entry in
+        let opening = IsOpening z.publisher.scheme.now z.publisher.zone.hasher in
+        (z.publisher.latest ≡ None) → IfOk result opening }
+    ensures err { let z = zone.entry in let p = z.publisher in
+        let digest = S.digest_of p.scheme.now in let hash = H.hash_of p.zone.hasher in
+        IfErr result (RefusesTo digest hash p.latest (state_of z) (line_view event)) }
+{
+    match zone.follow(event) {
+        Ok(_) => Ok(Phase::Running(zone)),
+        Err(refusal) => Err(refusal),
     }
 }
 

@@ -1,24 +1,38 @@
-use Rattle.std.proofs.Common.{ap, map}
+use Rattle.std.proofs.Common.{ap, map, sym, subst, ◌∙◌}
+use Rattle.std.proofs.lemmas.Result.{IfOk-weaker}
+use Rattle.answer_publisher.proofs.Refusals.{if_err_map}
 use Rattle.messages.specs.HandedRr.{handed_of}
 use Rattle.denialbench_session.specs.Readings.{zone_view}
 use Rattle.server_zone.specs.StateLines.{line_view}
-use Rattle.server_zone.specs.States.{state_of}
-use Rattle.server_zone.proofs.OpeningLemmas.{begun, begun_refused, fresh_after}
+use Rattle.server_zone.specs.States.{after, state_of}
+use Rattle.server_zone.specs.Journals.{IsOpening, RefusesOwn, ran}
+use Rattle.server_zone.proofs.OpeningLemmas.{begun, begun_refused}
 use Rattle.server_zone.proofs.opening.Opener.begin.Goals as goal
 
 pub returns-in-Ok-clause-ok : goal.returns-in-Ok-clause-ok
 returns-in-Ok-clause-ok g c =
-    let old = c.in_ok-zone.zone in
-    let fresh = c.in_ok-zone.ensures.fresh in
-    begun _ _ (g.H.Nsec3Hasher.hash_of old.publisher.zone.hasher) old.publisher.latest (zone_view c.args.zone) (map handed_of c.args.records.items) (line_view c.args.event) (state_of old) (state_of c.follow.new.self) c.in-Ok.field-0
-    (ap g.S.Scheme.digest_of fresh.scheme_is) c.in_ok-zone.ensures.ok c.requires.event c.in-Ok.ensures.ok
+    let old = c.in-Ok.zone in
+    let fresh = c.in-Ok.ensures.fresh in
+    let l = line_view c.args.event in
+    IfOk-weaker c.follow_first.result _ _ (λ q e. begun _ (zone_view c.args.zone) (map handed_of c.args.records.items) l c.requires.event
+    ∙ ap ran (sym (λ i. after (g.S.Scheme.digest_of (fresh.scheme_is i)) l (c.in-Ok.ensures.ok i))) ∙ e) c.follow_first.ensures.ok
 
 pub returns-in-Ok-clause-kept : goal.returns-in-Ok-clause-kept
-returns-in-Ok-clause-kept g c = fresh_after _ _ c.in_ok-zone.zone c.follow.new.self c.follow.ensures.rest c.in_ok-zone.ensures.fresh
+returns-in-Ok-clause-kept g c =
+    let scheme = c.args.self.now.scheme.now in
+    let old = c.in-Ok.zone in
+    let fresh = c.in-Ok.ensures.fresh in
+    IfOk-weaker c.follow_first.result _ _ (λ q h. subst (λ u. IsOpening scheme u q) fresh.hasher_is (subst (λ u. IsOpening u old.publisher.zone.hasher q) fresh.scheme_is h)) (c.follow_first.ensures.kept fresh.unanswered)
 
-pub returns-in-Err-clause-err : goal.returns-in-Err-clause-err
-returns-in-Err-clause-err g c =
-    let old = c.in_ok-zone.zone in
-    let fresh = c.in_ok-zone.ensures.fresh in
-    begun_refused _ _ _ _ old.publisher.latest (zone_view c.args.zone) (map handed_of c.args.records.items) (line_view c.args.event) (state_of old) c.in-Err.refusal
-    (ap g.S.Scheme.digest_of fresh.scheme_is) (ap g.H.Nsec3Hasher.hash_of fresh.hasher_is) fresh.unanswered c.in_ok-zone.ensures.ok c.in-Err.ensures.fault
+pub returns-in-Ok-clause-err : goal.returns-in-Ok-clause-err
+returns-in-Ok-clause-err g c =
+    let digest = g.S.Scheme.digest_of c.args.self.now.scheme.now in
+    let hash = g.H.Nsec3Hasher.hash_of c.args.self.now.hasher.now in
+    let old = c.in-Ok.zone in
+    let fresh = c.in-Ok.ensures.fresh in
+    let z = zone_view c.args.zone in
+    let rs = map handed_of c.args.records.items in
+    let l = line_view c.args.event in
+    if_err_map _ (λ f. RefusesOwn digest hash z rs l f) c.follow_first.result
+    (λ f h. begun_refused digest _ hash _ old.publisher.latest z rs l (state_of old) f (ap g.S.Scheme.digest_of fresh.scheme_is) (ap g.H.Nsec3Hasher.hash_of fresh.hasher_is) fresh.unanswered c.in-Ok.ensures.ok h)
+    c.follow_first.ensures.err
