@@ -27,6 +27,7 @@ first_settled line q e = passed (is_passed_over line) (is_utf8 line) e where
   begun : (z : Option ZoneLine) → (z >>= λ w. Some (Beginning w [])) ≡ Some q → is_settled q ≡ true
   begun (Some w) h = let is : Beginning w [] ≡ q = cc in ap is_settled (sym is)
   begun None h = absurd (cc)
+
   passed : (b u : Bool) → cond b (Some Empty) (cond u (zone_line (fields_of line) >>= λ w. Some (Beginning w [])) None) ≡ Some q → is_settled q ≡ true
   passed true u h = let is : Empty ≡ q = cc in ap is_settled (sym is)
   passed false true h = begun (zone_line (fields_of line)) h
@@ -156,7 +157,7 @@ module _ {S H : Type 0} (digest : Digest) (scheme : S) (hasher : H) (journal res
   settled_end (Running r) e s t = (r, bind_some (with_lines digest Empty (whole_lines (take settled journal))) ended (Running r) e, none r.gathered s) where
     none : (rs : List HandedRr) → (length rs == 0) ≡ true → rs ≡ []
     none [] h = refl
-    none (x ∷ xs) h = absurd (cc)
+    none (x ∷ xs) h = absurd (false≢true h)
 
   pub end_settled : is_there (phase_view phase) ≡ true → IsSettledAt digest journal settled
   end_settled t = settled_end p.last p.last_accepted p.last_settled (p.last_there t)

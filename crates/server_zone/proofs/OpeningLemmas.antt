@@ -1,6 +1,10 @@
 -- A zone while it is opened.
 use Rattle.std.proofs.Common.{◌≡◌, ℕ, ◌+◌, ◌≤◌, ◌-◌, Bool, true, false, List, [], ◌∷◌, ◌++◌, length, take, drop, refl, sym, ap, subst, ◌∙◌, arith, append_assoc, length-append, Option, Some, None}
-use Rattle.messages.specs.HandedRr.{HandedRr}
+use Rattle.std.specs.Prelude.{map}
+use Rattle.messages.specs.HandedRr.{HandedRr, handed_of}
+use Rattle.answer_zone.specs.HashedZone.{accepted_zone}
+use Rattle.answer_publisher_keys.specs.Bindings.{no_keys}
+use Rattle.answer_publisher.specs.World.{zone_by}
 use Rattle.answer_shared.specs.Hashing.{Hasher}
 use Rattle.answer_publisher.specs.declared.publishing.Publisher.{Publisher}
 use Rattle.denialbench_session.specs.Grammar.{ZoneLine}
@@ -44,3 +48,12 @@ fresh_after {S = S} {H = H} scheme hasher old new rest f = record {
   hasher_is = ap (λ (p : Publisher S H). p.zone.hasher) rest ∙ f.hasher_is;
   unanswered = ap (λ (p : Publisher S H). p.latest) rest ∙ f.unanswered;
 }
+
+-- a zone of its own records
+pub made_of : {S H : Type 0} (zl : ZoneLine) (rs : List HandedRr) (z : Zone S H) (p : Publisher S H) → z.publisher ≡ p → z.gathered.items ≡ [] → z.begun ≡ false
+    → accepted_zone p.zone ≡ zone_by zl.apex zl.mode zl.limit rs → p.keys ≡ no_keys zl.apex → p.life ≡ zl.life → state_of z ≡ made zl rs
+made_of {S = S} {H = H} zl rs z p same gathered begun zone keys life =
+    let zone_is = ap (λ (q : Publisher S H). accepted_zone q.zone) same ∙ zone in
+    let keys_are = ap (λ (q : Publisher S H). q.keys) same ∙ keys in
+    let life_is = ap (λ (q : Publisher S H). q.life) same ∙ life in
+    (λ i. record { zone = zone_is i; life = life_is i; keys = keys_are i; gathered = map handed_of (gathered i); begun = begun i })

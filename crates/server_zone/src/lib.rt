@@ -5,12 +5,12 @@
 pub mod laws;
 pub mod line;
 mod lines;
+pub mod open_zone;
 pub mod opening;
 mod records;
 pub mod refusals;
-pub mod open_zone;
 
-pub use keyset_due::Due;
+pub use crate::open_zone::{Applied, Zone};
 pub use crate::opening::Opened;
 pub use crate::refusals::{OpenError, Refusal};
-pub use crate::open_zone::{Applied, Zone};
+pub use keyset_due::Due;

@@ -7,7 +7,6 @@ ghost use Rattle.keyset_due.specs.Dues.{IsDue};
 ghost use Rattle.server_zone.specs.StateLines.{Added, Called, Replaced, added_in, line_view, state_line};
 ghost use Rattle.server_zone.specs.States.{Follows, IsRestKept, OfLine, RefusesLine, RefusesTo, applied_line, state_of, ungathered};
 
-use keyset_due::{Due, due_of};
 use crate::line::{Line, read_line};
 use crate::lines::has_feed;
 use crate::records::copy_records;
@@ -17,6 +16,7 @@ use answer_publisher::publishing::Publisher;
 use answer_scheme::scheme::Scheme;
 use denial_nsec3_hash::hasher::Nsec3Hasher;
 use keyset::{Action, RollType, UnixTime};
+use keyset_due::{Due, due_of};
 use messages::record::ZoneRecord;
 use std::alloc::{AllocError, Global};
 
@@ -141,7 +141,8 @@ impl<'a, S: Scheme, H: Nsec3Hasher> Zone<'a, S, H> {
         ensures same { OnErr result (self.new.publisher ≡ self.old.publisher) }
         ensures fault { let p = self.old.publisher in
             let digest = S.digest_of p.scheme.now in let hash = H.hash_of p.zone.hasher in
-            IfErr result (RefusesTo digest hash p.latest (state_of self.old) (Added (handed_of added))) }
+            let refuses = RefusesTo digest hash p.latest (state_of self.old) in
+            IfErr result (refuses (Added (handed_of added))) }
     {
         if !self.begun {
             return Err(Refusal::TooEarly);
@@ -181,13 +182,15 @@ impl<'a, S: Scheme, H: Nsec3Hasher> Zone<'a, S, H> {
         ensures ok { let p = self.old.publisher in
             let digest = S.digest_of p.scheme.now in let hash = H.hash_of p.zone.hasher in
             let s = state_of self.old in let t = state_of self.new in
-            IfOk result (λ a. Follows digest hash p.latest s (Called at.now (call_of call.now)) a t) }
+            let called = Called at.now (call_of call.now) in
+            IfOk result (λ a. Follows digest hash p.latest s called a t) }
         ensures rest { IsRestKept self.old.publisher self.new.publisher }
         ensures refused { OnErr result (state_of self.new ≡ state_of self.old) }
         ensures same { OnErr result (self.new.publisher ≡ self.old.publisher) }
         ensures fault { let p = self.old.publisher in
             let digest = S.digest_of p.scheme.now in let hash = H.hash_of p.zone.hasher in
-            IfErr result (RefusesTo digest hash p.latest (state_of self.old) (Called at.now (call_of call.now))) }
+            let refuses = RefusesTo digest hash p.latest (state_of self.old) in
+            IfErr result (refuses (Called at.now (call_of call.now))) }
     {
         match self.publisher.apply(call, at) {
             Ok(actions) => {

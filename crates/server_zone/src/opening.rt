@@ -10,8 +10,8 @@ ghost use Rattle.server_zone.specs.States.{RefusesLine, RefusesTo, after, applie
 
 use crate::line::{Line, read_line};
 use crate::lines::split_line;
-use crate::refusals::{OpenError, Refusal};
 use crate::open_zone::Zone;
+use crate::refusals::{OpenError, Refusal};
 use answer_events::record::ZoneRecord;
 use answer_publisher::fault::ZoneFault;
 use answer_publisher::publishing::Publisher;
@@ -75,7 +75,8 @@ impl<'a, S: Scheme, H: Nsec3Hasher> Zone<'a, S, H> {
             IfOk result (λ o. IsSettledAt digest journal.now o.settled) }
         ensures all { IfOk result (λ o. (length o.zone.gathered.items == 0) ≡ true
             → o.settled ≡ o.whole) }
-        ensures inside { IfOk result (λ o. (o.settled ≤ o.whole) × (o.whole ≤ length journal.now)) }
+        ensures inside { IfOk result
+            (λ o. (o.settled ≤ o.whole) × (o.whole ≤ length journal.now)) }
         ensures err { let digest = S.digest_of scheme.now in let hash = H.hash_of hasher.now in
             IfErr result (IsOpenError digest hash journal.now) }
     {
@@ -161,12 +162,8 @@ impl<'a, S: Scheme, H: Nsec3Hasher> Opener<'a, S, H> {
     }
 
     /// Reads a line more.
-    fn read(
-        &self,
-        phase: Phase<'a, S, H>,
-        line: &[u8],
-    ) -> Result<Phase<'a, S, H>, Refusal>
-        requires { IsOpening self.now.scheme.now self.now.hasher.now phase.entry }
+    fn read(&self, phase: Phase<'a, S, H>, line: &[u8]) -> Result<Phase<'a, S, H>, Refusal>
+        requires { IsOpening self.now.scheme.now self.now.hasher.now phase }
         ensures ok { let digest = S.digest_of self.now.scheme.now in
             let with = with_line digest (phase_view phase.entry) line.now in
             IfOk result (λ q. with ≡ Some (phase_view q)) }
@@ -277,7 +274,7 @@ impl<'a, S: Scheme, H: Nsec3Hasher> Opener<'a, S, H> {
 
     /// The zone behind all whole lines.
     fn finish(&self, phase: Phase<'a, S, H>) -> Result<Zone<'a, S, H>, Refusal>
-        requires { IsOpening self.now.scheme.now self.now.hasher.now phase.entry }
+        requires { IsOpening self.now.scheme.now self.now.hasher.now phase }
         ensures ok { let state = ended (phase_view phase.entry) in
             IfOk result (λ z. state ≡ Some (state_of z)) }
         ensures fresh { IfOk result (IsFresh self.now.scheme.now self.now.hasher.now) }

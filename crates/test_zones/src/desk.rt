@@ -214,7 +214,9 @@ impl Desk {
 fn lines_of(alloc: Global, text: &str) -> Option<Vec<u8>> {
     let mut octets = Vec::new(alloc);
     for octet in text.as_bytes() {
-        octets.push(if *octet == b';' { b'\n' } else { *octet }).ok()?;
+        octets
+            .push(if *octet == b';' { b'\n' } else { *octet })
+            .ok()?;
     }
     Some(octets)
 }

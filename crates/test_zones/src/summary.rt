@@ -2,10 +2,10 @@
 
 use crate::desk::BenchZone;
 use keyset::{RollType, UnixTime};
+use messages::names::copy_name;
 use messages::question::Question;
 use numbers::class::Class;
 use numbers::rtype::Rtype;
-use messages::names::copy_name;
 use std::alloc::Global;
 use std::time::Duration;
 use test_lines::{Answer, Between};
@@ -15,7 +15,10 @@ pub const ROLLS: [(RollType, &str); 6] = [
     (RollType::KskRoll, "ksk-roll"),
     (RollType::KskDoubleDsRoll, "ksk-double-ds-roll"),
     (RollType::ZskRoll, "zsk-roll"),
-    (RollType::ZskDoubleSignatureRoll, "zsk-double-signature-roll"),
+    (
+        RollType::ZskDoubleSignatureRoll,
+        "zsk-double-signature-roll",
+    ),
     (RollType::CskRoll, "csk-roll"),
     (RollType::AlgorithmRoll, "algorithm-roll"),
 ];
@@ -41,7 +44,11 @@ pub fn summary(alloc: Global, zone: &mut BenchZone) -> Option<String> {
         class: Class::IN,
     };
     answer.octets(&zone.publisher.answer(&question, &at).ok()?);
-    answer.word(if zone.is_settled() { "settled" } else { "gathering" });
+    answer.word(if zone.is_settled() {
+        "settled"
+    } else {
+        "gathering"
+    });
     answer.done()
 }
 

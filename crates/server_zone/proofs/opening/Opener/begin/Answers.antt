@@ -14,7 +14,7 @@ returns-in-Ok-clause-ok g c =
     let old = c.in-Ok.zone in
     let fresh = c.in-Ok.ensures.fresh in
     let l = line_view c.args.event in
-    IfOk-weaker c.follow_first.result _ _ (λ q e. begun _ (zone_view c.args.zone) (map handed_of c.args.records.items) l c.requires.event
+    IfOk-weaker c.follow_first.result _ _ (λ q e. begun (g.S.Scheme.digest_of c.args.self.now.scheme.now) (zone_view c.args.zone) (map handed_of c.args.records.items) l c.requires.event
     ∙ ap ran (sym (λ i. after (g.S.Scheme.digest_of (fresh.scheme_is i)) l (c.in-Ok.ensures.ok i))) ∙ e) c.follow_first.ensures.ok
 
 pub returns-in-Ok-clause-kept : goal.returns-in-Ok-clause-kept
