@@ -45,7 +45,7 @@ keys_by_table s asked old (Err f) is refused = (refused, refl)
 -- ---- messages read
 
 ok_of : (r : Result Message MessageError) (read : Message) → r ≡ Ok read → IsOk r
-ok_of r read e = subst IsOk (sym e) tt
+ok_of r read e = subst IsOk (sym e) refl
 
 is_read : (s : Serving) (asked : Asked) (keys dnssec_ok : Bool) (m : List ℕ) → IsMessage s asked keys dnssec_ok m → IsOk (message pointer_limit m)
 is_read s asked true true m h = let spells = (h (sign_by s.table) (verify_by s.table) (own_entries s.table)).1 in ok_of (message pointer_limit m) spells.read spells.reads
