@@ -24,9 +24,9 @@ impl<'a, S: Scheme, H: Nsec3Hasher> Publisher<'a, S, H> {
         question: &Question,
         now: &UnixTime,
     ) -> Result<Vec<SigningInput>, AnswerFault>
-        ensures inputs { let w = world_of S.signature_of S.verifies S.digest_of H.hash_of self.now in
-            let asked = asked_of question.now in
-            IfOk result (λ v. v.items ≡ answer_inputs w self.now.keys now.now asked) }
+        ensures inputs { let p = self.now in let asked = asked_of question.now in
+            let w = world_of S.signature_of S.verifies S.digest_of H.hash_of p in
+            IfOk result (λ v. v.items ≡ answer_inputs w p.keys now.now asked) }
         ensures fault { let w = world_of S.signature_of S.verifies S.digest_of H.hash_of self.now in
             IfErr result (RefusesInputs w (asked_of question.now)) }
     {
