@@ -161,3 +161,17 @@ module _ {S H : Type 0} (digest : Digest) (scheme : S) (hasher : H) (journal res
 
   pub end_settled : is_there (phase_view phase) ≡ true → IsSettledAt digest journal settled
   end_settled t = settled_end p.last p.last_accepted p.last_settled (p.last_there t)
+
+-- ---- a phase that ends in a state
+
+pub there_ended : (p : Phase) (s : State) → ended p ≡ Some s → is_there p ≡ true
+there_ended Empty s e = absurd (none_some e) where
+  none_some : None ≡ Some s → ⊥
+  none_some k = cc
+there_ended (Beginning z rs) s e = refl
+there_ended (Running r) s e = refl
+
+pub settled_ended : (p : Phase) (s : State) → ended p ≡ Some s → (length s.gathered == 0) ≡ true → is_settled p ≡ true
+settled_ended Empty s e h = refl
+settled_ended (Beginning z rs) s e h = refl
+settled_ended (Running r) s e h = let is : r ≡ s = cc in ap (λ (u : State). length u.gathered == 0) is ∙ h
