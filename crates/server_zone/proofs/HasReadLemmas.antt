@@ -2,7 +2,7 @@
 use Rattle.std.proofs.Common.{◌≡◌, ℕ, ◌+◌, ◌≤◌, ◌-◌, Bool, true, false, cond, List, [], ◌∷◌, ◌++◌, length, take, drop, refl, sym, ap, subst, ◌∙◌, arith, append_assoc, append-nil, length-append, Option, Some, None}
 use Rattle.std.specs.Prelude.{◌==◌}
 use Rattle.std.proofs.Math.Seq.{take-append_seam}
-use Rattle.std.proofs.lemmas.Bool.{false≢true}
+use Rattle.std.proofs.lemmas.Bool.{false≢true, eqb-true}
 use Rattle.messages.specs.HandedRr.{HandedRr}
 use Rattle.answer_publisher_keys.specs.Bindings.{Outcome, apply}
 use Rattle.answer_shared.specs.Hashing.{Hasher}
@@ -157,7 +157,7 @@ module _ {S H : Type 0} (digest : Digest) (scheme : S) (hasher : H) (journal res
   settled_end (Running r) e s t = (r, bind_some (with_lines digest Empty (whole_lines (take settled journal))) ended (Running r) e, none r.gathered s) where
     none : (rs : List HandedRr) → (length rs == 0) ≡ true → rs ≡ []
     none [] h = refl
-    none (x ∷ xs) h = absurd (false≢true h)
+    none (x ∷ xs) h = let zero_is : length (x ∷ xs) ≡ 0 = eqb-true (length (x ∷ xs)) 0 h in absurd (omega arith)
 
   pub end_settled : is_there (phase_view phase) ≡ true → IsSettledAt digest journal settled
   end_settled t = settled_end p.last p.last_accepted p.last_settled (p.last_there t)
