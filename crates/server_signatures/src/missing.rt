@@ -7,10 +7,7 @@ use answer_publisher::signing::SigningInput;
 use answer_shared::dnskey::ZoneKey;
 
 /// The inputs of which a table has no signature, in their order.
-pub(crate) fn missing(
-    table: &[MadeSignature<'_>],
-    inputs: Vec<SigningInput>,
-) -> Vec<SigningInput>
+pub(crate) fn missing(table: &[MadeSignature<'_>], inputs: Vec<SigningInput>) -> Vec<SigningInput>
     ensures { result.items ≡ missing table.now inputs.items }
 {
     let mut lacking = inputs;

@@ -113,7 +113,9 @@ fn add_key(alloc: Global, publisher: &mut TestPublisher, octets: Vec<u8>) -> Opt
     let (made, is_there) = (UnixTime::new(Duration::ZERO), Available::Available);
     let reference = text(alloc, "key")?;
     let private = Some(text(alloc, "private")?);
-    publisher.add_key_csk(reference, private, ecdsa, octets, made, is_there).ok()?;
+    publisher
+        .add_key_csk(reference, private, ecdsa, octets, made, is_there)
+        .ok()?;
     publisher.set_present("key", true, &made).ok()?;
     publisher.set_signer("key", true).ok()
 }
@@ -130,10 +132,15 @@ fn signed(
 ) -> Option<String> {
     let mut signatures = Vec::new(alloc);
     for input in inputs {
-        signatures.push(Sha256::digest(&input.octets).to_vec(alloc).ok()?).ok()?;
+        signatures
+            .push(Sha256::digest(&input.octets).to_vec(alloc).ok()?)
+            .ok()?;
     }
     let table = table_of(alloc, inputs, &signatures)?;
-    told(alloc, respond(alloc, publisher, &table, request, now, carried, terms).ok()?)
+    told(
+        alloc,
+        respond(alloc, publisher, &table, request, now, carried, terms).ok()?,
+    )
 }
 
 /// The table of some signatures.

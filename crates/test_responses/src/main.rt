@@ -25,7 +25,13 @@ fn answer_to(alloc: Global, answer: &mut Answer, line: &str) -> Option<()> {
     let query = octets_of(alloc, query)?;
     let message = octets_of(alloc, message)?;
     let query = read_query(&query).ok()?;
-    match response(alloc, &query, &message, size_limit(transport, query.edns), size) {
+    match response(
+        alloc,
+        &query,
+        &message,
+        size_limit(transport, query.edns),
+        size,
+    ) {
         Ok(octets) => answer.octets(&octets),
         Err(ResponseError::Unreadable) => answer.word("unreadable"),
         Err(ResponseError::Memory) => return None,
