@@ -137,7 +137,10 @@ static size_t put_ds(uint8_t *at, uint8_t algorithm, uint8_t digest_type, size_t
     return 6 + digest_len;
 }
 
-/* What is said beside a set of two DS records, of empty messages: insecure with an extended error, or that these are none. */
+/*
+ * What is said beside a set of two DS records, of empty messages: insecure with an extended error; or where that is 0, that these
+ * are none, with error 6.
+ */
 static void expect_beside(const uint8_t kinds[4], struct zermuita_octets algorithms, unsigned ede, const char *what) {
     uint8_t ds[256];
     size_t len = put_ds(ds, kinds[0], kinds[1], kinds[1] == 1 ? 20 : 32);
@@ -148,7 +151,7 @@ static void expect_beside(const uint8_t kinds[4], struct zermuita_octets algorit
     handed.ds = of(ds, len);
     handed.algorithms = algorithms;
     enum zermuita_reply reply = zermuita_judge(&handed, NULL, 0, &report);
-    expect(reply == (ede != 0 ? ZERMUITA_INSECURE : ZERMUITA_BAD_DNSKEY_MESSAGE) && report.ede == ede, what);
+    expect(reply == (ede != 0 ? ZERMUITA_INSECURE : ZERMUITA_BAD_DNSKEY_MESSAGE) && report.ede == (ede != 0 ? ede : 6), what);
     report.ede = 0;
     expect(is_empty(&report), what);
     handed.no_ds = 1;
