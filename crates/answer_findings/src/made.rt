@@ -2,10 +2,12 @@
 ghost use Rattle.std.specs.Prelude.{◌≡◌, IfOk, MatchResult};
 ghost use Rattle.std.specs.Option.{option_map};
 ghost use Rattle.messages.specs.Questions.{asked_of};
+ghost use Rattle.answer_judge_keys.specs.Judging.{answer_of};
+ghost use Rattle.answer_judge_table.specs.Asking.{is_out_of_memory};
 ghost use Rattle.answer_judge_table.specs.Outcomes.{IsOutcome};
 ghost use Rattle.answer_findings.specs.Judgements.{AreAskedAside, IsMadeOf, aside};
 
-use answer_judge::{Case, Judgement, Refused};
+use answer_judge::{Case, Judgement, Refusal, Refused};
 use answer_judge_table::{Ask, CheckedSignature, Outcome, judge_by_table};
 use messages::question::Question;
 use std::alloc::{AllocError, Global};
@@ -43,8 +45,20 @@ pub(crate) fn judged_aside(
         return Ok(Ok(None));
     };
     match outcome_aside(alloc, case, table, &question)? {
+        Outcome::Judged(said) if ran_out(&said) => Err(AllocError),
         Outcome::Judged(said) => Ok(Ok(Some(Made { question, said }))),
         Outcome::Asks(asks) => Ok(Err(asks)),
+    }
+}
+
+/// Whether a judgement ended for want of memory. What it would prove with memory would otherwise
+/// pass for not proven.
+fn ran_out(said: &Result<Judgement, Refused>) -> bool
+    ensures { result ≡ is_out_of_memory (answer_of said.now) }
+{
+    match said {
+        Ok(_) => false,
+        Err(refused) => refused.refusal == Refusal::Memory,
     }
 }
 
