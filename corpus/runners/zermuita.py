@@ -21,6 +21,7 @@ ALGORITHMS = [RSA, ECDSA, ED25519]
 SAYS = {
     zermuita.Verdict.RECORDS: (SECURE, "answer"), zermuita.Verdict.NODATA: (SECURE, "nodata"), zermuita.Verdict.NXDOMAIN: (SECURE, "nxdomain"),
     zermuita.Verdict.WILDCARD: (SECURE, "wildcard"), zermuita.Verdict.WILDCARD_NODATA: (SECURE, "wildcard-nodata"),
+    **dict.fromkeys((zermuita.Verdict.ALIAS, zermuita.Verdict.WILDCARD_ALIAS, zermuita.Verdict.DNAME), (SECURE, "alias")),
     zermuita.Verdict.OPTOUT: (INSECURE, "optout"), zermuita.Verdict.INSECURE: (INSECURE, "no-ds"),
 }
 ITERATIONS_OVER_LIMIT = 23
@@ -66,7 +67,7 @@ def said(library: Any, case: Case) -> Said:
         if refused.reply == ITERATIONS_OVER_LIMIT:
             return Said(INSECURE, "iterations", str(refused))
         return Said(BOGUS, "", str(refused))
-    if judgement.verdict == zermuita.Verdict.DELEGATED:
+    if judgement.verdict in (zermuita.Verdict.DELEGATED, zermuita.Verdict.REFERRAL):
         return delegated(case)
     if judgement.ede:
         return Said(INSECURE, "algorithms", f"{library.strerror(int(judgement.verdict))}, EDE {judgement.ede}")

@@ -9,7 +9,7 @@
 //! Lines that begin with `#` are printed alone.
 #![tactic(auto)]
 
-use server_queries::read_query;
+use server_queries::{Query, read_query};
 use server_responses::{ResponseError, Transport, response, size_limit};
 use std::alloc::Global;
 use std::io;
@@ -24,14 +24,22 @@ fn answer_to(alloc: Global, answer: &mut Answer, line: &str) -> Option<()> {
     let size = size.parse().ok()?;
     let query = octets_of(alloc, query)?;
     let message = octets_of(alloc, message)?;
-    let query = read_query(&query).ok()?;
-    match response(
-        alloc,
-        &query,
-        &message,
-        size_limit(transport, query.edns),
-        size,
-    ) {
+    match read_query(&query) {
+        Ok(query) => tell_response(alloc, answer, &query, &message, transport, size),
+        Err(_) => None,
+    }
+}
+
+fn tell_response(
+    alloc: Global,
+    answer: &mut Answer,
+    query: &Query<'_>,
+    message: &[u8],
+    transport: Transport,
+    size: u16,
+) -> Option<()> {
+    let limit = size_limit(transport, query.edns);
+    match response(alloc, query, message, limit, size) {
         Ok(octets) => answer.octets(&octets),
         Err(ResponseError::Unreadable) => answer.word("unreadable"),
         Err(ResponseError::Memory) => return None,
