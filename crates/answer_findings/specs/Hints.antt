@@ -1,4 +1,4 @@
--- Which records of an answer suggest other questions to judge it for.
+-- Records of an answer that suggest other questions to judge it for.
 use Rattle.std.specs.Prelude.{ℕ, Bool, ◌&&◌, ◌==◌, List, [], Option, Ok, Err}
 use Rattle.std.specs.List.{find, list_any}
 use Rattle.std.specs.Option.{option_map}

@@ -1,4 +1,4 @@
-//! Which other questions a case's messages are judged for.
+//! The other questions that a case's messages are judged for.
 ghost use Rattle.std.specs.Prelude.{◌≡◌, IfOk, map};
 ghost use Rattle.std.specs.Option.{option_map};
 ghost use Rattle.definitions.specs.Limits.{pointer_limit};

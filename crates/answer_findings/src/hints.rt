@@ -1,4 +1,4 @@
-//! Which records of an answer suggest other questions to judge it for. Nothing of them is verified.
+//! Records of an answer that suggest other questions to judge it for. Nothing of them is verified.
 ghost use Rattle.std.specs.Prelude.{◌≡◌, IfOk, map};
 ghost use Rattle.std.specs.List.{find, list_any};
 ghost use Rattle.std.specs.Option.{option_map};

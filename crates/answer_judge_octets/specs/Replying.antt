@@ -335,8 +335,8 @@ is_carried m n c = stands_in m c.tried.signature || stands_in n c.tried.signatur
 abbrev pub most_of : ℕ → ℕ
 most_of number = if number == 0 then 16 else number
 
--- So many more are asked for that there are too many: with the entries of the table whose signatures stand in the messages, so with
--- all that was asked for of them before (CVE-2023-50387).
+-- Whether what is asked for makes too many signatures, beside the entries of the table whose
+-- signatures stand in the messages, so beside all that was asked for of them before (CVE-2023-50387).
 abbrev pub are_too_many : ℕ → Handing → List Checked → ℕ → Bool
 are_too_many most h table more = nat_lt (most_of most) (length (filter (is_carried h.dnskey_bytes h.answer_bytes) table) + more)
 

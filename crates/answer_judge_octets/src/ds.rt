@@ -1,4 +1,4 @@
-//! Which records of a DS set are judged by.
+//! The records of a DS set that are judged by.
 ghost use Rattle.std.specs.Prelude.{◌≡◌};
 ghost use Rattle.std.specs.List.{list_any};
 ghost use Rattle.answer_judge_octets.specs.Replying.{counts_for, is_checked, is_made, judged_ds, unsupported};

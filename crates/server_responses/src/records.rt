@@ -12,7 +12,7 @@ use numbers::rtype::Rtype;
 use numbers::ttl::Ttl;
 use std::alloc::AllocError;
 
-/// Which records of a section a response has, and with which TTLs.
+/// What decides the records of a section that a response has, and their TTLs.
 #[derive(Debug, Drop)]
 pub(crate) struct Section {
     /// Whether it is the authority section.

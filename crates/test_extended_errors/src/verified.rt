@@ -1,4 +1,4 @@
-//! Which records of an answer are verified.
+//! The records of an answer that are verified.
 ghost use Rattle.std.specs.Prelude.{◌≡◌, ◌<◌};
 
 use crate::scheme::Copying;
@@ -17,7 +17,7 @@ pub fn verified(alloc: Global, case: &Case) -> Option<String> {
     verified_by::<Brand, Brand>(alloc, case, first, second)
 }
 
-/// The same, of checks that are counted.
+/// The numbers, by checks that count signatures and hashes.
 fn verified_by<L: Ledger, M: Ledger>(
     alloc: Global,
     case: &Case,
