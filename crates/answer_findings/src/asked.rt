@@ -7,7 +7,10 @@ ghost use Rattle.messages.specs.Record.{spelled};
 ghost use Rattle.answer_judge_keys.specs.Judging.{answer_of};
 ghost use Rattle.answer_judge_rules.specs.Rules.{verdict_of};
 ghost use Rattle.answer_findings.specs.Hints.{answer_records};
-ghost use Rattle.answer_findings.specs.Judgements.{alias_hint, alias_question, asking, cut_question, ds_question, first_question, is_delegated, is_no_type, is_unproven, ns_question, says_delegated, seeks_delegation};
+ghost use Rattle.answer_findings.specs.Judgements.{alias_hint, alias_question, asking};
+ghost use Rattle.answer_findings.specs.Judgements.{cut_question, ds_question, first_question};
+ghost use Rattle.answer_findings.specs.Judgements.{is_delegated, is_no_type, is_unproven};
+ghost use Rattle.answer_findings.specs.Judgements.{ns_question, says_delegated, seeks_delegation};
 
 use crate::hints::{Hint, answer_records, has_cname, owner_among};
 use answer_judge::{Case, Judgement, Refusal, Refused, Verdict};

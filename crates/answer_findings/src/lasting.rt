@@ -1,6 +1,7 @@
 //! How long what is found lasts.
 ghost use Rattle.std.specs.Prelude.{◌≡◌};
-ghost use Rattle.answer_findings.specs.Lasts.{lasting_by, lasting_in, lasting_of, lastings_of, least, least_of};
+ghost use Rattle.answer_findings.specs.Lasts.{lasting_by, lasting_in, lasting_of, lastings_of};
+ghost use Rattle.answer_findings.specs.Lasts.{least, least_of};
 ghost use Rattle.answer_findings.specs.Seen.{seen};
 
 use crate::finding::Finding;

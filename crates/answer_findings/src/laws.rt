@@ -1,6 +1,8 @@
 //! Laws of what verdicts on other questions say of a name. Each is the contract of a function that
 //! does nothing.
-ghost use Rattle.answer_findings.specs.Laws.{DnamesRedirect, DsVerdictsTellDelegations, OwnCnamesRename, OwnDsVerdictsCut, RecordsAreThere, StarCnamesRename};
+ghost use Rattle.answer_findings.specs.Laws.{DnamesRedirect, DsVerdictsTellDelegations};
+ghost use Rattle.answer_findings.specs.Laws.{OwnCnamesRename, OwnDsVerdictsCut, RecordsAreThere};
+ghost use Rattle.answer_findings.specs.Laws.{StarCnamesRename};
 
 /// A name whose CNAME a zone answers is an alias for each other type, and leads to the CNAME's
 /// name: its own CNAME, or that of the wildcard that stands for it (RFC 1034, 3.6.2; RFC 4592,

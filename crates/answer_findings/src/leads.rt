@@ -4,7 +4,8 @@ ghost use Rattle.std.specs.Option.{option_map};
 ghost use Rattle.definitions.specs.Name.{at_or_above};
 ghost use Rattle.denial_laws.specs.Leading.{exchanged};
 ghost use Rattle.answer_findings.specs.Judgements.{question_of};
-ghost use Rattle.answer_findings.specs.Seen.{lead_found, lead_seen, named_lead, one_name, own_lead, seen, star_lead};
+ghost use Rattle.answer_findings.specs.Seen.{lead_found, lead_seen, named_lead, one_name, own_lead};
+ghost use Rattle.answer_findings.specs.Seen.{seen, star_lead};
 
 use crate::finding::{Finding, Lead};
 use crate::made::Made;
@@ -42,7 +43,8 @@ fn own_lead(
     made: &Made,
     datas: &DataList,
 ) -> Result<Option<Finding>, AllocError>
-    ensures { let led = named_lead (own_lead case.now (question_of made.now)) (one_name datas.now) in
+    ensures { let led = named_lead (own_lead case.now (question_of made.now))
+        (one_name datas.now) in
         IfOk result (λ f. option_map seen f ≡ led) }
 {
     let Some(target) = one_name(alloc, datas)? else {

@@ -3,7 +3,8 @@ ghost use Rattle.std.specs.Prelude.{IfOk, MatchResult};
 ghost use Rattle.definitions.specs.Limits.{pointer_limit};
 ghost use Rattle.answer_judge_keys.specs.Judging.{answer_of};
 ghost use Rattle.answer_findings.specs.Found.{AreAskedFor};
-ghost use Rattle.answer_findings.specs.Judgements.{IsMadeOf, alias_question, ds_question, first_question, ns_question};
+ghost use Rattle.answer_findings.specs.Judgements.{IsMadeOf, alias_question, ds_question};
+ghost use Rattle.answer_findings.specs.Judgements.{first_question, ns_question};
 
 use crate::asked::{alias_question, ds_question, first_question, ns_question};
 use crate::made::{Made, judged_aside};

@@ -4,7 +4,11 @@ ghost use Rattle.std.specs.Option.{option_map};
 ghost use Rattle.answer_judge_keys.specs.Judging.{answer_of, hashes_of, verifications_of};
 ghost use Rattle.answer_judge_rules.specs.Rules.{verdict_of};
 ghost use Rattle.answer_findings.specs.Found.{ComesTo};
-ghost use Rattle.answer_findings.specs.Seen.{answers_ds, cut_found, delegates_found, delegates_said, found_by, hashed_by, hashed_in, lead_found, no_ds_found, referral_found, refusal_found, seen, verdict_found, verified_by, verified_in};
+ghost use Rattle.answer_findings.specs.Seen.{answers_ds, cut_found, delegates_found};
+ghost use Rattle.answer_findings.specs.Seen.{delegates_said, found_by, hashed_by, hashed_in};
+ghost use Rattle.answer_findings.specs.Seen.{lead_found, no_ds_found, referral_found};
+ghost use Rattle.answer_findings.specs.Seen.{refusal_found, seen, verdict_found, verified_by};
+ghost use Rattle.answer_findings.specs.Seen.{verified_in};
 
 use crate::asked::{is_delegated, is_no_type, says_delegated};
 use crate::finding::{Finding, Found};
@@ -73,7 +77,8 @@ fn verdict_found(
     ns: &Option<Made>,
     ds: &Option<Made>,
 ) -> Result<Finding, AllocError>
-    ensures { IfOk result (λ f. seen f ≡ verdict_found case.now ns.now ds.now (verdict_of verdict)) }
+    ensures { IfOk result (λ f. seen f
+        ≡ verdict_found case.now ns.now ds.now (verdict_of verdict)) }
 {
     if is_delegated(&verdict) {
         return Ok(Finding::Delegated(cut_found(alloc, ns, ds)?));

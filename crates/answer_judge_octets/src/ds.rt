@@ -1,7 +1,8 @@
 //! The records of a DS set that are judged by.
 ghost use Rattle.std.specs.Prelude.{◌≡◌};
 ghost use Rattle.std.specs.List.{list_any};
-ghost use Rattle.answer_judge_octets.specs.Replying.{counts_for, is_checked, is_made, judged_ds, unsupported};
+ghost use Rattle.answer_judge_octets.specs.Replying.{counts_for, is_checked, is_made, judged_ds};
+ghost use Rattle.answer_judge_octets.specs.Replying.{unsupported};
 
 use denial_data::Ds;
 use numbers::algorithm::{DigestAlgorithm, SecurityAlgorithm};

@@ -3,7 +3,8 @@ ghost use Rattle.std.specs.Prelude.{◌≡◌, ◌≤◌, ◌∷◌, Bool, List,
 ghost use Rattle.std.specs.Option.{option_map};
 ghost use Rattle.definitions.specs.Dnskey.{Ds as Digest};
 ghost use Rattle.denial_keys.specs.Keys.{ds_data};
-ghost use Rattle.answer_judge_octets.specs.Written.{FitsChecked, FitsDs, checked_octets, passes_octets, Splits};
+ghost use Rattle.answer_judge_octets.specs.Written.{FitsChecked, FitsDs, checked_octets};
+ghost use Rattle.answer_judge_octets.specs.Written.{passes_octets, Splits};
 
 use crate::list::{Entry, Written};
 use crate::parts::{split_long, split_short};

@@ -1,6 +1,7 @@
 //! Laws of cases in octets.
 
-ghost use Rattle.answer_judge_octets.specs.Laws.{AsksStayFew, ListsGrow, OctetsSpellOneCase, ToldAreInForm};
+ghost use Rattle.answer_judge_octets.specs.Laws.{AsksStayFew, ListsGrow, OctetsSpellOneCase};
+ghost use Rattle.answer_judge_octets.specs.Laws.{ToldAreInForm};
 
 /// The octets of a case spell one thing to be judged, and one table of signatures, if any.
 pub fn octets_spell_one_case()

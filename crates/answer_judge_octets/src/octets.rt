@@ -3,7 +3,8 @@ ghost use Rattle.std.specs.Prelude.{◌≡◌, ◌⊎◌, Some, None, false, IfO
 ghost use Rattle.std.specs.Cow.{cow_slice_items};
 ghost use Rattle.messages.specs.NameOctets.{name_of_octets};
 ghost use Rattle.messages_canonical.specs.InForm.{GrowsTooLong};
-ghost use Rattle.answer_judge_octets.specs.Replying.{Answers, IsJudged, Replies, SaysFound, Unread, flag_in, reply_seen, report_of};
+ghost use Rattle.answer_judge_octets.specs.Replying.{Answers, IsJudged, Replies, SaysFound, Unread};
+ghost use Rattle.answer_judge_octets.specs.Replying.{flag_in, reply_seen, report_of};
 ghost use Rattle.answer_judge_octets.specs.ReadCases.{ReadsAs, handing_of};
 
 use crate::ds::{judged_ds, unsupported};

@@ -7,8 +7,15 @@ ghost use Rattle.answer_judge_rules.specs.Rules.{verdict_of};
 ghost use Rattle.answer_findings.specs.Seen.{lead_seen, seen};
 ghost use Rattle.answer_judge_octets.specs.declared.reply.ReplyCode.{ReplyCode};
 ghost use Rattle.answer_judge_table.specs.Asking.{unchecked};
-ghost use Rattle.answer_judge_octets.specs.Written.{FitsChecked, IsLong, IsShort, checked_octets, with_long_length};
-ghost use Rattle.answer_judge_octets.specs.Replying.{AsksOrStops, code_of_refusal, code_of_verdict, code_found, counted, delegates_found, entries_of, error_beside, found_reply, is_refusal, is_verdict, number_of, octets_found, octets_of_dname, octets_of_verdict, only, refusal_reply, reply_seen, ttl_of, until_of};
+ghost use Rattle.answer_judge_octets.specs.Written.{FitsChecked, IsLong, IsShort, checked_octets};
+ghost use Rattle.answer_judge_octets.specs.Written.{with_long_length};
+ghost use Rattle.answer_judge_octets.specs.Replying.{AsksOrStops, code_of_refusal, code_of_verdict};
+ghost use Rattle.answer_judge_octets.specs.Replying.{code_found, counted, delegates_found};
+ghost use Rattle.answer_judge_octets.specs.Replying.{entries_of, error_beside, found_reply};
+ghost use Rattle.answer_judge_octets.specs.Replying.{is_refusal, is_verdict, number_of};
+ghost use Rattle.answer_judge_octets.specs.Replying.{octets_found, octets_of_dname};
+ghost use Rattle.answer_judge_octets.specs.Replying.{octets_of_verdict, only, refusal_reply};
+ghost use Rattle.answer_judge_octets.specs.Replying.{reply_seen, ttl_of, until_of};
 
 use answer_findings::{Finding, Lead};
 use answer_judge::{DataList, Lasting, Refusal, Verdict};
@@ -462,7 +469,8 @@ fn put_short(octets: &mut Vec<u8>, part: &[u8]) -> Result<(), AllocError>
 
 /// Appends octets behind their length in four octets.
 fn put_long(octets: &mut Vec<u8>, part: &[u8]) -> Result<(), AllocError>
-    ensures octets { OnOk result (octets.new.items ≡ octets.old.items ++ with_long_length part.now) }
+    ensures octets { OnOk result (octets.new.items ≡ octets.old.items
+        ++ with_long_length part.now) }
     ensures long { OnOk result (IsLong part.now) }
 {
     let len = u32::try_from(part.len()).map_err(|_| AllocError)?;

@@ -2,7 +2,8 @@
 ghost use Rattle.std.specs.Prelude.{◌≡◌, IfOk};
 ghost use Rattle.answer_judge_rules.specs.Rules.{verdict_of};
 ghost use Rattle.answer_findings.specs.Seen.{seen};
-ghost use Rattle.resolution_step.specs.Told.{IsCutTold, cut_said, cut_searched, cut_told, search_of, told};
+ghost use Rattle.resolution_step.specs.Told.{IsCutTold, cut_said, cut_searched, cut_told};
+ghost use Rattle.resolution_step.specs.Told.{search_of, told};
 ghost use Rattle.resolution_step.specs.Truth.{TellsCutTruly};
 
 use crate::canonical::canonical_name;

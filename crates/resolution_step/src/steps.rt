@@ -4,7 +4,8 @@ ghost use Rattle.messages.specs.Questions.{asked_of};
 ghost use Rattle.answer_judge_rules.specs.Rules.{verdict_of};
 ghost use Rattle.answer_findings.specs.Judgements.{asking, aside};
 ghost use Rattle.answer_findings.specs.Seen.{seen};
-ghost use Rattle.resolution_step.specs.Told.{IsCutTold, IsSearchTold, IsSeenTold, IsTold, IsToldAt, at_cut, referral_told, search_of, told, verdict_told};
+ghost use Rattle.resolution_step.specs.Told.{IsCutTold, IsSearchTold, IsSeenTold, IsTold, IsToldAt};
+ghost use Rattle.resolution_step.specs.Told.{at_cut, referral_told, search_of, told, verdict_told};
 ghost use Rattle.resolution_step.specs.Truth.{TellsTruly};
 
 use crate::cuts::cut_step;

@@ -4,7 +4,9 @@ ghost use Rattle.std.specs.List.{flat_map};
 ghost use Rattle.messages.specs.Record.{spelled};
 ghost use Rattle.messages.specs.Written.{record_octets};
 ghost use Rattle.server_queries.specs.Views.{queried_of};
-ghost use Rattle.server_responses.specs.Responses.{AnswersQuery, IsUnreadable, answers_shown, authority_shown, error_response, is_dnssec_ok, response_flags, whole_response};
+ghost use Rattle.server_responses.specs.Responses.{AnswersQuery, IsUnreadable, answers_shown};
+ghost use Rattle.server_responses.specs.Responses.{authority_shown, error_response, is_dnssec_ok};
+ghost use Rattle.server_responses.specs.Responses.{response_flags, whole_response};
 
 use crate::records::{
     Section, answer_section, authority_section, negative_ttl, pair_at, push_section,

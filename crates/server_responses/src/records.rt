@@ -1,10 +1,13 @@
 //! The records of a response.
-ghost use Rattle.std.specs.Prelude.{◌≡◌, ◌++◌, ◌+◌, ◌≤◌, length, drop, map, slice_index, take, OnOk, IfOk};
+ghost use Rattle.std.specs.Prelude.{◌≡◌, ◌++◌, ◌+◌, ◌≤◌, length, drop, map, slice_index, take};
+ghost use Rattle.std.specs.Prelude.{OnOk, IfOk};
 ghost use Rattle.std.specs.List.{flat_map};
 ghost use Rattle.messages.specs.Message.{quad, pair};
 ghost use Rattle.messages.specs.Record.{spelled};
 ghost use Rattle.messages.specs.Written.{record_octets};
-ghost use Rattle.server_responses.specs.Sections.{all_shown, answer_section, authority_section, is_left_out, is_soa_or_its_signature, minimum_at, negative_ttl, shown, shown_ttl};
+ghost use Rattle.server_responses.specs.Sections.{all_shown, answer_section, authority_section};
+ghost use Rattle.server_responses.specs.Sections.{is_left_out, is_soa_or_its_signature, minimum_at};
+ghost use Rattle.server_responses.specs.Sections.{negative_ttl, shown, shown_ttl};
 
 use crate::write::push_view_record;
 use messages::view::ViewRecord;
