@@ -1,8 +1,15 @@
 //! What rules of denial are needed for. Each law is the contract of a function that does nothing.
 ghost use Rattle.std.specs.Prelude.{true, false, []};
 ghost use Rattle.definitions.specs.ZoneChain.{Nsec, Nsec3};
-ghost use Rattle.counterexamples_denial.specs.Falsely.{DecidesFalsely, MissesOwnAnswer, RightChoicesAreTheRules, RightChoicesAreNeverFalse, RightChoicesMissNothing};
-ghost use Rattle.counterexamples_denial.specs.Mistakes.{all_open, nothing, without_delegations, without_child_types, without_wildcards, without_label_counts, by_wire_octets, without_non_terminals, without_opt_out, without_aliases, without_redirections};
+ghost use Rattle.counterexamples_denial.specs.Falsely.{DecidesFalsely, MissesOwnAnswer};
+ghost use Rattle.counterexamples_denial.specs.Falsely.{RightChoicesAreTheRules};
+ghost use Rattle.counterexamples_denial.specs.Falsely.{RightChoicesAreNeverFalse};
+ghost use Rattle.counterexamples_denial.specs.Falsely.{RightChoicesMissNothing};
+ghost use Rattle.counterexamples_denial.specs.Mistakes.{all_open, nothing, without_delegations};
+ghost use Rattle.counterexamples_denial.specs.Mistakes.{without_child_types, without_wildcards};
+ghost use Rattle.counterexamples_denial.specs.Mistakes.{without_label_counts, by_wire_octets};
+ghost use Rattle.counterexamples_denial.specs.Mistakes.{without_non_terminals, without_opt_out};
+ghost use Rattle.counterexamples_denial.specs.Mistakes.{without_aliases, without_redirections};
 
 /// With all choices made rightly the rules are those of `denial_laws`. They never decide falsely,
 /// and miss no zone's own answer.

@@ -3,10 +3,22 @@
 ghost use Rattle.std.specs.Prelude.{[], ◌∷◌};
 ghost use Rattle.definitions.specs.Zone.{NoName, Records};
 ghost use Rattle.answer_judge_keys.specs.Judging.{Says, Refuses};
-ghost use Rattle.answer_judge_keys.specs.declared.verdict.Refusal.TheVariants.{MixedVersions, NoTrustedKey, NotProven};
-ghost use Rattle.counterexamples_honest.specs.Premises.{AllAreHonest, IsHonestCase, IsMixture, NoneIsFalse, SaysFalsely, without_alone, without_answer_unforged, without_childless, without_ds, without_hashes_apart, without_keys_known, without_keys_published, without_keys_unforged, without_ordinary, without_settled, without_uncut};
+ghost use Rattle.answer_judge_keys.specs.declared.verdict.Refusal.TheVariants.{MixedVersions};
+ghost use Rattle.answer_judge_keys.specs.declared.verdict.Refusal.TheVariants.{NoTrustedKey};
+ghost use Rattle.answer_judge_keys.specs.declared.verdict.Refusal.TheVariants.{NotProven};
+ghost use Rattle.counterexamples_honest.specs.Premises.{AllAreHonest, IsHonestCase, IsMixture};
+ghost use Rattle.counterexamples_honest.specs.Premises.{NoneIsFalse, SaysFalsely, without_alone};
+ghost use Rattle.counterexamples_honest.specs.Premises.{without_answer_unforged, without_childless};
+ghost use Rattle.counterexamples_honest.specs.Premises.{without_ds, without_hashes_apart};
+ghost use Rattle.counterexamples_honest.specs.Premises.{without_keys_known, without_keys_published};
+ghost use Rattle.counterexamples_honest.specs.Premises.{without_keys_unforged, without_ordinary};
+ghost use Rattle.counterexamples_honest.specs.Premises.{without_settled, without_uncut};
 ghost use Rattle.counterexamples_honest.specs.Quoted.{QuotesAreHonest};
-ghost use Rattle.counterexamples_honest.specs.Rows.{aliased, at_alias, begun_at_once, below_redirected, first_version, forged_late, mixed, of_idle, of_other_signer, of_strangers, own, redirected, second_version, small, spliced, starred};
+ghost use Rattle.counterexamples_honest.specs.Rows.{aliased, at_alias, begun_at_once};
+ghost use Rattle.counterexamples_honest.specs.Rows.{below_redirected, first_version, forged_late};
+ghost use Rattle.counterexamples_honest.specs.Rows.{mixed, of_idle, of_other_signer, of_strangers};
+ghost use Rattle.counterexamples_honest.specs.Rows.{own, redirected, second_version, small};
+ghost use Rattle.counterexamples_honest.specs.Rows.{spliced, starred};
 ghost use Rattle.counterexamples_honest.specs.World.{address, plain};
 
 /// Messages that meet all premises are honest, and no verdict on them is false.

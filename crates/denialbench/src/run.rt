@@ -1,12 +1,14 @@
 //! A run of the bench: from what a reader gives to what a writer takes.
-ghost use Rattle.std.specs.Prelude.{◌≡◌, ◌≢◌, ◌↔◌, ◌≤◌, ◌+◌, ℕ, List, [], ◌∷◌, ◌++◌, map, codes, OnOk, IfOk, IfSome, string_bytes};
+ghost use Rattle.std.specs.Prelude.{◌≡◌, ◌≢◌, ◌↔◌, ◌≤◌, ◌+◌, ℕ, List, [], ◌∷◌, ◌++◌, map, codes};
+ghost use Rattle.std.specs.Prelude.{OnOk, IfOk, IfSome, string_bytes};
 ghost use Rattle.std.specs.List.{flat_map};
 ghost use Rattle.std.specs.Io.KnownBytes.{Appends, IsAtEnd};
 ghost use Rattle.messages.specs.HandedRr.{handed_of};
 ghost use Rattle.denialbench_session.specs.Readings.{zone_view, event_view};
 ghost use Rattle.denialbench_print.specs.Names.{zone_fault_name};
 ghost use Rattle.denialbench_print.specs.Printed.{outcome_text};
-ghost use Rattle.denialbench.specs.Responses.{Answers, IsUnreadable, Responds, PrintsSession, refused_line};
+ghost use Rattle.denialbench.specs.Responses.{Answers, IsUnreadable, Responds, PrintsSession};
+ghost use Rattle.denialbench.specs.Responses.{refused_line};
 
 use crate::input::{LimitedRead, read_all};
 use crate::status::Status;
