@@ -5,9 +5,10 @@ use Rattle.definitions.specs.Name.{Name, at_or_above, strictly_above}
 use Rattle.definitions.specs.Zone.{Verdict, NoType, Delegated}
 use Rattle.messages.specs.Message.{Asked}
 use Rattle.messages.specs.Questions.{asked_of}
-use Rattle.answer_judge_keys.specs.Judging.{Answer, Says, Refuses, Handing}
+use Rattle.answer_judge_keys.specs.Judging.{Answer, Says, Refuses, Handing, answer_of}
 use Rattle.answer_judge_keys.specs.declared.verdict.Refusal.{Refusal}
 use Rattle.answer_judge_keys.specs.declared.verdict.Refusal.TheVariants as r
+use Rattle.answer_judge.specs.Decided.{is_out_of_memory}
 use Rattle.answer_judge_table.specs.Asking.{AreAsked}
 use Rattle.answer_judge_table.specs.Outcomes.{IsJudgedBy}
 use Rattle.answer_judge_table.specs.Table.{Checked, Tried}
@@ -33,10 +34,15 @@ asked_in made = option_map question_of made
 abbrev pub IsMade : List Checked → Handing → Made → Type 0
 IsMade table h m = IsJudgedBy table (aside h (question_of m)) m.said
 
--- that of a question, if one is wanted
+-- it did not end for want of memory
+abbrev pub IsMadeInMemory : Made → Type 0
+IsMadeInMemory m = is_out_of_memory (answer_of m.said) ≡ false
+
+-- That of a question, if one is wanted. One that memory ran out for says nothing of what the answer proves: it is none.
 pub record IsMadeOf (table : List Checked) (h : Handing) (wanted : Option Asked) (made : Option Made) : Type 0 where
   pub asked : asked_in made ≡ wanted
   pub judged : IfSome made (IsMade table h)
+  pub in_memory : IfSome made IsMadeInMemory
 
 -- signatures that are asked for, for it
 pub record AreAskedAside (table : List Checked) (h : Handing) (wanted : Option Asked) (asks : List Tried) : Type 0 where

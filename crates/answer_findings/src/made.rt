@@ -3,7 +3,7 @@ ghost use Rattle.std.specs.Prelude.{◌≡◌, IfOk, MatchResult};
 ghost use Rattle.std.specs.Option.{option_map};
 ghost use Rattle.messages.specs.Questions.{asked_of};
 ghost use Rattle.answer_judge_keys.specs.Judging.{answer_of};
-ghost use Rattle.answer_judge_table.specs.Asking.{is_out_of_memory};
+ghost use Rattle.answer_judge.specs.Decided.{is_out_of_memory};
 ghost use Rattle.answer_judge_table.specs.Outcomes.{IsOutcome};
 ghost use Rattle.answer_findings.specs.Judgements.{AreAskedAside, IsMadeOf, aside};
 

@@ -19,6 +19,7 @@ pub mod GivenJudged
 pub mod GivenMoments
 pub mod JudgeTotals
 pub mod JudgedWholly
+pub mod Decided
 pub mod GivenGroups
 pub mod FirstSigns
 pub mod BothChains

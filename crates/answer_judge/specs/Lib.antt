@@ -1,5 +1,6 @@
 pub mod Meeting
 pub mod Beyond
+pub mod Decided
 pub mod Stages
 pub mod FirstSignature
 pub mod OwnFacts

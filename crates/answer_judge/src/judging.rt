@@ -7,6 +7,7 @@ ghost use Rattle.answer_judge_facts.specs.Counted.{Counts, hashes_due, verificat
 ghost use Rattle.messages.specs.Message.{Asked, message};
 ghost use Rattle.messages.specs.View.{Gives};
 ghost use Rattle.answer_judge.specs.Beyond.{SaysBeyond};
+ghost use Rattle.answer_judge.specs.Decided.{HashesDecided, HashesDecidedBeyond};
 ghost use Rattle.answer_honest.specs.Honest.{AnswersHonest};
 ghost use Rattle.answer_judge.specs.Timely.{RefusesUntimely};
 ghost use Rattle.answer_judge_facts.specs.Judged.{judged, said, AnswersAs};
@@ -97,6 +98,10 @@ impl<'a> Case<'a> {
     /// there that is sought and that no earlier one verified, each under the key of its tag and
     /// algorithm.
     ///
+    /// No name is hashed before all signatures that are due were verified (CVE-2023-50868). Where
+    /// one is hashed, even if memory runs out then, the judgement is the same, whichever signatures
+    /// pass of those that `verify` was not asked about.
+    ///
     /// A verdict lasts up to a second that is said beside it: at each moment up to there the same
     /// messages get the same verdict (`answer_judge_facts::laws::verdicts_last`).
     pub fn judge<C: Checks>(&self, alloc: Global, checks: &mut C) -> Result<Judgement, Refused>
@@ -117,6 +122,9 @@ impl<'a> Case<'a> {
         ensures agreeing { (test : SignatureTest) → C.agrees checks.new test
             → C.agrees checks.old test
             × JudgesSo pointer_limit (with_test (C.answers checks.old) test) self.now result }
+        ensures decided { let k = pointer_limit in let a = C.answers checks.old in
+            let n = verifications_of result in
+            HashesDecided a (C.agrees checks.new) k self.now n (hashes_of result) }
         ensures lasts { EachAgreeing (C.answers checks.old) (C.agrees checks.new)
             (λ a. LastsSo pointer_limit a self.now result) }
         ensures asked { let a = C.answers checks.old in
@@ -195,6 +203,9 @@ fn judge_messages<C: Checks>(
     ensures says { EachAgreeing (C.answers verifier.old.checks.now)
         (C.agrees verifier.new.checks.now)
         (λ a. SaysBeyond a pointer_limit case.now (said result) verifier.new.count hashes.new) }
+    ensures decided { let a = C.answers verifier.old.checks.now in
+        let agrees = C.agrees verifier.new.checks.now in
+        HashesDecidedBeyond a agrees case.now verifier.new.count hashes.new }
     ensures verdict { OnOk result (message_refusal pointer_limit case.now ≡ None) }
     ensures lasts { EachAgreeing (C.answers verifier.old.checks.now)
         (C.agrees verifier.new.checks.now)

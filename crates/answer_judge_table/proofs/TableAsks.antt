@@ -1,20 +1,21 @@
 -- What comes of a judgement that goes on at signatures which a table lacks, as if they passed.
-use Rattle.std.proofs.Common.{◌≡◌, ◌==◌, ℕ, ◌<◌, ◌≤◌, length, arith, Bool, true, false, List, [], ◌∷◌, zero, suc, ap, sym, ◌∙◌, ⊎_elim}
-use Rattle.std.specs.Prelude.{Result, unwrap_or}
+use Rattle.std.proofs.Common.{◌≡◌, ◌==◌, ℕ, ◌<◌, ◌≤◌, length, arith, Bool, true, false, ◌&&◌, List, [], ◌∷◌, zero, suc, ap, refl, subst, sym, ◌∙◌, inl, inr, ⊎_elim}
+use Rattle.std.specs.Prelude.{Result, IsOk, unwrap_or}
 use Rattle.std.specs.List.{AllByRecursion}
 use Rattle.std.proofs.lemmas.Bool.{false≢true}
 use Rattle.definitions.specs.Limits.{pointer_limit}
-use Rattle.answer_scheme.specs.Answers.{SignatureTest}
+use Rattle.answer_scheme.specs.Answers.{Answers, SignatureTest, with_test}
 use Rattle.answer_judge_facts.specs.Asked.{is_tried_signature}
 use Rattle.answer_judge_facts.specs.Counted.{Counts}
 use Rattle.answer_judge_facts.specs.Lasting.{LastsSo}
 use Rattle.answer_judge_keys.specs.Judging.{Answer, Handing, answer_of, verification_bound}
 use Rattle.answer_judge_keys.specs.declared.verdict.Judgement.{Judgement}
 use Rattle.answer_judge_keys.specs.declared.verdict.Refused.{Refused}
-use Rattle.answer_judge.specs.Meeting.{JudgesSo}
-use Rattle.answer_judge_table.specs.Asking.{AreAsked, PassesEach, are_new, due_by, is_out_of_memory}
+use Rattle.answer_judge.specs.Decided.{HashesDecided, IsDecided, is_out_of_memory}
+use Rattle.answer_judge.specs.Meeting.{IsJudgement, JudgesSo}
+use Rattle.answer_judge_table.specs.Asking.{AgreesAsking, AreAsked, PassesEach, are_new, due_by, is_cut_short}
 use Rattle.answer_judge_table.specs.Outcomes.{IsJudgedBy}
-use Rattle.answer_judge_table.specs.Table.{AgreesWith, Checked, Tried, answers_with, may_pass_in, passes_in}
+use Rattle.answer_judge_table.specs.Table.{AgreesWith, Checked, Tried, answers_with, may_pass_in, passes_in, tried}
 use Rattle.answer_judge_table.proofs.HonestTable.{stays_honest}
 
 -- where nothing is asked for, whatever is asked for passes
@@ -42,14 +43,54 @@ module _ (table : List Checked) (h : Handing) (said : Result Judgement Refused) 
         stays_honest (passes_in table) passes true_are pointer_limit h (answer_of said) (by_table (passes_in table) (λ t b is. ap (λ o. unwrap_or o false) is)).honest;
   }
 
-  -- some are asked for
-  pub are_asked : (asks : List Tried) (n : ℕ) → 0 < length asks → are_new table asks ≡ true → length asks ≤ n → n ≤ verification_bound pointer_limit h → n ≤ due_by (may_pass_in table) h
-      → PassesEach asks (is_tried_signature (answers_with (may_pass_in table)) pointer_limit h) → is_out_of_memory (answer_of said) ≡ false
-      → ((passes : Tried → Bool) → AgreesWith table passes → AllByRecursion (λ t. passes t ≡ true) asks → JudgesSo pointer_limit (answers_with passes) h said) → AreAsked table h asks
-  are_asked asks n some new counts bound due tried enough made = record {
-    some = some;
-    are_new = new;
-    few = omega arith;
-    tried = record { each = tried; due = omega arith };
-    all = record { said = said; in_memory = enough; made = made };
-  }
+-- ---- where signatures are asked for
+
+module _ {E : Type 0} (table : List Checked) (h : Handing) (held : List Tried) (kept : Result (Unit {0}) E) where
+  abbrev own : Answers
+  own = answers_with (may_pass_in table)
+
+  abbrev agrees : SignatureTest → Type 0
+  agrees test = AgreesAsking table held kept test
+
+  module _ (answer : Answer) (verifications hashes : ℕ) (mine : IsJudgement pointer_limit own h answer verifications hashes) (each : (test : SignatureTest) → agrees test → IsJudgement pointer_limit (with_test own test) h answer verifications hashes) where
+    -- in memory enough
+    said_whole : is_out_of_memory answer ≡ false → IsDecided own agrees pointer_limit h verifications
+    said_whole enough = record {
+      answer = answer;
+      hashes = hashes;
+      in_memory = enough;
+      made = λ test fits. ⊎_elim (λ same. subst (λ (t : SignatureTest). IsJudgement pointer_limit (with_test own t) h answer verifications hashes) (sym same) mine) (λ fit. each test fit) fits;
+    }
+
+    decided_whole : (hashes == 0) ≡ false → HashesDecided own agrees pointer_limit h verifications hashes → IsDecided own agrees pointer_limit h verifications
+    decided_whole some (inl none) = absurd (false≢true (sym some ∙ ap (λ n. n == 0) none))
+    decided_whole some (inr is) = is
+
+    either : (b : Bool) → is_out_of_memory answer ≡ b → (b && (hashes == 0)) ≡ false → HashesDecided own agrees pointer_limit h verifications hashes → IsDecided own agrees pointer_limit h verifications
+    either true out some is = decided_whole some is
+    either false enough some is = said_whole enough
+
+    -- a judgement that was not cut short is decided
+    pub whole : is_cut_short answer hashes ≡ false → HashesDecided own agrees pointer_limit h verifications hashes → IsDecided own agrees pointer_limit h verifications
+    whole on is = either (is_out_of_memory answer) refl on is
+
+  -- what is asked for then
+  pub are_asked : (verifications : ℕ) → IsDecided own agrees pointer_limit h verifications → IsOk kept → (asks : List Tried) → asks ≡ held → (n : ℕ) → 0 < length asks → are_new table asks ≡ true → length asks ≤ n → n ≡ verifications
+      → verifications ≤ verification_bound pointer_limit h → PassesEach asks (is_tried_signature own pointer_limit h) → AreAsked table h asks
+  are_asked verifications is kept_is asks same n some new counts all bound tried =
+      let due : verifications ≡ due_by (may_pass_in table) h = counted is.answer verifications (due_by (may_pass_in table) h) is.in_memory (is.made own.verifies (inl refl)).counts in
+      record {
+        some = some;
+        are_new = new;
+        few = omega (arith, counts, all, bound);
+        tried = record { each = tried; due = omega (arith, counts, all, due) };
+        all = record {
+          answer = is.answer;
+          verifications = verifications;
+          hashes = is.hashes;
+          in_memory = is.in_memory;
+          made = λ passes agrees_with each.
+              let test : SignatureTest = λ key octets signature. passes (tried key octets signature) in
+              is.made test (inr (kept_is, agrees_with, subst (λ xs. PassesEach xs test) same each));
+        };
+      }

@@ -1,15 +1,13 @@
 -- Signatures that are asked for.
-use Rattle.std.specs.Prelude.{◌≡◌, ℕ, ◌<◌, ◌≤◌, Bool, true, false, ◌&&◌, List, [], ◌∷◌, ◌++◌, None, Result, length, is_none, IsOk}
+use Rattle.std.specs.Prelude.{◌≡◌, ℕ, ◌<◌, ◌≤◌, ◌==◌, Bool, true, false, ◌&&◌, List, [], ◌∷◌, ◌++◌, None, Result, length, is_none, IsOk}
 use Rattle.std.specs.List.{AllByRecursion}
 use Rattle.definitions.specs.Limits.{pointer_limit}
 use Rattle.answer_scheme.specs.Answers.{SignatureTest}
 use Rattle.answer_judge_facts.specs.Asked.{is_tried_signature}
 use Rattle.answer_judge_facts.specs.Counted.{verifications_due}
-use Rattle.answer_judge_keys.specs.Judging.{Answer, Refuses, Handing, answer_of, verification_bound}
-use Rattle.answer_judge_keys.specs.declared.verdict.Judgement.{Judgement}
-use Rattle.answer_judge_keys.specs.declared.verdict.Refused.{Refused}
-use Rattle.answer_judge_keys.specs.declared.verdict.Refusal.TheVariants as r
-use Rattle.answer_judge.specs.Meeting.{JudgesSo}
+use Rattle.answer_judge_keys.specs.Judging.{Answer, Handing, verification_bound}
+use Rattle.answer_judge.specs.Decided.{is_out_of_memory}
+use Rattle.answer_judge.specs.Meeting.{IsJudgement}
 use Rattle.answer_judge_table.specs.Table.{AgreesWith, Checked, Tried, answers_with, checked, may_pass_in, passes_by, told}
 
 -- a signature that is asked for, as an entry
@@ -25,10 +23,9 @@ are_new table (t ∷ ts) = is_none (told table t) && are_new (table ++ unchecked
 abbrev pub KeepsNew : Tried → List Tried → List Tried → Type 0
 KeepsNew t old new = (table : List Checked) → told table t ≡ None → are_new table old ≡ true → are_new table new ≡ true
 
--- a judgement that ended for want of memory
-abbrev pub is_out_of_memory : Answer → Bool
-is_out_of_memory (Refuses r.Memory) = true
-is_out_of_memory _ = false
+-- a judgement that ended for want of memory before a name was to be hashed
+abbrev pub is_cut_short : Answer → ℕ → Bool
+is_cut_short answer hashes = is_out_of_memory answer && (hashes == 0)
 
 -- one that a judgement verifies where these pass
 abbrev pub IsTriedBy : (Tried → Bool) → Handing → Tried → Type 0
@@ -46,9 +43,11 @@ pub record AreTried (passes : Tried → Bool) (h : Handing) (asks : List Tried) 
 -- All that is due: in memory enough a judgement is made, the same whichever others pass, where the table holds and each of these
 -- passes.
 pub record AreAll (table : List Checked) (h : Handing) (asks : List Tried) : Type 0 where
-  pub said : Result Judgement Refused
-  pub in_memory : is_out_of_memory (answer_of said) ≡ false
-  pub made : (passes : Tried → Bool) → AgreesWith table passes → AllByRecursion (λ t. passes t ≡ true) asks → JudgesSo pointer_limit (answers_with passes) h said
+  pub answer : Answer
+  pub verifications : ℕ
+  pub hashes : ℕ
+  pub in_memory : is_out_of_memory answer ≡ false
+  pub made : (passes : Tried → Bool) → AgreesWith table passes → AllByRecursion (λ t. passes t ≡ true) asks → IsJudgement pointer_limit (answers_with passes) h answer verifications hashes
 
 -- Signatures that are asked for: some that the table doesn't have, each once, no more than both messages have. A judgement
 -- verifies each where those that the table doesn't have pass: so none that isn't due, none of an RRset that another one verified

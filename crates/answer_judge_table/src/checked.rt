@@ -48,8 +48,8 @@ pub(crate) fn is_same_key<A: Octets, B: Octets>(key: &Dnskey<A>, other: &Dnskey<
         && key.public_key().as_slice() == other.public_key().as_slice()
 }
 
-/// What the first entry of a signature says.
-pub(crate) fn entry_of(
+/// What the first entry of a signature says; nothing where the table does not have it.
+pub fn entry_of(
     table: &[CheckedSignature],
     key: &Dnskey<&[u8]>,
     octets: &[u8],

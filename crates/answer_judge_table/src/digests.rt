@@ -11,7 +11,7 @@ use std::alloc::Global;
 const SHA384: u8 = 4;
 
 /// The digest of octets by SHA-256 or SHA-384; other types fail (RFC 4509; RFC 6605, 2).
-pub(crate) fn digest(
+pub fn digest(
     alloc: Global,
     algorithm: DigestAlgorithm,
     octets: &[u8],

@@ -1,7 +1,8 @@
 //! Judging by a table.
 ghost use Rattle.std.specs.Prelude.{◌≡◌, ◌<◌, IfOk};
-ghost use Rattle.answer_judge_keys.specs.Judging.{answer_of};
-ghost use Rattle.answer_judge_table.specs.Asking.{is_out_of_memory};
+ghost use Rattle.answer_judge_keys.specs.Judging.{answer_of, hashes_of};
+ghost use Rattle.answer_judge.specs.Decided.{is_out_of_memory};
+ghost use Rattle.answer_judge_table.specs.Asking.{is_cut_short};
 ghost use Rattle.answer_judge_table.specs.Outcomes.{IsOutcome};
 
 use crate::checked::CheckedSignature;
@@ -15,6 +16,9 @@ use std::sync::ledger::{Blank, Ledger};
 /// Judges by a table of signatures that were checked, as [`Case::judge`] does. Signatures that the
 /// table does not have are asked for, all that the judgement comes to where each of them passes:
 /// where the table has them too, and they pass, one judgement is made, whichever others pass.
+///
+/// While signatures are missing no name is hashed: a message's NSEC3 records cost hashes only once
+/// their signatures have passed (CVE-2023-50868).
 ///
 /// A caller begins with no entry, checks what is asked for in any order, puts it into its table
 /// with what came of it, and calls again. What is said holds whichever other signatures pass.
@@ -57,18 +61,35 @@ fn judged<T: Told, L: Ledger, M: Ledger>(
     if asks.is_empty() {
         return Ok(Outcome::Judged(judged));
     }
-    if ran_out(&judged) {
+    if is_cut_short(&judged) {
         return Err(AllocError);
     }
     Ok(Outcome::Asks(asks))
 }
 
-/// Whether a judgement ended for want of memory: then more signatures may be due than it came to.
+/// Whether a judgement ended for want of memory before a name was to be hashed: then more
+/// signatures may be due than it came to.
+fn is_cut_short(judged: &Result<Judgement, Refused>) -> bool
+    ensures { result ≡ is_cut_short (answer_of judged.now) (hashes_of judged.now) }
+{
+    ran_out(judged) && hashed(judged) == 0
+}
+
 fn ran_out(judged: &Result<Judgement, Refused>) -> bool
     ensures { result ≡ is_out_of_memory (answer_of judged.now) }
 {
     match judged {
         Ok(_) => false,
         Err(refused) => refused.refusal == Refusal::Memory,
+    }
+}
+
+/// How many names were to be hashed.
+fn hashed(judged: &Result<Judgement, Refused>) -> u32
+    ensures { result ≡ hashes_of judged.now }
+{
+    match judged {
+        Ok(judgement) => judgement.hashes,
+        Err(refused) => refused.hashes,
     }
 }

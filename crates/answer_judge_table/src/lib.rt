@@ -4,11 +4,12 @@
 #![tactic(auto)]
 
 pub mod checked;
-mod digests;
+pub mod digests;
 pub mod judging;
 pub mod outcome;
 mod table_checks;
 
-pub use crate::checked::CheckedSignature;
+pub use crate::checked::{CheckedSignature, entry_of};
+pub use crate::digests::digest;
 pub use crate::judging::judge_by_table;
 pub use crate::outcome::{Ask, Outcome};

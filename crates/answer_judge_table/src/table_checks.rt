@@ -1,5 +1,5 @@
 //! A table as the checks of a judge, which asks for what it lacks.
-ghost use Rattle.std.specs.Prelude.{◌≡◌, ◌<◌, ◌≤◌, [], true, length, IfOk, IsOk};
+ghost use Rattle.std.specs.Prelude.{◌≡◌, ◌<◌, ◌≤◌, [], true, false, length, IfOk, IsOk};
 ghost use Rattle.answer_judge_table.specs.Asking.{are_new};
 
 use crate::checked::{CheckedSignature, entry_of};
@@ -32,6 +32,9 @@ impl Told for Brand {
 /// The checks of a judge that knows the signatures of a table, makes digests by SHA-2, and hashes
 /// names by SHA-1. A signature that the table does not have passes, and is kept: whatever agrees
 /// with the table and passes what was kept agrees with all that was answered.
+///
+/// While something is kept no name is hashed: a message's NSEC3 records cost hashes only once their
+/// signatures have passed (CVE-2023-50868).
 #[derive(Drop)]
 pub(crate) struct TableChecks<'t, 's, T: Told, L: Ledger, M: Ledger> {
     alloc: Global,
@@ -41,10 +44,13 @@ pub(crate) struct TableChecks<'t, 's, T: Told, L: Ledger, M: Ledger> {
     kept: Result<(), AllocError>,
     verified: Steps<L>,
     hashed: Steps<M>,
+    /// Whether a name was hashed.
+    has_hashed: bool,
     told: PhantomData<T>,
     ghost is_table: { table.now ≡ T.table },
     ghost are_new: { are_new T.table asks.items ≡ true },
     ghost counted: { length asks.items ≤ verified },
+    ghost unhashed: { 0 < length asks.items → has_hashed ≡ false },
 }
 
 impl<'t, 's, T: Told, L: Ledger, M: Ledger> TableChecks<'t, 's, T, L, M> {
@@ -73,16 +79,20 @@ impl<'t, 's, T: Told, L: Ledger, M: Ledger> TableChecks<'t, 's, T, L, M> {
             kept: Ok(()),
             verified: Steps::<L>::new(first),
             hashed: Steps::<M>::new(second),
+            has_hashed: false,
             told: PhantomData,
         }
     }
 
-    /// What the table lacked, if there was memory to keep all.
+    /// What the table lacked, if there was memory to keep all. Where it lacked anything, no name
+    /// was hashed.
     pub(crate) fn into_asks(self) -> Result<Vec<Ask>, AllocError>
         ensures new { IfOk result (λ v. are_new T.table v.items ≡ true) }
         ensures counted { IfOk result (λ v. length v.items ≤ self.entry.verified) }
         ensures asks { IfOk result (λ v. v.items ≡ self.entry.asks.items) }
         ensures kept { IfOk result (λ _. IsOk self.entry.kept) }
+        ensures unhashed { IfOk result
+            (λ v. 0 < length v.items → self.entry.has_hashed ≡ false) }
     {
         let TableChecks { asks, kept, .. } = self;
         kept?;
@@ -108,6 +118,11 @@ impl<'t, 's, T: Told, L: Ledger, M: Ledger> Checks for TableChecks<'t, 's, T, L,
         self.verified.tick();
         if let Some(passes) = entry_of(self.table, key, octets, signature) {
             return passes;
+        }
+        if self.has_hashed {
+            // No judge comes to this: all signatures are looked up before a name is hashed.
+            self.kept = Err(AllocError);
+            return true;
         }
         match note(self.alloc, &mut self.asks, key, octets, signature) {
             Ok(()) => true,
@@ -136,6 +151,10 @@ impl<'t, 's, T: Told, L: Ledger, M: Ledger> Checks for TableChecks<'t, 's, T, L,
         salt: &[u8],
     ) -> Result<Vec<u8>, HashError> {
         self.hashed.tick();
+        if !self.asks.is_empty() {
+            return Err(HashError::Memory);
+        }
+        self.has_hashed = true;
         Sha1Hasher.hash(alloc, name, algorithm, iterations, salt)
     }
 }

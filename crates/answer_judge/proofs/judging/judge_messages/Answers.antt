@@ -19,6 +19,7 @@ use Rattle.answer_judge_facts.specs.Verified.{verified_facts}
 use Rattle.answer_judge_keys.specs.declared.verdict.Lasting.{Lasting}
 use Rattle.answer_judge_keys.specs.declared.verdict.Refusal.{Refusal}
 use Rattle.answer_judge_facts.proofs.JudgeAsked.{agreed, agreed_by}
+use Rattle.answer_judge.proofs.Decided.{enough, few, last}
 use Rattle.answer_judge.proofs.JudgeAsks.{answer_pass, keys_pass}
 use Rattle.answer_judge.proofs.JudgeHashes.{counts_as, facts_hashed, none_hashed}
 use Rattle.answer_judge.proofs.JudgeLasts.{lasts_as, on_ok}
@@ -133,6 +134,55 @@ returns-clause-says g c = λ test fits.
       counts_as (said c.judge_proof.result) c.judge_proof.new.hashes (hashes_of_proof (g.C.Checks.answers c.read_proof.new.verifier.checks.now) h facts unlike_times) (hashes_beyond a pointer_limit h)
           (ap (λ v. hashes_of_proof v h facts unlike_times) last ∙ due) c.judge_proof.ensures.hash_counts,
     )
+
+-- whatever memory is left for that
+pub returns-clause-decided : goal.returns-clause-decided
+returns-clause-decided g c =
+    let own = g.C.Checks.answers c.args.verifier.now.checks.now in
+    let h : Handing = c.args.case.now in
+    let reads = c.in_ok-messages.ensures in
+    let keys = c.in_ok-messages.messages.keys in
+    let answer = c.in_ok-messages.messages.answer in
+    let rs = map spelled c.deref-2.result.now in
+    let ks = c.in_ok-keys.keys.items in
+    let whole = ap (map spelled) c.deref-2.ensures.value ∙ reads.key_records in
+    let are = c.in_ok-keys.ensures.keys ∙ ap (λ vs. keys_in h.dnskey_bytes h.apex (map spelled vs)) (c.deref.ensures.value ∙ sym c.deref-2.ensures.value) in
+    let both : BothRead h keys answer rs ks = both_read h keys answer rs ks reads.keys reads.answer reads.asks_keys reads.asks_answer whole are c.in_ok-keys.ensures.unlike in
+    let held = c.deref-4.result.now in
+    let usable = c.deref-4.ensures.value ∙ usable_as h keys rs ks c.in_ok-usable.usable.items both.records_are both.keys_are c.in_ok-usable.ensures.usable in
+    let read_rs = map spelled c.deref-3.result.now in
+    let all_read = ap (map spelled) c.deref-3.ensures.value ∙ reads.answer_records in
+    let later_own = c.in_ok-usable.ensures.same in
+    let facts = c.in_ok-proof.proof.facts in
+    let unlike_times = c.in_ok-proof.proof.has_unlike_times in
+    let sought = answer_sought pointer_limit h.answer_bytes h.apex read_rs h.asked.name h.asked.rtype in
+    inr (record {
+      answer = judged_proof own h facts unlike_times;
+      hashes = hashes_of_proof own h facts unlike_times;
+      in_memory = enough own h facts unlike_times;
+      none = both.none;
+      last = last own h facts unlike_times;
+      few = few own h facts unlike_times;
+      says = λ test fits.
+          let a = with_test own test in
+          let at_proof = agreed own.verifies test _ _ (c.judge_proof.ensures.none.0 test) fits in
+          let at_keys = agreed own.verifies test _ _ (c.in_ok-proof.ensures.agrees test) at_proof in
+          let found = c.in_ok-usable.ensures.signed test at_keys in
+          let chain = sym found.0 ∙ chained_as a h keys rs ks both.records_are both.keys_are in
+          let first = found.1 ∙ key_tries_as a h keys rs ks both.records_are both.keys_are in
+          let later = ap (λ x. with_test x test) later_own in
+          let second = agreed_by own _ test _ later_own at_proof in
+          let proved = c.in_ok-proof.ensures.proves test second in
+          let read = proved.0 ∙ ap (λ x. verified_facts (trusting x h held) pointer_limit h.answer_bytes read_rs h.asked.name h.asked.rtype) later in
+          let timed = proved.1 ∙ ap (λ x. are_unlike (proof_times (trusting x h held) pointer_limit h.answer_bytes read_rs h.asked.name h.asked.rtype)) later in
+          let more = proved.2 ∙ ap (λ x. c.signed_keys.new.verifier.count + tries (trusting x h held) pointer_limit h.answer_bytes sought [] read_rs) later in
+          let all = decided_as a h keys answer held read_rs facts unlike_times (beyond a pointer_limit h keys answer both.dnskey both.zone both.none) chain usable all_read read timed in
+          let due = facts_hashed a h keys answer held read_rs facts unlike_times both.none both.dnskey both.zone chain usable all_read read timed in (
+            inr all,
+            inr (keys_and_answer a h keys answer held read_rs c.signed_keys.new.verifier.count c.read_proof.new.verifier.count both.none both.dnskey both.zone chain first usable all_read more),
+            inr due,
+          );
+    })
 
 pub returns-clause-lasts : goal.returns-clause-lasts
 returns-clause-lasts g c = λ test fits.

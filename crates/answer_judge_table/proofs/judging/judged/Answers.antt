@@ -1,11 +1,12 @@
 use Rattle.std.proofs.Common.{◌≡◌, ◌==◌, false, inr, length, ap, subst, sym, ◌∙◌, arith, rules}
 use Rattle.definitions.specs.Limits.{pointer_limit}
-use Rattle.answer_scheme.specs.Answers.{SignatureTest}
+use Rattle.answer_scheme.specs.Answers.{Answers, SignatureTest}
 use Rattle.answer_judge_facts.specs.Asked.{is_tried_signature}
-use Rattle.answer_judge_keys.specs.Judging.{answer_of, verifications_of}
-use Rattle.answer_judge_table.specs.Asking.{PassesEach, due_by, is_out_of_memory}
+use Rattle.answer_judge_keys.specs.Judging.{answer_of, hashes_of, verifications_of}
+use Rattle.answer_judge.specs.Meeting.{IsJudgement}
+use Rattle.answer_judge_table.specs.Asking.{PassesEach, is_cut_short}
 use Rattle.answer_judge_table.specs.Table.{answers_with, may_pass_in, tried}
-use Rattle.answer_judge_table.proofs.TableAsks.{are_asked, counted, is_judged, none_each, some_asked}
+use Rattle.answer_judge_table.proofs.TableAsks.{are_asked, is_judged, none_each, some_asked, whole}
 use Rattle.answer_judge_table.proofs.judging.judged.Goals as goal
 
 pub returns-then-is_empty : goal.returns-then-is_empty
@@ -25,17 +26,20 @@ returns g c =
     let table = g.T.Told.table in
     let h = c.args.case.now in
     let e = c.judge-judged.ensures in
+    let own : Answers = answers_with (may_pass_in table) in
+    let held = c.judge-judged.new.checks.asks.items in
+    let kept = c.judge-judged.new.checks.kept in
+    let answer = answer_of c.judge-judged.result in
+    let count = verifications_of c.judge-judged.result in
+    let hashes = hashes_of c.judge-judged.result in
     let asks = c.in_ok-asks.asks.items in
-    let is_tried : SignatureTest = is_tried_signature (answers_with (may_pass_in table)) pointer_limit h in
+    let is_tried : SignatureTest = is_tried_signature own pointer_limit h in
     let each = e.asked is_tried (λ key octets signature t. t) (subst (λ xs. PassesEach xs is_tried) (sym c.new-checks.ensures.asks) tt) in
-    let enough : is_out_of_memory (answer_of c.judge-judged.result) ≡ false = sym c.ran_out.ensures ∙ c.if-ran_out.false in
-    let due = counted (answer_of c.judge-judged.result) (verifications_of c.judge-judged.result) (due_by (may_pass_in table) h) enough e.counts in
+    let on : is_cut_short answer hashes ≡ false = sym c.is_cut_short.ensures ∙ c.if-is_cut_short.false in
+    let mine : IsJudgement pointer_limit own h answer count hashes = record { keeps = e.judges; exact = e.exact; counts = e.counts; hash_counts = e.hash_counts; given = e.given; honest = e.honest; timely = e.timely } in
+    let is = whole table h held kept answer count hashes mine (λ test agrees. (e.agreeing test agrees).1) on e.decided in
     let some = some_asked (length asks) (sym (c.is_empty.ensures ∙ ap (λ n. n == 0) c.in_ok-asks.asks.ok.0) ∙ c.if-is_empty.false) in
-    are_asked table h c.judge-judged.result asks c.judge-judged.new.checks.verified some c.in_ok-asks.ensures.new c.in_ok-asks.ensures.counted
-    (omega (arith, e.verified, c.new-checks.ensures.verified, e.judges.verifications_bound))
-    (omega (arith, e.verified, c.new-checks.ensures.verified, due))
+    are_asked table h held kept count is c.in_ok-asks.ensures.kept asks c.in_ok-asks.ensures.asks c.judge-judged.new.checks.verified some c.in_ok-asks.ensures.new c.in_ok-asks.ensures.counted
+    (omega (arith, e.verified, c.new-checks.ensures.verified))
+    e.judges.verifications_bound
     (subst (λ xs. PassesEach xs is_tried) (sym c.in_ok-asks.ensures.asks) each)
-    enough
-    (λ passes agrees all.
-    let test : SignatureTest = λ key octets signature. passes (tried key octets signature) in
-    (e.agreeing test (c.in_ok-asks.ensures.kept, agrees, subst (λ xs. PassesEach xs test) c.in_ok-asks.ensures.asks all)).1)

@@ -2,6 +2,7 @@ use Rattle.std.proofs.Common.{inl, inr, ⊎_elim, refl, sym, subst, ap, arith, r
 use Rattle.answer_scheme.specs.Answers.{with_test}
 use Rattle.answer_judge_keys.specs.Judging.{Refuses, Says}
 use Rattle.answer_judge_rules.specs.Rules.{verdict_of}
+use Rattle.answer_judge.proofs.Decided.{case_decided}
 use Rattle.answer_judge.proofs.JudgeAsks.{case_passes}
 use Rattle.answer_judge.proofs.JudgeLasts.{lasts_beyond}
 use Rattle.answer_judge.proofs.JudgedWholly.{agrees_too, each_wholly, unjudged}
@@ -35,6 +36,10 @@ returns-in-Ok g c =
       agreeing = λ test agrees.
           let agrees_now = agrees_too g.C.Checks.agrees _ now test agrees (search rules) in
           (subst (λ v. g.C.Checks.agrees v test) c.new-verifier.ensures.checks (c.in-Ok.ensures.agrees test agrees_now), so test (inr agrees_now));
+      decided =
+          case_decided own _ (g.C.Checks.agrees now) _ c.args.self.now c.judge_messages.new.verifier.count c.judge_messages.new.hashes
+          (omega (arith, c.limit_fits.ensures)) (ap g.C.Checks.answers c.new-verifier.ensures.checks) (search rules) (search rules) c.in-Ok.ensures.bound
+          (λ test agrees. agrees_too g.C.Checks.agrees _ now test agrees (search rules)) c.in-Ok.ensures.decided;
       lasts = λ test fits.
           let fit = ⊎_elim (λ e. inl e) (λ agrees. inr (agrees_too g.C.Checks.agrees _ now test agrees (search rules))) fits in
           lasts_beyond own _ (g.C.Checks.agrees now) c.args.self.now c.judge_messages.new.lasting (ap g.C.Checks.answers c.new-verifier.ensures.checks) (search rules) c.in-Ok.ensures.lasts test fit;
@@ -65,6 +70,10 @@ returns g c =
       agreeing = λ test agrees.
           let agrees_now = agrees_too g.C.Checks.agrees _ now test agrees (search rules) in
           (subst (λ v. g.C.Checks.agrees v test) c.new-verifier.ensures.checks (c.in-Err.ensures.agrees test agrees_now), so test (inr agrees_now));
+      decided =
+          case_decided own _ (g.C.Checks.agrees now) _ c.args.self.now c.judge_messages.new.verifier.count c.judge_messages.new.hashes
+          (omega (arith, c.limit_fits.ensures)) (ap g.C.Checks.answers c.new-verifier.ensures.checks) (search rules) (search rules) c.in-Err.ensures.bound
+          (λ test agrees. agrees_too g.C.Checks.agrees _ now test agrees (search rules)) c.in-Err.ensures.decided;
       lasts = λ test fits. tt;
       asked = λ test implies before.
           let passes = case_passes own _ c.args.self.now test (ap g.C.Checks.answers c.new-verifier.ensures.checks) (search rules) (search rules) implies in
