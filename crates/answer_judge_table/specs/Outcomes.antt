@@ -1,7 +1,7 @@
 -- What an outcome is.
-use Rattle.std.specs.Prelude.{Bool, List, Result}
+use Rattle.std.specs.Prelude.{◌≡◌, ◌≤◌, ◌+◌, ℕ, Bool, List, Result}
 use Rattle.definitions.specs.Limits.{pointer_limit}
-use Rattle.answer_judge_keys.specs.Judging.{Handing, answer_of}
+use Rattle.answer_judge_keys.specs.Judging.{Handing, answer_of, hashes_of}
 use Rattle.answer_judge_keys.specs.declared.verdict.Judgement.{Judgement}
 use Rattle.answer_judge_keys.specs.declared.verdict.Refused.{Refused}
 use Rattle.answer_honest.specs.Honest.{AnswersHonest}
@@ -24,3 +24,9 @@ pub record IsJudgedBy (table : List Checked) (h : Handing) (said : Result Judgem
 abbrev pub IsOutcome : List Checked → Handing → Outcome → Type 0
 IsOutcome table h (o.Judged said) = IsJudgedBy table h said
 IsOutcome table h (o.Asks asks) = AreAsked table h asks.items
+
+-- How many names have been hashed by then: those before, and where something is said at most those that it counts. While signatures
+-- are missing none is hashed.
+abbrev pub CountsHashes : Outcome → ℕ → ℕ → Type 0
+CountsHashes (o.Judged said) before after = after ≤ before + hashes_of said
+CountsHashes (o.Asks asks) before after = after ≡ before

@@ -3,12 +3,13 @@ ghost use Rattle.std.specs.Prelude.{◌≡◌, ◌<◌, IfOk};
 ghost use Rattle.answer_judge_keys.specs.Judging.{answer_of, hashes_of};
 ghost use Rattle.answer_judge.specs.Decided.{is_out_of_memory};
 ghost use Rattle.answer_judge_table.specs.Asking.{is_cut_short};
-ghost use Rattle.answer_judge_table.specs.Outcomes.{IsOutcome};
+ghost use Rattle.answer_judge_table.specs.Outcomes.{CountsHashes, IsOutcome};
 
 use crate::checked::CheckedSignature;
-use crate::outcome::Outcome;
-use crate::table_checks::{TableChecks, Told};
+use crate::outcome::{Counted, Outcome};
+use crate::table_checks::{Lacking, TableChecks, Told};
 use answer_judge::{Case, Judgement, Refusal, Refused};
+use answer_scheme::steps::Steps;
 use std::alloc::{AllocError, Global};
 use std::marker::Brand;
 use std::sync::ledger::{Blank, Ledger};
@@ -34,37 +35,75 @@ pub fn judge_by_table(
 ) -> Result<Outcome, AllocError>
     ensures { IfOk result (λ o. IsOutcome table.now case.now o) }
 {
-    let (first, second) = (Blank::new(1), Blank::new(1));
-    judged::<Brand, Brand, Brand>(alloc, case, table, first, second)
+    let blank = Blank::new(1);
+    uncounted::<Brand>(alloc, case, table, blank)
 }
 
-/// What comes of a judgement by a table. Its calls are counted from 0 on.
-fn judged<T: Told, L: Ledger, M: Ledger>(
+/// What comes of a judgement by a table, without the count of names.
+fn uncounted<N: Ledger>(
     alloc: Global,
     case: &Case,
     table: &[CheckedSignature],
+    blank: Blank,
+) -> Result<Outcome, AllocError>
+    requires name { blank.name ≡ N.name }
+    requires parts { blank.parts ≡ N.parts }
+    requires some { 0 < N.parts }
+    ensures { IfOk result (λ o. IsOutcome table.now case.now o) }
+{
+    let counted = judge_counted(alloc, case, table, Steps::<N>::new(blank))?;
+    let Counted { outcome, .. } = counted;
+    Ok(outcome)
+}
+
+/// Judges as [`judge_by_table`] does, and goes on with a count of the names that are hashed. Where
+/// signatures are asked for it stays as it was: while they are missing no name is hashed.
+pub fn judge_counted<N: Ledger>(
+    alloc: Global,
+    case: &Case,
+    table: &[CheckedSignature],
+    hashed: Steps<N>,
+) -> Result<Counted<N>, AllocError>
+    ensures outcome { IfOk result (λ r. IsOutcome table.now case.now r.outcome) }
+    ensures counted { IfOk result (λ r. CountsHashes r.outcome hashed r.hashed) }
+{
+    let (first, second) = (Blank::new(1), Blank::new(1));
+    judged::<Brand, Brand, Brand, N>(alloc, case, table, hashed, first, second)
+}
+
+/// What comes of a judgement by a table. Its calls are counted from 0 on.
+fn judged<T: Told, L: Ledger, M: Ledger, N: Ledger>(
+    alloc: Global,
+    case: &Case,
+    table: &[CheckedSignature],
+    hashed: Steps<N>,
     first: Blank,
     second: Blank,
-) -> Result<Outcome, AllocError>
+) -> Result<Counted<N>, AllocError>
     requires table { table.now ≡ T.table }
+    requires before { hashed ≡ T.before }
     requires name { first.name ≡ L.name }
     requires parts { first.parts ≡ L.parts }
     requires some { 0 < L.parts }
     requires second_name { second.name ≡ M.name }
     requires second_parts { second.parts ≡ M.parts }
     requires second_some { 0 < M.parts }
-    ensures { IfOk result (λ o. IsOutcome T.table case.now o) }
+    ensures outcome { IfOk result (λ r. IsOutcome T.table case.now r.outcome) }
+    ensures counted { IfOk result (λ r. CountsHashes r.outcome hashed r.hashed) }
 {
-    let mut checks = TableChecks::<T, L, M>::new(alloc, table, first, second);
+    let mut checks = TableChecks::<T, L, M, N>::new(alloc, table, hashed, first, second);
     let judged = case.judge(alloc, &mut checks);
-    let asks = checks.into_asks()?;
+    let lacking = checks.into_lacking()?;
+    let Lacking { asks, hashed } = lacking;
     if asks.is_empty() {
-        return Ok(Outcome::Judged(judged));
+        let outcome = Outcome::Judged(judged);
+        return Ok(Counted { outcome, hashed });
     }
     if is_cut_short(&judged) {
         return Err(AllocError);
     }
-    Ok(Outcome::Asks(asks))
+    let outcome = Outcome::Asks(asks);
+    Ok(Counted { outcome, hashed })
 }
 
 /// Whether a judgement ended for want of memory before a name was to be hashed: then more
@@ -72,7 +111,7 @@ fn judged<T: Told, L: Ledger, M: Ledger>(
 fn is_cut_short(judged: &Result<Judgement, Refused>) -> bool
     ensures { result ≡ is_cut_short (answer_of judged.now) (hashes_of judged.now) }
 {
-    ran_out(judged) && hashed(judged) == 0
+    ran_out(judged) && hash_calls(judged) == 0
 }
 
 fn ran_out(judged: &Result<Judgement, Refused>) -> bool
@@ -85,7 +124,7 @@ fn ran_out(judged: &Result<Judgement, Refused>) -> bool
 }
 
 /// How many names were to be hashed.
-fn hashed(judged: &Result<Judgement, Refused>) -> u32
+fn hash_calls(judged: &Result<Judgement, Refused>) -> u32
     ensures { result ≡ hashes_of judged.now }
 {
     match judged {

@@ -11,5 +11,5 @@ mod table_checks;
 
 pub use crate::checked::{CheckedSignature, entry_of};
 pub use crate::digests::digest;
-pub use crate::judging::judge_by_table;
-pub use crate::outcome::{Ask, Outcome};
+pub use crate::judging::{judge_by_table, judge_counted};
+pub use crate::outcome::{Ask, Counted, Outcome};

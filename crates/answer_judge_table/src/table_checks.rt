@@ -1,5 +1,5 @@
 //! A table as the checks of a judge, which asks for what it lacks.
-ghost use Rattle.std.specs.Prelude.{◌≡◌, ◌<◌, ◌≤◌, [], true, false, length, IfOk, IsOk};
+ghost use Rattle.std.specs.Prelude.{◌≡◌, ◌<◌, ◌≤◌, ◌+◌, [], true, false, length, IfOk, IsOk};
 ghost use Rattle.answer_judge_table.specs.Asking.{are_new};
 
 use crate::checked::{CheckedSignature, entry_of};
@@ -15,18 +15,22 @@ use std::alloc::{AllocError, Global};
 use std::marker::{Brand, PhantomData};
 use std::sync::ledger::{Blank, Ledger};
 
-/// What a table says: a name for proofs alone.
+/// What a table says, and how many names were hashed before: names for proofs alone.
 pub(crate) trait Told {
-    ghost use Rattle.std.specs.Prelude.{List};
+    ghost use Rattle.std.specs.Prelude.{List, ℕ};
     ghost use Rattle.answer_judge_table.specs.Table.{Checked};
 
     ghost table: { List Checked };
+
+    ghost before: { ℕ };
 }
 
 impl Told for Brand {
     ghost use Rattle.std.specs.Prelude.{[]};
 
     ghost table = { [] };
+
+    ghost before = { 0 };
 }
 
 /// The checks of a judge that knows the signatures of a table, makes digests by SHA-2, and hashes
@@ -36,7 +40,7 @@ impl Told for Brand {
 /// While something is kept no name is hashed: a message's NSEC3 records cost hashes only once their
 /// signatures have passed (CVE-2023-50868).
 #[derive(Drop)]
-pub(crate) struct TableChecks<'t, 's, T: Told, L: Ledger, M: Ledger> {
+pub(crate) struct TableChecks<'t, 's, T: Told, L: Ledger, M: Ledger, N: Ledger> {
     alloc: Global,
     table: &'t [CheckedSignature<'s>],
     asks: Vec<Ask>,
@@ -44,24 +48,30 @@ pub(crate) struct TableChecks<'t, 's, T: Told, L: Ledger, M: Ledger> {
     kept: Result<(), AllocError>,
     verified: Steps<L>,
     hashed: Steps<M>,
+    /// The names that were hashed. Beside them `hashed` counts those that were to be.
+    made: Steps<N>,
     /// Whether a name was hashed.
     has_hashed: bool,
     told: PhantomData<T>,
     ghost is_table: { table.now ≡ T.table },
     ghost are_new: { are_new T.table asks.items ≡ true },
     ghost counted: { length asks.items ≤ verified },
-    ghost unhashed: { 0 < length asks.items → has_hashed ≡ false },
+    ghost none_yet: { has_hashed ≡ false → made ≡ T.before },
+    ghost unhashed: { 0 < length asks.items → made ≡ T.before },
+    ghost few: { made ≤ T.before + hashed },
 }
 
-impl<'t, 's, T: Told, L: Ledger, M: Ledger> TableChecks<'t, 's, T, L, M> {
-    /// The checks of a table, of which nothing was asked yet. The counts begin at 0.
+impl<'t, 's, T: Told, L: Ledger, M: Ledger, N: Ledger> TableChecks<'t, 's, T, L, M, N> {
+    /// The checks of a table, of which nothing was asked yet. The counts of calls begin at 0.
     pub(crate) fn new(
         alloc: Global,
         table: &'t [CheckedSignature<'s>],
+        made: Steps<N>,
         first: Blank,
         second: Blank,
     ) -> Self
         requires table { table.now ≡ T.table }
+        requires before { made ≡ T.before }
         requires name { first.name ≡ L.name }
         requires parts { first.parts ≡ L.parts }
         requires some { 0 < L.parts }
@@ -79,6 +89,7 @@ impl<'t, 's, T: Told, L: Ledger, M: Ledger> TableChecks<'t, 's, T, L, M> {
             kept: Ok(()),
             verified: Steps::<L>::new(first),
             hashed: Steps::<M>::new(second),
+            made,
             has_hashed: false,
             told: PhantomData,
         }
@@ -86,21 +97,33 @@ impl<'t, 's, T: Told, L: Ledger, M: Ledger> TableChecks<'t, 's, T, L, M> {
 
     /// What the table lacked, if there was memory to keep all. Where it lacked anything, no name
     /// was hashed.
-    pub(crate) fn into_asks(self) -> Result<Vec<Ask>, AllocError>
-        ensures new { IfOk result (λ v. are_new T.table v.items ≡ true) }
-        ensures counted { IfOk result (λ v. length v.items ≤ self.entry.verified) }
-        ensures asks { IfOk result (λ v. v.items ≡ self.entry.asks.items) }
+    pub(crate) fn into_lacking(self) -> Result<Lacking<N>, AllocError>
+        ensures new { IfOk result (λ v. are_new T.table v.asks.items ≡ true) }
+        ensures counted { IfOk result (λ v. length v.asks.items ≤ self.entry.verified) }
+        ensures asks { IfOk result (λ v. v.asks.items ≡ self.entry.asks.items) }
         ensures kept { IfOk result (λ _. IsOk self.entry.kept) }
-        ensures unhashed { IfOk result
-            (λ v. 0 < length v.items → self.entry.has_hashed ≡ false) }
+        ensures unhashed { IfOk result (λ v. 0 < length v.asks.items → v.hashed ≡ T.before) }
+        ensures few { IfOk result (λ v. v.hashed ≤ T.before + self.entry.hashed) }
     {
-        let TableChecks { asks, kept, .. } = self;
+        let TableChecks {
+            asks,
+            kept,
+            made,
+            ..
+        } = self;
         kept?;
-        Ok(asks)
+        Ok(Lacking { asks, hashed: made })
     }
 }
 
-impl<'t, 's, T: Told, L: Ledger, M: Ledger> Checks for TableChecks<'t, 's, T, L, M> {
+/// What a table lacked, and how many names have been hashed.
+#[derive(Drop)]
+pub(crate) struct Lacking<N: Ledger> {
+    pub(crate) asks: Vec<Ask>,
+    pub(crate) hashed: Steps<N>,
+}
+
+impl<'t, 's, T: Told, L: Ledger, M: Ledger, N: Ledger> Checks for TableChecks<'t, 's, T, L, M, N> {
     ghost use Rattle.answer_judge_table.specs.Asking.{AgreesAsking, PassesEach};
     ghost use Rattle.answer_judge_table.specs.Table.{answers_with, may_pass_in};
 
@@ -155,6 +178,7 @@ impl<'t, 's, T: Told, L: Ledger, M: Ledger> Checks for TableChecks<'t, 's, T, L,
             return Err(HashError::Memory);
         }
         self.has_hashed = true;
+        self.made.tick();
         Sha1Hasher.hash(alloc, name, algorithm, iterations, salt)
     }
 }

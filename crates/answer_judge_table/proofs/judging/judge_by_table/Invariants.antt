@@ -1,10 +1,4 @@
 use Rattle.answer_judge_table.proofs.judging.judge_by_table.Given as goal
 
-abbrev pub ghosts-judged-T-Told : goal.ghosts-judged-T-Told
-ghosts-judged-T-Told a = record { table = a.table.now }
-
-abbrev pub ghosts-judged-L-Ledger : goal.ghosts-judged-L-Ledger
-ghosts-judged-L-Ledger a = record { name = a.first.name; parts = a.first.parts }
-
-abbrev pub ghosts-judged-M-Ledger : goal.ghosts-judged-M-Ledger
-ghosts-judged-M-Ledger a = record { name = a.second.name; parts = a.second.parts }
+abbrev pub ghosts-uncounted-N-Ledger : goal.ghosts-uncounted-N-Ledger
+ghosts-uncounted-N-Ledger a = record { name = a.blank.name; parts = a.blank.parts }
