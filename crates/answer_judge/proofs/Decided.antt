@@ -67,8 +67,9 @@ few_facts a h f =
     let fails = fails_among a.hash f.hash_links in
     let names = hashed h.apex (hash_among a.hash f.hash_links) f h.asked.name in
     let fewer : length (up_to fails names) ≤ length names = no_more fails names in
-    let few : length names ≤ length h.asked.name + 2 = (few_hashes h.apex (hash_among a.hash f.hash_links) f h.asked.name).few in
-    few_unless (are_mixed f.hash_links || are_over h.limit f.hash_links) (length (up_to fails names)) (hash_bound h) (omega (arith, fewer, few))
+    let least : length names ≤ length h.asked.name + 2 = (few_hashes h.apex (hash_among a.hash f.hash_links) f h.asked.name).few in
+    let most : length (up_to fails names) ≤ length h.asked.name + 2 = omega (arith, fewer, least) in
+    few_unless (are_mixed f.hash_links || are_over h.limit f.hash_links) (length (up_to fails names)) (hash_bound h) most
 
 pub few : (a : Answers) (h : Handing) (f : Facts) (unlike : Bool) → hashes_of_proof a h f unlike ≤ hash_bound h
 few a h f unlike = few_unless (h.one_moment && unlike) (hashes_of_facts a h f) (hash_bound h) (few_facts a h f)

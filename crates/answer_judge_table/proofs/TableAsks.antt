@@ -77,13 +77,13 @@ module _ {E : Type 0} (table : List Checked) (h : Handing) (held : List Tried) (
   -- what is asked for then
   pub are_asked : (verifications : ℕ) → IsDecided own agrees pointer_limit h verifications → IsOk kept → (asks : List Tried) → asks ≡ held → (n : ℕ) → 0 < length asks → are_new table asks ≡ true → length asks ≤ n → n ≡ verifications
       → verifications ≤ verification_bound pointer_limit h → PassesEach asks (is_tried_signature own pointer_limit h) → AreAsked table h asks
-  are_asked verifications is kept_is asks same n some new counts all bound tried =
+  are_asked verifications is kept_is asks same n some new counts all bound of_case =
       let due : verifications ≡ due_by (may_pass_in table) h = counted is.answer verifications (due_by (may_pass_in table) h) is.in_memory (is.made own.verifies (inl refl)).counts in
       record {
         some = some;
         are_new = new;
         few = omega (arith, counts, all, bound);
-        tried = record { each = tried; due = omega (arith, counts, all, due) };
+        tried = record { each = of_case; due = omega (arith, counts, all, due) };
         all = record {
           answer = is.answer;
           verifications = verifications;
