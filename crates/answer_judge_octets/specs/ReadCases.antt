@@ -12,7 +12,8 @@ abbrev pub handing_of : OctetCase → ReadCase → Handing
 handing_of case r =
     handed_for r.apex r.ds.items (cow_slice_items r.dnskey) (cow_slice_items r.answer) (asked_of r.question) (case.moment * 1000000000) case.limit r.one_moment r.other_question
 
--- what the case spells, and the error that is said where no DS record of it is judged by
+-- what the case spells, the error that is said where no DS record of it is judged by, and whether it wants places
 pub record ReadsAs (case : OctetCase) (r : ReadCase) : Type 0 where
   pub spelled : Spells case (handing_of case r) r.table.items
   pub error_is : r.error ≡ unsupported spelled.ds_set
+  pub places_are : r.places ≡ spelled.places

@@ -27,6 +27,7 @@ use Rattle.answer_judge_octets.specs.declared.octets.OctetCase.{OctetCase}
 use Rattle.answer_judge_octets.specs.declared.octets.Report.{Report}
 use Rattle.answer_judge_table.specs.Asking.{unchecked}
 use Rattle.answer_judge_table.specs.Table.{Checked, Tried, answers_with, passes_in}
+use Rattle.answer_judge_octets.specs.Places.{octets_in_front}
 use Rattle.answer_judge_octets.specs.Written.{FitsChecked, FitsDs, IsList, checked_octets, ds_octets}
 
 -- ---- what is handed in
@@ -88,6 +89,8 @@ pub record Spells (case : OctetCase) (h : Handing) (table : List Checked) : Type
   pub limit : h.limit ≡ case.limit
   pub one_moment : flag_in case case.one_moment ≡ Some h.one_moment
   pub other_question : flag_in case case.other_question ≡ Some h.other_question
+  pub places : Bool
+  pub wants_places : flag_in case case.places ≡ Some places
   pub entries : IsList FitsChecked checked_octets case.checked.now table
 
 -- a DS set of which some record is judged by
@@ -100,7 +103,9 @@ pub record HasDs (case : OctetCase) : Type 0 where
 abbrev pub IsBadCase : OctetCase → Type 0
 IsBadCase case =
     (flag_in case case.one_moment ≡ None)
-    ⊎ ((flag_in case case.as_received ≡ None) ⊎ ((flag_in case case.other_question ≡ None) ⊎ (flag_in case case.no_ds ≡ Some (length case.ds.now == 0) → ⊥)))
+    ⊎ ((flag_in case case.as_received ≡ None)
+    ⊎ ((flag_in case case.other_question ≡ None)
+    ⊎ ((flag_in case case.places ≡ None) ⊎ (flag_in case case.no_ds ≡ Some (length case.ds.now == 0) → ⊥))))
 
 -- which octets of a case spell nothing
 abbrev pub Unread : OctetCase → ReplyCode → Type 0
@@ -237,6 +242,10 @@ only code = record { code = code; octets = []; verifications = 0; hashes = 0; tt
 abbrev pub counted : ℕ → ℕ → Replied → Replied
 counted verifications hashes said = record said { verifications = verifications; hashes = hashes }
 
+-- a reply with its octets behind others
+abbrev pub behind : List ℕ → Replied → Replied
+behind front said = record said { octets = front ++ said.octets }
+
 -- a reply as contracts see it
 abbrev pub reply_seen : Reply → Replied
 reply_seen r = record { code = r.code; octets = r.octets.items; verifications = r.verifications; hashes = r.hashes; ttl = r.ttl; until = r.until; ede = r.ede; delegates = r.delegates }
@@ -351,25 +360,32 @@ AsksOrStops false asks said = (said ≡ record (only c.Ask) { octets = entries_o
 
 -- ---- what comes of a search
 
-abbrev pub IsRepliedTo : OctetCase → ℕ → Handing → List Checked → Found → Replied → Type 0
-IsRepliedTo case error h table (f.Finds finding lasting verifications hashes) said = said ≡ counted verifications hashes (found_reply case.moment error (seen finding) lasting)
-IsRepliedTo case error h table (f.Refused refusal verifications hashes) said = said ≡ counted verifications hashes (refusal_reply refusal (error_of h table refusal))
-IsRepliedTo case error h table (f.Asks asks) said = AsksOrStops (are_too_many case.max_signatures h table (length asks.items)) asks.items said
+-- The octets in front of those of what is found, where places are wanted: which records it vouches for.
+abbrev pub front_of : Bool → List Checked → Handing → Seen → List ℕ
+front_of false table h s = []
+front_of true table h s = octets_in_front table h s
+
+-- what is replied to what comes of a search, beside a DS set with that error, and with or without places
+abbrev pub IsRepliedTo : OctetCase → ℕ → Bool → Handing → List Checked → Found → Replied → Type 0
+IsRepliedTo case error places h table (f.Finds finding lasting verifications hashes) said =
+    said ≡ behind (front_of places table h (seen finding)) (counted verifications hashes (found_reply case.moment error (seen finding) lasting))
+IsRepliedTo case error places h table (f.Refused refusal verifications hashes) said = said ≡ counted verifications hashes (refusal_reply refusal (error_of h table refusal))
+IsRepliedTo case error places h table (f.Asks asks) said = AsksOrStops (are_too_many case.max_signatures h table (length asks.items)) asks.items said
 
 -- What is found by a table, and what it is replied as. Of messages in which nothing is forged nothing is found but what is so of a
 -- version of the zone, whichever signatures pass beside those of the table.
-pub record SaysFound (case : OctetCase) (error : ℕ) (h : Handing) (table : List Checked) (said : Replied) : Type 0 where
+pub record SaysFound (case : OctetCase) (error : ℕ) (places : Bool) (h : Handing) (table : List Checked) (said : Replied) : Type 0 where
   pub found : Found
   pub is_found : IsFound table h found
   pub honest : FindsTruly table h found
-  pub replied : IsRepliedTo case error h table found said
+  pub replied : IsRepliedTo case error places h table found said
 
 -- what the octets spell, and what is found and replied
 pub record IsReply (case : OctetCase) (said : Replied) : Type 0 where
   pub handing : Handing
   pub table : List Checked
   pub spelled : Spells case handing table
-  pub says : SaysFound case (unsupported spelled.ds_set) handing table said
+  pub says : SaysFound case (unsupported spelled.ds_set) spelled.places handing table said
 
 -- A reply to a case: that memory ran out, also for an extended error, or that octets of it spell nothing, or what is found in what
 -- they spell.

@@ -10,6 +10,7 @@ mod limit;
 mod list;
 pub mod octets;
 mod parts;
+mod places;
 pub mod reply;
 mod table_alone;
 

@@ -11,6 +11,7 @@ use crate::ds::{judged_ds, unsupported};
 use crate::errors::error_of;
 use crate::limit::are_too_many;
 use crate::list::read_list;
+use crate::places::octets_in_front;
 use crate::reply::{Reply, ReplyCode, reply_of_asks, reply_of_finding, reply_of_refusal};
 use answer_findings::{Found, find};
 use answer_judge::Case;
@@ -71,6 +72,8 @@ pub struct OctetCase<'a> {
     pub other_question: u32,
     /// 1 where the parent proved that there is no DS record; else 0, and `ds` has some.
     pub no_ds: u32,
+    /// 1 where the reply is to say which records of `answer` a verdict vouches for; else 0.
+    pub places: u32,
 }
 
 /// How many octets a case has in memory.
@@ -119,6 +122,7 @@ struct ReadCase<'a> {
     answer: CowSlice<'a, u8>,
     one_moment: bool,
     other_question: bool,
+    places: bool,
     question: Question,
     table: Vec<CheckedSignature<'a>>,
 }
@@ -129,6 +133,10 @@ struct ReadCase<'a> {
 /// becomes, if it isn't too long, of a delegation the cut, and of a referral behind it the data of
 /// its DS records, all names in wire form; of signatures that are asked for their entries, which
 /// belong into the list with their last octets set.
+///
+/// Where the case wants places, in front of the octets of each verdict but that the zone is not
+/// signed stand the numbers of the records that it vouches for, counted from 0 over the sections of
+/// the answer, ascending, in four octets each, behind how many there are in four.
 ///
 /// Of messages in which nothing is forged, in the form that is judged, nothing is said but what is
 /// so of a version of the zone: of a zone in order (nothing beside a CNAME, nothing below a DNAME),
@@ -188,7 +196,8 @@ fn reply(alloc: Global, case: &OctetCase) -> Reply
 /// The reply to what a case spells.
 fn judged(alloc: Global, case: &OctetCase, read: &ReadCase) -> Result<Reply, AllocError>
     ensures { let h = handing_of case.now read.now in let table = read.now.table.items in
-        IfOk result (λ r. SaysFound case.now read.now.error h table (reply_seen r)) }
+        let places = read.now.places in
+        IfOk result (λ r. SaysFound case.now read.now.error places h table (reply_seen r)) }
 {
     let handed = Case {
         apex: &read.apex,
@@ -209,7 +218,11 @@ fn judged(alloc: Global, case: &OctetCase, read: &ReadCase) -> Result<Reply, All
             hashes,
         } => {
             let reply = reply_of_finding(alloc, case.moment, read.error, &finding, lasting)?;
-            Ok(reply.counted(verifications, hashes))
+            let reply = reply.counted(verifications, hashes);
+            if !read.places {
+                return Ok(reply);
+            }
+            reply.behind(octets_in_front(alloc, &handed, &read.table, &finding)?)
         }
         Found::Refused {
             refusal,
@@ -235,6 +248,7 @@ fn read_case<'a>(alloc: Global, case: &OctetCase<'a>) -> Result<ReadCase<'a>, Re
     let one_moment = flag_in(case, case.one_moment)?;
     let as_received = flag_in(case, case.as_received)?;
     let other_question = flag_in(case, case.other_question)?;
+    let places = flag_in(case, case.places)?;
     if flag_in(case, case.no_ds)? != case.ds.is_empty() {
         return Err(ReplyCode::BadCase);
     }
@@ -259,6 +273,7 @@ fn read_case<'a>(alloc: Global, case: &OctetCase<'a>) -> Result<ReadCase<'a>, Re
         answer,
         one_moment,
         other_question,
+        places,
         question: Question {
             name,
             rtype: Rtype::from_int(case.rtype),

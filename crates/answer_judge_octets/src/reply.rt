@@ -9,7 +9,7 @@ ghost use Rattle.answer_judge_octets.specs.declared.reply.ReplyCode.{ReplyCode};
 ghost use Rattle.answer_judge_table.specs.Asking.{unchecked};
 ghost use Rattle.answer_judge_octets.specs.Written.{FitsChecked, IsLong, IsShort, checked_octets};
 ghost use Rattle.answer_judge_octets.specs.Written.{with_long_length};
-ghost use Rattle.answer_judge_octets.specs.Replying.{AsksOrStops, code_of_refusal, code_of_verdict};
+ghost use Rattle.answer_judge_octets.specs.Replying.{AsksOrStops, behind, code_of_refusal, code_of_verdict};
 ghost use Rattle.answer_judge_octets.specs.Replying.{code_found, counted, delegates_found};
 ghost use Rattle.answer_judge_octets.specs.Replying.{entries_of, error_beside, found_reply};
 ghost use Rattle.answer_judge_octets.specs.Replying.{is_refusal, is_verdict, number_of};
@@ -205,6 +205,17 @@ impl Reply {
         reply.verifications = verifications;
         reply.hashes = hashes;
         reply
+    }
+
+    /// The reply, its octets behind others.
+    pub(crate) fn behind(self, front: Vec<u8>) -> Result<Self, AllocError>
+        ensures { IfOk result (λ r. reply_seen r ≡ behind front.items (reply_seen self)) }
+    {
+        let mut octets = front;
+        octets.extend_from_slice(&self.octets)?;
+        let mut reply = self;
+        reply.octets = octets;
+        Ok(reply)
     }
 }
 

@@ -76,6 +76,7 @@ fn replies(
         max_signatures: 0,
         other_question: 0,
         no_ds: 0,
+        places: 0,
     };
     let mut report = Report {
         size: size_of::<Report>(),

@@ -157,6 +157,7 @@ impl Desk {
             max_signatures: flags.max_signatures,
             other_question: u32::from(flags.other_question),
             no_ds: u32::from(ds.is_empty()),
+            places: 0,
         }
     }
 

@@ -80,6 +80,7 @@ fn reply_to(
         max_signatures: case.max_signatures,
         other_question: case.other_question,
         no_ds: case.no_ds,
+        places: case.places,
     };
     let code = judge_octets(alloc, &case, out, &mut report);
     (code, report)

@@ -30,7 +30,10 @@ returns-clause-ok c =
         limit = search rules;
         one_moment = search rules;
         other_question = search rules;
+        places = c.in_ok-places.places;
+        wants_places = search rules;
         entries = search rules;
       };
       error_is = search rules;
+      places_are = search rules;
     }

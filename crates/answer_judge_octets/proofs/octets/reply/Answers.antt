@@ -1,4 +1,4 @@
-use Rattle.std.proofs.Common.{inr, subst}
+use Rattle.std.proofs.Common.{inr, subst₂}
 use Rattle.answer_judge_octets.specs.Replying.{SaysFound, reply_seen}
 use Rattle.answer_judge_octets.specs.ReadCases.{handing_of}
 use Rattle.answer_judge_octets.proofs.octets.reply.Goals as goal
@@ -13,5 +13,5 @@ returns-in-Ok-judged c =
       handing = h;
       table = read.table.items;
       spelled = reads.spelled;
-      says = subst (λ error. SaysFound case error h read.table.items (reply_seen c.in-Ok-judged.reply)) reads.error_is c.in-Ok-judged.ensures;
+      says = subst₂ (λ error places. SaysFound case error places h read.table.items (reply_seen c.in-Ok-judged.reply)) reads.error_is reads.places_are c.in-Ok-judged.ensures;
     }
