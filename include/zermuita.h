@@ -38,6 +38,9 @@ enum zermuita_reply {
      *   ZERMUITA_DELEGATED                       the name of the topmost delegation, where the answer proves which; else nothing
      *   others                                   nothing
      *
+     * With `places` 1 the places of the records that the verdict vouches for stand in front of that (zermuita_take_places), with
+     * each verdict but ZERMUITA_INSECURE.
+     *
      * A verdict vouches for the RRset that was asked for, for that of an alias or a DNAME, for the DS set of a referral and for NSEC
      * and NSEC3 records alone: no SOA record beside a denial and no NS set of a referral is verified, nor the CNAME that servers
      * make of a DNAME. Of an alias nothing is said but where it leads: ask for the target next.
@@ -115,6 +118,7 @@ struct zermuita_case {
     uint32_t max_signatures;           /* how many signatures of both messages are to be checked at most; 0: 16 */
     uint32_t other_question;           /* 1: the answer may be one to another question of the zone; 0: to this one */
     uint32_t no_ds;                    /* 1: the parent proved that there is no DS record; 0: `ds` has some */
+    uint32_t places;                   /* 1: a verdict says which records of `answer` it vouches for; 0: it does not */
 };
 
 /* Whether a name that has no DS record is a delegation. */
@@ -136,7 +140,7 @@ struct zermuita_report {
     size_t size;            /* sizeof(struct zermuita_report), set before the call */
     size_t len;             /* how many octets the reply has; of one that there is no room for, what all else here is of too */
     uint64_t until;         /* the last second, since 1970, in which the verdict stands */
-    uint64_t verifications; /* with a verdict or a refusal: how many signatures were looked up in `checked` */
+    uint64_t verifications; /* with a verdict or a refusal: how many signatures were looked up in `checked`, not for places */
     uint64_t hashes;        /* with a verdict or a refusal: how many names were hashed */
     uint32_t ttl;           /* for how many seconds from its message's arrival the verdict may be kept (RFC 4035, 5.3.3) */
     uint16_t ede;           /* the code of an extended error (RFC 8914); 0: none, since code 0 says nothing and is never meant */
@@ -265,6 +269,38 @@ static inline int zermuita_next_name(struct zermuita_octets *rest, struct zermui
     name->len = len + 1;
     rest->data += len + 1;
     rest->len -= len + 1;
+    return 1;
+}
+
+/*
+ * Takes the places of the records that a verdict vouches for off the front of `rest`, which begins as the octets of the reply to
+ * a case with `places` 1: how many there are in four octets, and each in four. What is behind them is what the reply writes with
+ * `places` 0. Gives 0 where there are none, as with ZERMUITA_INSECURE.
+ */
+static inline int zermuita_take_places(struct zermuita_octets *rest, struct zermuita_octets *places) {
+    size_t count = rest->len < 4 ? 0 : zermuita_number(rest->data, 4);
+    if (rest->len < 4 || (rest->len - 4) / 4 < count) {
+        return 0;
+    }
+    places->data = rest->data + 4;
+    places->len = 4 * count;
+    rest->data += 4 + 4 * count;
+    rest->len -= 4 + 4 * count;
+    return 1;
+}
+
+/*
+ * Takes a place off the front of `places`: the number of a record of `answer`, counted from 0 over the answer, the authority and
+ * the additional section, records of all types. Gives 0 where there are no more. Places ascend, and RRSIG records have none: those
+ * that cover an RRset go with its records.
+ */
+static inline int zermuita_next_place(struct zermuita_octets *places, uint32_t *place) {
+    if (places->len < 4) {
+        return 0;
+    }
+    *place = (uint32_t)zermuita_number(places->data, 4);
+    places->data += 4;
+    places->len -= 4;
     return 1;
 }
 

@@ -61,9 +61,16 @@ static void print_name(const char *what, struct zermuita_octets name) {
     puts(name.len == 1 ? "." : "");
 }
 
-/* Prints the names and the data that a verdict has written. */
+/* Prints which records of the answer a verdict vouches for, by their numbers, and the names and the data that it has written. */
 static void print_octets(enum zermuita_reply reply, struct zermuita_octets rest) {
-    struct zermuita_octets part;
+    struct zermuita_octets part, places = {NULL, 0};
+    if (zermuita_take_places(&rest, &places)) {
+        fputs("vouches for records", stdout);
+        for (uint32_t place; zermuita_next_place(&places, &place);) {
+            printf(" %" PRIu32, place);
+        }
+        puts("");
+    }
     for (size_t i = 0; i < 2 && reply < sizeof names_of / sizeof *names_of && names_of[reply][i] != NULL; i++) {
         if (zermuita_next_name(&rest, &part)) {
             print_name(names_of[reply][i], part);
@@ -86,7 +93,7 @@ int main(int argc, char **argv) {
         .size = sizeof handed, .apex = name_of_text(argv[1], apex), .ds = octets_of_file(argv[2]),
         .dnskey = octets_of_file(argv[3]), .name = name_of_text(argv[4], name), .rtype = (uint16_t)atoi(argv[5]), .rclass = 1,
         .answer = octets_of_file(argv[6]), .now = argc > 7 ? strtoull(argv[7], NULL, 10) : (uint64_t)time(NULL),
-        .max_nsec3_iterations = 100, .algorithms = {signature_algorithms, sizeof signature_algorithms},
+        .max_nsec3_iterations = 100, .algorithms = {signature_algorithms, sizeof signature_algorithms}, .places = 1,
     };
     handed.no_ds = handed.ds.len == 0;
     struct zermuita_report report = {.size = sizeof report};

@@ -74,8 +74,9 @@ def text(name: bytes) -> str:
 
 
 def details(judgement: zermuita.Judgement) -> list[str]:
-    """What a verdict says besides: whether there is a delegation, names, data."""
+    """What a verdict says besides: whether there is a delegation, which records it vouches for, names, data."""
     said = [] if judgement.delegates is None else ["a delegation" if judgement.delegates else "no delegation"]
+    said += [] if judgement.places is None else [" ".join(["vouches for records", *map(str, judgement.places)])]
     names = {"owner": judgement.owner, "cut": judgement.cut, "target": judgement.target}
     said += [f"{what} {text(name)}" for what, name in names.items() if name is not None]
     return said + [data.hex() for data in judgement.records + judgement.ds]
@@ -94,7 +95,7 @@ def main(apex: str, ds: str, dnskey: str, name: str, rtype: str, answer: str, mo
     messages = pathlib.Path(dnskey).read_bytes(), pathlib.Path(answer).read_bytes()
     now = int(moment) if moment else None
     handed = wire(apex), records, *messages, wire(name), int(rtype)
-    case = zermuita.Case(*handed, now=now, algorithms=ALGORITHMS, no_ds=not records)
+    case = zermuita.Case(*handed, now=now, algorithms=ALGORITHMS, no_ds=not records, places=True)
     library = zermuita.Library()
     try:
         judgement = library.judge(case, signature_passes)

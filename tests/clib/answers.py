@@ -100,13 +100,14 @@ class Answered:
     as_received: int = 0
     other_question: int = 0
     max_signatures: int = 0
+    places: int = 0
     algorithms: bytes = b""
 
     def line(self) -> str:
         """As programs in C read it."""
         octets = self.algorithms, self.apex, self.name, b"".join(map(part, self.ds)), self.dnskey, self.answer
         may_be = ",".join(f"{it.number}:{it.octets.hex() or '-'}:{it.delegates}" for it in self.may_be)
-        flags = self.one_moment, self.as_received, self.other_question, self.max_signatures
+        flags = self.one_moment, self.as_received, self.other_question, self.max_signatures, self.places
         numbers = self.rtype, self.limit, self.now, *flags
         return " ".join(["case", may_be, *map(str, numbers), *(it.hex() or "-" for it in octets)])
 

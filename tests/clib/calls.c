@@ -108,9 +108,9 @@ static void call_with_reports(void) {
 
 /* Each flag is 0 or 1. */
 static void call_with_flags(void) {
-    for (uint32_t flag = 0; flag < 4; flag++) {
+    for (uint32_t flag = 0; flag < 5; flag++) {
         struct zermuita_case handed = without_messages();
-        uint32_t *const flags[] = {&handed.one_moment, &handed.as_received, &handed.other_question, &handed.no_ds};
+        uint32_t *const flags[] = {&handed.one_moment, &handed.as_received, &handed.other_question, &handed.places, &handed.no_ds};
         for (uint32_t value = 0; value < 3; value++) {
             handed = without_messages();
             *flags[flag] = value;
@@ -126,6 +126,9 @@ static void call_with_flags(void) {
     expect(reply_to(handed) == ZERMUITA_QUESTION_NOT_ALLOWED, "a question for CNAME");
     handed.other_question = 1;
     expect(reply_to(handed) == ZERMUITA_INSECURE, "a question for CNAME that another answer may answer");
+    struct zermuita_report report = report_of_nines();
+    handed.places = 1;
+    expect(zermuita_judge(&handed, NULL, 0, &report) == ZERMUITA_INSECURE && is_empty(&report), "no places of what is insecure");
 }
 
 /* The data of a DS record behind their length, with a digest of so many octets. */
@@ -239,6 +242,28 @@ static void walk_over_names(void) {
     expect(name_taken(1, 255) == 255 && name_taken(1, 257) == 0, "names of 255 octets, and of more");
 }
 
+/* Places in front of octets. */
+static void walk_over_places(void) {
+    static const uint8_t two[] = {0, 0, 0, 2, 0, 0, 0, 7, 0, 1, 2, 255, 9}, none[] = {0, 0, 0, 0};
+    static const uint8_t many[] = {255, 255, 255, 255, 0, 0, 0, 1};
+    struct zermuita_octets rest = of(two, sizeof two), places;
+    uint32_t place = 0;
+    expect(zermuita_take_places(&rest, &places) && places.data == two + 4 && places.len == 8, "two places");
+    expect(rest.data == two + 12 && rest.len == 1, "what is behind places");
+    expect(zermuita_next_place(&places, &place) && place == 7, "the first place");
+    expect(zermuita_next_place(&places, &place) && place == 66303, "the second place");
+    expect(!zermuita_next_place(&places, &place) && place == 66303 && places.len == 0, "no third place");
+    rest = of(none, sizeof none);
+    expect(zermuita_take_places(&rest, &places) && places.len == 0 && rest.len == 0, "no places");
+    expect(!zermuita_take_places(&rest, &places), "no octets are no places");
+    rest = of(many, sizeof many);
+    expect(!zermuita_take_places(&rest, &places) && rest.data == many && rest.len == sizeof many, "more places than octets");
+    for (size_t len = 0; len < 12; len++) {
+        rest = of(two, len);
+        expect(!zermuita_take_places(&rest, &places) && rest.len == len, "places that are cut off");
+    }
+}
+
 int main(void) {
     call_with_null();
     call_with_sizes();
@@ -247,6 +272,7 @@ int main(void) {
     call_with_ds();
     walk_over_replies();
     walk_over_names();
+    walk_over_places();
     expect(zermuita_version() == ZERMUITA_VERSION_NUMBER, "the version");
     for (int reply = 0; reply < 64; reply++) {
         uint32_t number = (uint32_t)reply;

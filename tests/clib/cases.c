@@ -89,7 +89,9 @@ static void take_case(struct answered *answered, char *rest) {
     answered->rtype = (uint16_t)next_number(&rest);
     answered->limit = (uint16_t)next_number(&rest);
     answered->now = next_number(&rest);
-    uint32_t *flags[] = {&answered->one_moment, &answered->as_received, &answered->other_question, &answered->max_signatures};
+    uint32_t *flags[] = {
+        &answered->one_moment, &answered->as_received, &answered->other_question, &answered->max_signatures, &answered->places,
+    };
     for (size_t i = 0; i < sizeof flags / sizeof *flags; i++) {
         *flags[i] = (uint32_t)next_number(&rest);
     }
@@ -166,6 +168,7 @@ struct zermuita_case case_of(const struct answered *answered) {
         .max_signatures = answered->max_signatures,
         .other_question = answered->other_question,
         .no_ds = answered->ds.len == 0,
+        .places = answered->places,
     };
 }
 
@@ -197,8 +200,19 @@ static bool are_same_names(struct zermuita_octets one, struct zermuita_octets ot
     return are_same;
 }
 
-static bool is_said(const struct saying *saying, const struct judgement *judgement) {
-    struct zermuita_octets one = octets_of(&saying->octets), other = octets_of(&judgement->octets), name, other_name;
+/* Takes places off that ascend. */
+static bool take_ascending(struct zermuita_octets *rest) {
+    struct zermuita_octets places;
+    bool ascend = zermuita_take_places(rest, &places);
+    int64_t last = -1;
+    for (uint32_t place; ascend && zermuita_next_place(&places, &place); last = place) {
+        ascend = last < place;
+    }
+    return ascend;
+}
+
+static bool is_said(const struct saying *saying, const struct judgement *judgement, struct zermuita_octets other) {
+    struct zermuita_octets one = octets_of(&saying->octets), name, other_name;
     if (judgement->reply != saying->reply || judgement->report.delegates != saying->delegates) {
         return false;
     }
@@ -214,9 +228,13 @@ bool is_zones(const struct answered *answered, const struct judgement *judgement
     if (judgement->reply == ZERMUITA_INSECURE) {
         return answered->ds.len == 0 || judgement->report.ede != 0;
     }
+    struct zermuita_octets octets = octets_of(&judgement->octets);
+    if (answered->places == 1 && !take_ascending(&octets)) {
+        return false;
+    }
     bool is_one = false;
     for (size_t i = 0; i < answered->may_be_len; i++) {
-        is_one |= is_said(&answered->may_be[i], judgement);
+        is_one |= is_said(&answered->may_be[i], judgement, octets);
     }
     return is_one;
 }

@@ -109,6 +109,8 @@ class Case:
     other_question: bool = False
     """Whether the answer may be one to another question of the zone."""
     no_ds: bool = False
+    places: bool = False
+    """Whether a judgement says which records of `answer` it vouches for."""
 
 
 @dataclasses.dataclass(frozen=True)
@@ -139,6 +141,9 @@ class Judgement:
     """With REFERRAL, the data of the delegation's DS records."""
     delegates: bool | None = None
     """With NODATA for DS, whether the name is a delegation, where the answer proves that; else None."""
+    places: list[int] | None = None
+    """The numbers of the records of `answer` that the verdict vouches for, counted from 0 over all its sections, ascending; RRSIG
+    records have none. None with INSECURE, and where the case does not want them."""
 
 
 class _Octets(ctypes.Structure):
@@ -153,7 +158,7 @@ class _Case(ctypes.Structure):
         *((name, ctypes.c_uint16) for name in ("rtype", "rclass", "max_nsec3_iterations")),
         *((name, ctypes.c_uint32) for name in ("one_moment", "as_received")),
         ("algorithms", _Octets),
-        *((name, ctypes.c_uint32) for name in ("max_signatures", "other_question", "no_ds")),
+        *((name, ctypes.c_uint32) for name in ("max_signatures", "other_question", "no_ds", "places")),
     ]
 
 
@@ -202,6 +207,12 @@ def _names(octets: bytes, count: int) -> tuple[list[bytes], bytes]:
         names.append(octets[: end + 1])
         octets = octets[end + 1 :]
     return names, octets
+
+
+def _places(octets: bytes) -> tuple[list[int], bytes]:
+    """The places in front of the octets of a verdict, behind how many there are, each in four octets, and what is behind them."""
+    count, *places = (int.from_bytes(octets[at : at + 4], "big") for at in range(0, 4 + 4 * int.from_bytes(octets[:4], "big"), 4))
+    return places, octets[4 + 4 * count :]
 
 
 def _said(verdict: Verdict, octets: bytes) -> dict[str, Any]:
@@ -265,7 +276,11 @@ class Library:
             raise ValueError(self.strerror(reply))
         verdict = Verdict(reply)
         numbers = {name: getattr(report, name) for name in ("verifications", "hashes", "ttl", "until", "ede")}
-        return Judgement(verdict, checked=checked, **numbers, **_said(verdict, octets), delegates=DELEGATES[report.delegates])
+        places: list[int] | None = None
+        if case.places and verdict != Verdict.INSECURE:
+            places, octets = _places(octets)
+        delegates = DELEGATES[report.delegates]
+        return Judgement(verdict, checked=checked, **numbers, **_said(verdict, octets), delegates=delegates, places=places)
 
     def _call(self, case: Case, now: int, checked: bytes) -> tuple[int, bytes, _Report]:
         """One call, made again where the reply has more octets than there is room for."""
@@ -273,7 +288,7 @@ class Library:
         octets = [_Octets(it, len(it)) for it in (case.apex, ds, case.dnskey, case.answer, case.name, checked)]
         numbers = now, case.rtype, case.rclass, case.max_nsec3_iterations, case.one_moment, case.as_received
         algorithms = bytes(case.algorithms)
-        more = _Octets(algorithms, len(algorithms)), case.max_signatures, case.other_question, case.no_ds
+        more = _Octets(algorithms, len(algorithms)), case.max_signatures, case.other_question, case.no_ds, case.places
         handed = _Room(case=_Case(ctypes.sizeof(_Case), *octets, *numbers, *more))
         said, room = _ReportRoom(report=_Report(size=ctypes.sizeof(_Report))), 512
         while True:
