@@ -6,3 +6,6 @@ pub mod SpelledCases
 pub mod ToldInForm
 pub mod Standing
 pub mod Carried
+pub mod NumbersOnce
+pub mod PlacesPut
+pub mod RestsOn
