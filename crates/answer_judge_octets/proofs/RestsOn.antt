@@ -189,8 +189,8 @@ findings_rest_on_judgements table h js s are e = go (answer_of js.own) refl e
     go (Says v) n e =
         let is : verdict_found h js.ns js.ds v ≡ s = cc in
         subst (RestsOn h js.alias js.ns js.ds) is (
-          verdict_on h js.alias js.ns js.ds v (is_some (lead_found h js.alias)) (are.ns.asked ∙ ap (ns_question pointer_limit h) n)
-          (are.ds.asked ∙ ap (λ a. ds_question pointer_limit h a (is_some (lead_found h js.alias))) n)
+        verdict_on h js.alias js.ns js.ds v (is_some (lead_found h js.alias)) (are.ns.asked ∙ ap (ns_question pointer_limit h) n)
+        (are.ds.asked ∙ ap (λ a. ds_question pointer_limit h a (is_some (lead_found h js.alias))) n)
         )
     go (Refuses r) n e =
         refusal_on h js.alias js.ns js.ds r (are.alias.asked ∙ ap (alias_question pointer_limit h) n)
