@@ -1,6 +1,7 @@
 -- Messages that are made, and what becomes of them.
-use Rattle.std.proofs.Common.{◌≡◌, ◌∙◌, ℕ, Bool, true, false, List, refl, sym, ap, subst, inl, inr}
-use Rattle.std.specs.Prelude.{Option, Result, Ok, Err, IfErr, IfOk, IsOk, OnErr}
+use Rattle.std.proofs.Common.{◌≡◌, ◌∙◌, ℕ, Bool, true, false, List, Vec, refl, sym, ap, subst, inl, inr}
+use Rattle.std.specs.declared.alloc.Global.{Global}
+use Rattle.std.specs.Prelude.{MatchBool, Option, Result, Ok, Err, IfErr, IfOk, IsOk, OnErr}
 use Rattle.definitions.specs.Limits.{pointer_limit}
 use Rattle.messages.specs.Message.{Asked, Message, message}
 use Rattle.messages.specs.declared.error.MessageError.{MessageError}
@@ -8,6 +9,7 @@ use Rattle.answer_publisher.specs.Inputs.{answer_inputs, keys_inputs}
 use Rattle.answer_publisher.specs.declared.publishing.Publisher.{Publisher}
 use Rattle.answer_publisher.specs.declared.fault.AnswerFault.{AnswerFault}
 use Rattle.server_queries.specs.Queries.{Queried}
+use Rattle.answer_publisher.specs.Replacing.{noted}
 use Rattle.server_responses.specs.Responses.{is_dnssec_ok}
 use Rattle.server_signatures.specs.Outcomes.{AnswersEach, AnswersKeysEach, IsSigned, RefusesEach, RefusesKeysEach, latest_after}
 use Rattle.server_signatures.specs.Table.{sign_by, verify_by}
@@ -15,8 +17,11 @@ use Rattle.server_signatures.specs.declared.answering.Signed.{Signed}
 use Rattle.server_signatures.specs.declared.answering.Signed.TheVariants as signed
 use Rattle.server_signatures.proofs.Signing.{own_entries}
 use Rattle.server_answers.specs.Messages.{Makes}
-use Rattle.server_answers.specs.Requests.{IsMadeOf, IsOrWasNoted, ReadsWhole}
-use Rattle.server_answers.specs.Responding.{AnswersQueried, IsMessage, Serving, is_for_keys}
+use Rattle.server_answers.specs.Answering.{AnswersQueried}
+use Rattle.server_answers.specs.MadeOf.{IsMadeOf, ReadsWhole}
+use Rattle.server_answers.specs.Requests.{IsOrWasNoted}
+use Rattle.server_answers.specs.Responding.{AnswersHeld, IsMessage, Serving, is_for_keys}
+use Rattle.server_answers.specs.Unheld.{AnswersUnheld, IsMadeUnheld, IsRefusal, has_answers, is_unheld, reserved}
 use Rattle.server_answers.specs.declared.requests.Response.{Response}
 use Rattle.server_answers.specs.declared.requests.Response.TheVariants as response
 
@@ -67,7 +72,7 @@ was_noted s asked keys dnssec_ok old new (Ok (signed.Missing v)) h = inl h.2
 was_noted s asked keys dnssec_ok old new (Err f) h = inl h.1
 
 pub is_answered : (s : Serving) (q : Queried) (old new : Option ℕ) (made : Result Signed AnswerFault) (r : Response) → Makes s q.asked (is_for_keys s.world.zone.apex q.asked) (is_dnssec_ok q) old new made → IsMadeOf s.limit s.size q made r
-    → AnswersQueried s q old new r
+    → AnswersHeld s q old new r
 is_answered s q old new (Ok (signed.Message m)) (response.Reply v) h k = inl (record { m = m.items; is_message = h.0; answers = k; noted_is = h.1 })
 is_answered s q old new (Ok (signed.Message m)) response.Nothing h k = absurd k
 is_answered s q old new (Ok (signed.Message m)) (response.Sign v) h k = absurd k
@@ -77,3 +82,33 @@ is_answered s q old new (Ok (signed.Missing inputs)) (response.Reply v) h k = ab
 is_answered s q old new (Err f) (response.Reply v) h k = inr (record { f = f; is_fault = h.0; enough_memory = k.0; octets_are = k.1; unchanged = h.1 })
 is_answered s q old new (Err f) response.Nothing h k = absurd k
 is_answered s q old new (Err f) (response.Sign v) h k = absurd k
+
+-- ---- of a type that the zone does not hold
+
+module _ (s : Serving) (q : Queried) (old new : Option ℕ) where
+  -- of a message, by whether it has records of the reserved type
+  denied : (m : Vec ℕ Global) (r : Response) → IsMessage s (reserved q.asked) false (is_dnssec_ok q) m.items → new ≡ noted old s.at → (b : Bool) → has_answers m.items ≡ b
+      → MatchBool b (IsRefusal s.size q r) (IsMadeOf s.limit s.size q (Ok (signed.Message m)) r) → AnswersUnheld s q old new r
+  denied m (response.Reply v) is was true e k = inr (inl (record { m = m.items; is_message = is; held_is = e; noted_is = was }, k))
+  denied m (response.Reply v) is was false e k = inl (record { m = m.items; is_message = is; held_is = e; noted_is = was }, k)
+  denied m response.Nothing is was true e k = absurd k
+  denied m response.Nothing is was false e k = absurd k
+  denied m (response.Sign v) is was true e k = absurd k
+  denied m (response.Sign v) is was false e k = absurd k
+
+  pub unheld_answered : (made : Result Signed AnswerFault) (r : Response) → Makes s (reserved q.asked) false (is_dnssec_ok q) old new made → IsMadeUnheld s.limit s.size q made r → AnswersUnheld s q old new r
+  unheld_answered (Ok (signed.Message m)) r h k = denied m r h.0 h.1 (has_answers m.items) refl k
+  unheld_answered (Ok (signed.Missing inputs)) (response.Sign v) h k = (h.0, ap (λ x. x.items) k ∙ h.1, h.2)
+  unheld_answered (Ok (signed.Missing inputs)) response.Nothing h k = absurd k
+  unheld_answered (Ok (signed.Missing inputs)) (response.Reply v) h k = absurd k
+  unheld_answered (Err f) (response.Reply v) h k = inr (inr (record { f = f; is_fault = h.0; enough_memory = k.0; octets_are = k.1; unchanged = h.1 }))
+  unheld_answered (Err f) response.Nothing h k = absurd k
+  unheld_answered (Err f) (response.Sign v) h k = absurd k
+
+-- ---- by what is asked for
+
+abbrev by_type : Serving → Queried → Option ℕ → Option ℕ → Response → Bool → Type 0
+by_type s q old new r b = MatchBool b (AnswersUnheld s q old new r) (AnswersHeld s q old new r)
+
+pub answered_so : (s : Serving) (q : Queried) (old new : Option ℕ) (r : Response) (b : Bool) → is_unheld s.world.zone.apex q.asked ≡ b → by_type s q old new r b → AnswersQueried s q old new r
+answered_so s q old new r b is k = subst (by_type s q old new r) (sym is) k

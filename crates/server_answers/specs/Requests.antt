@@ -1,32 +1,15 @@
 -- What a server answers to a request.
-use Rattle.std.specs.Prelude.{◌≡◌, ◌≢◌, ◌⊎◌, ℕ, List, Option, Result, Ok, Err, Some, None, IsOk}
+use Rattle.std.specs.Prelude.{◌≡◌, ◌⊎◌, ℕ, List, Option, Result, Ok, Err, Some, None}
 use Rattle.definitions.specs.Limits.{pointer_limit}
-use Rattle.messages.specs.Message.{message}
 use Rattle.answer_publisher.specs.Replacing.{noted}
-use Rattle.answer_publisher.specs.declared.fault.AnswerFault.{AnswerFault}
-use Rattle.answer_publisher.specs.declared.fault.AnswerFault.TheVariants as fault
 use Rattle.server_queries.specs.Queries.{Queried, Refused, query_at}
 use Rattle.server_queries.specs.Replies.{error_octets}
 use Rattle.server_responses.specs.Limits.{size_limit}
-use Rattle.server_responses.specs.Responses.{AnswersQuery, error_response}
 use Rattle.server_responses.specs.declared.transport.Transport.{Transport}
-use Rattle.server_signatures.specs.declared.answering.Signed.{Signed}
-use Rattle.server_signatures.specs.declared.answering.Signed.TheVariants.{Message, Missing}
-use Rattle.server_answers.specs.Responding.{AnswersQueried, Serving, rcode_of}
+use Rattle.server_answers.specs.Answering.{AnswersQueried}
+use Rattle.server_answers.specs.Responding.{Serving}
 use Rattle.server_answers.specs.declared.requests.Response.{Response}
 use Rattle.server_answers.specs.declared.requests.Response.TheVariants.{Nothing, Reply, Sign}
-
--- a message that reads; what is missing has none
-abbrev pub ReadsWhole : Signed → Type 0
-ReadsWhole (Message m) = IsOk (message pointer_limit m.items)
-ReadsWhole (Missing v) = Unit {0}
-
--- what is said of a message, of what is missing, or of a fault
-abbrev pub IsMadeOf : ℕ → ℕ → Queried → Result Signed AnswerFault → Response → Type 0
-IsMadeOf limit size q (Ok (Message m)) (Reply v) = AnswersQuery limit size q m.items v.items
-IsMadeOf limit size q (Ok (Missing inputs)) (Sign v) = v ≡ inputs
-IsMadeOf limit size q (Err f) (Reply v) = (f ≢ fault.Memory) × (v.items ≡ error_response size q (rcode_of f))
-IsMadeOf limit size q made response = ⊥
 
 -- the greatest second of an answer stayed, or an answer of a moment was noted
 abbrev pub IsOrWasNoted : ℕ → Option ℕ → Option ℕ → Type 0

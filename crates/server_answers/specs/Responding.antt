@@ -82,10 +82,10 @@ pub record IsFailed (s : Serving) (q : Queried) (old new : Option ℕ) (octets :
   pub octets_are : octets ≡ error_response s.size q (rcode_of f)
   pub unchanged : new ≡ old
 
--- What answers a query: a reply; or, with DO, a wish for all signatures that the table lacks. `old` and `new` are the greatest seconds
--- of an answer before the call and behind it.
-abbrev pub AnswersQueried : Serving → Queried → Option ℕ → Option ℕ → Response → Type 0
-AnswersQueried s q old new Nothing = ⊥
-AnswersQueried s q old new (Reply v) = IsAnswered s q old new v.items ⊎ IsFailed s q old new v.items
-AnswersQueried s q old new (Sign v) =
+-- What answers a query by what the zone holds: a reply; or, with DO, a wish for all signatures that the table lacks. `old` and `new`
+-- are the greatest seconds of an answer before the call and behind it.
+abbrev pub AnswersHeld : Serving → Queried → Option ℕ → Option ℕ → Response → Type 0
+AnswersHeld s q old new Nothing = ⊥
+AnswersHeld s q old new (Reply v) = IsAnswered s q old new v.items ⊎ IsFailed s q old new v.items
+AnswersHeld s q old new (Sign v) =
     (is_dnssec_ok q ≡ true) × (v.items ≡ missing s.table (inputs_for s q.asked (is_for_keys s.world.zone.apex q.asked))) × (new ≡ old)

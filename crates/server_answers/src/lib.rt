@@ -7,6 +7,7 @@ mod blank;
 mod message;
 pub mod moment;
 pub mod requests;
+mod unheld;
 
 pub use crate::moment::{DEFAULT_BACKDATE, backdated};
 pub use crate::requests::{Response, ServerTerms, respond};

@@ -85,7 +85,7 @@ fn keys_message<S: Scheme, H: Nsec3Hasher>(
 }
 
 /// Whether a question is for the DNSKEY RRset of the apex.
-fn is_for_keys(apex: &Name<Vec<u8>>, question: &Question) -> bool
+pub(crate) fn is_for_keys(apex: &Name<Vec<u8>>, question: &Question) -> bool
     ensures { result ≡ is_for_keys apex.now (asked_of question.now) }
 {
     question.rtype == Rtype::DNSKEY && question.class == Class::IN && question.name.name_eq(apex)

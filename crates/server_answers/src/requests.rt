@@ -2,13 +2,16 @@
 ghost use Rattle.std.specs.Prelude.{◌≡◌, IfOk, OnErr};
 ghost use Rattle.answer_publisher.specs.World.{world_of};
 ghost use Rattle.messages.specs.Questions.{asked_of};
+ghost use Rattle.server_answers.specs.MadeOf.{IsMadeOf, ReadsWhole};
 ghost use Rattle.server_answers.specs.Moments.{backdated};
-ghost use Rattle.server_answers.specs.Requests.{IsMadeOf, IsOrWasNoted, ReadsWhole, Responds};
-ghost use Rattle.server_answers.specs.Responding.{AnswersQueried, serving};
+ghost use Rattle.server_answers.specs.Requests.{IsOrWasNoted, Responds};
+ghost use Rattle.server_answers.specs.Answering.{AnswersQueried};
+ghost use Rattle.server_answers.specs.Responding.{AnswersHeld, serving};
 ghost use Rattle.server_queries.specs.Views.{queried_of};
 
 use crate::message::message_for;
 use crate::moment::backdated;
+use crate::unheld::{answer_unheld, is_unheld};
 use answer_publisher::fault::AnswerFault;
 use answer_publisher::publishing::Publisher;
 use answer_scheme::Scheme;
@@ -48,15 +51,17 @@ pub enum Response {
 const SERVFAIL: u16 = 2;
 
 /// The response code of a question that a server does not answer.
-const REFUSED: u16 = 5;
+pub(crate) const REFUSED: u16 = 5;
 
 /// Answers a request by a zone's publisher, whose signatures a caller keeps in a table.
 ///
 /// Everything that an answer says is of the moment that lies `backdate` seconds before the clock:
 /// when its signatures begin, and the second that the publisher notes. A request that is no query
-/// is answered as [`read_query`] says. A question that the publisher does not answer is REFUSED;
-/// SERVFAIL says that no message holds the answer, or that a name has no hash. Without DO nothing
-/// is signed. Where memory is refused, the second may have been noted.
+/// is answered as [`read_query`] says. Questions for CNAME, DNAME and NSEC3 records, and but at the
+/// apex for DNSKEY and NSEC3PARAM records, are answered as the zone answers for a type that it does
+/// not hold. Any other question that the publisher does not answer is REFUSED; SERVFAIL says that no
+/// message holds the answer, or that a name has no hash. Without DO nothing is signed. Where memory
+/// is refused, the second may have been noted.
 pub fn respond<S: Scheme, H: Nsec3Hasher>(
     alloc: Global,
     publisher: &mut Publisher<'_, S, H>,
@@ -90,7 +95,8 @@ pub fn respond<S: Scheme, H: Nsec3Hasher>(
     }
 }
 
-/// Answers a query by a zone's publisher at a moment.
+/// Answers a query at a moment, by what the zone holds, or by what it says of a type that it does
+/// not hold.
 fn answer_query<S: Scheme, H: Nsec3Hasher>(
     alloc: Global,
     publisher: &mut Publisher<'_, S, H>,
@@ -109,12 +115,42 @@ fn answer_query<S: Scheme, H: Nsec3Hasher>(
         (IsOrWasNoted at.now publisher.old.latest publisher.new.latest) }
 {
     let question = question_of(alloc, query)?;
-    let made = message_for(publisher, table, &question, at, is_dnssec_ok(query));
+    if is_unheld(publisher.apex(), &question) {
+        return answer_unheld(
+            alloc, publisher, table, query, question, at, limit, udp_size,
+        );
+    }
+    answer_held(
+        alloc, publisher, table, query, &question, at, limit, udp_size,
+    )
+}
+
+/// Answers a query by what a zone's publisher answers to its question at a moment.
+fn answer_held<S: Scheme, H: Nsec3Hasher>(
+    alloc: Global,
+    publisher: &mut Publisher<'_, S, H>,
+    table: &[MadeSignature<'_>],
+    query: &Query<'_>,
+    question: &Question,
+    at: &UnixTime,
+    limit: usize,
+    udp_size: u16,
+) -> Result<Response, AllocError>
+    requires { asked_of question.now ≡ (queried_of query.now).asked }
+    ensures response { let p = publisher.old in
+        let w = world_of S.signature_of S.verifies S.digest_of H.hash_of p in
+        let s = serving w p.keys table.now at.now limit udp_size in let q = queried_of query.now in
+        IfOk result (AnswersHeld s q p.latest publisher.new.latest) }
+    ensures rest { publisher.new ≡ record publisher.old { latest = publisher.new.latest } }
+    ensures memory { OnErr result
+        (IsOrWasNoted at.now publisher.old.latest publisher.new.latest) }
+{
+    let made = message_for(publisher, table, question, at, is_dnssec_ok(query));
     response_with(alloc, query, made, limit, udp_size)
 }
 
 /// The response that is made of a message, or what is said where there is none.
-fn response_with(
+pub(crate) fn response_with(
     alloc: Global,
     query: &Query<'_>,
     made: Result<Signed, AnswerFault>,

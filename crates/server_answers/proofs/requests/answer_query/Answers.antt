@@ -1,40 +1,31 @@
-use Rattle.std.proofs.Common.{Bool, subst}
+use Rattle.std.proofs.Common.{◌≡◌, Bool, true, false, subst, sym, rules}
 use Rattle.std.proofs.lemmas.Result.{IfOk-weaker}
 use Rattle.answer_publisher.specs.World.{world_of}
 use Rattle.messages.specs.Message.{Asked}
 use Rattle.messages.specs.Questions.{asked_of}
 use Rattle.server_queries.specs.Views.{queried_of}
-use Rattle.server_responses.specs.Responses.{is_dnssec_ok}
-use Rattle.server_answers.specs.Messages.{Makes}
-use Rattle.server_answers.specs.Requests.{IsMadeOf}
-use Rattle.server_answers.specs.Responding.{AnswersQueried, is_for_keys, serving}
-use Rattle.server_answers.proofs.Making.{is_answered, of_err, reads_whole, was_noted}
+use Rattle.server_answers.specs.Answering.{AnswersQueried}
+use Rattle.server_answers.specs.Responding.{AnswersHeld, serving}
+use Rattle.server_answers.specs.Unheld.{AnswersUnheld, is_unheld}
+use Rattle.server_answers.proofs.Making.{answered_so}
 use Rattle.server_answers.proofs.requests.answer_query.Goals as goal
 
-pub response_with-requires : goal.response_with-requires
-response_with-requires g c =
+pub returns-then-is_unheld-clause-response : goal.returns-then-is_unheld-clause-response
+returns-then-is_unheld-clause-response g c =
     let p = c.args.publisher.now in
-    let asked = asked_of c.in_ok-question.question in
-    let s = serving (world_of g.S.Scheme.signature_of g.S.Scheme.verifies g.S.Scheme.digest_of g.H.Nsec3Hasher.hash_of p) p.keys c.args.table.now c.args.at.now 0 0 in
-    reads_whole s asked (is_for_keys p.zone.apex asked) c.is_dnssec_ok.result p.latest c.message_for-made.new.publisher.latest c.message_for-made.result c.message_for-made.ensures.made
+    let q = queried_of c.args.query.now in
+    let s = serving (world_of g.S.Scheme.signature_of g.S.Scheme.verifies g.S.Scheme.digest_of g.H.Nsec3Hasher.hash_of p) p.keys c.args.table.now c.args.at.now c.args.limit c.args.udp_size in
+    let new = c.answer_unheld.new.publisher.latest in
+    let here : is_unheld p.zone.apex (asked_of c.in_ok-question.question) ≡ true = search rules in
+    let is : is_unheld p.zone.apex q.asked ≡ true = subst (λ (a : Asked). is_unheld p.zone.apex a ≡ true) c.in_ok-question.ensures here in
+    IfOk-weaker c.answer_unheld.result (AnswersUnheld s q p.latest new) (AnswersQueried s q p.latest new) (λ r k. answered_so s q p.latest new r true is k) c.answer_unheld.ensures.response
 
 pub returns-clause-response : goal.returns-clause-response
 returns-clause-response g c =
     let p = c.args.publisher.now in
     let q = queried_of c.args.query.now in
-    let asked = asked_of c.in_ok-question.question in
     let s = serving (world_of g.S.Scheme.signature_of g.S.Scheme.verifies g.S.Scheme.digest_of g.H.Nsec3Hasher.hash_of p) p.keys c.args.table.now c.args.at.now c.args.limit c.args.udp_size in
-    let new = c.message_for-made.new.publisher.latest in
-    let made = c.message_for-made.result in
-    let first : Makes s asked (is_for_keys p.zone.apex asked) (is_dnssec_ok q) p.latest new made =
-    subst (λ (d : Bool). Makes s asked (is_for_keys p.zone.apex asked) d p.latest new made) c.is_dnssec_ok.ensures c.message_for-made.ensures.made in
-    let makes : Makes s q.asked (is_for_keys p.zone.apex q.asked) (is_dnssec_ok q) p.latest new made =
-    subst (λ (a : Asked). Makes s a (is_for_keys p.zone.apex a) (is_dnssec_ok q) p.latest new made) c.in_ok-question.ensures first in
-    IfOk-weaker c.response_with.result (IsMadeOf c.args.limit c.args.udp_size q made) (AnswersQueried s q p.latest new) (λ r k. is_answered s q p.latest new made r makes k) c.response_with.ensures
-
-pub returns-clause-memory : goal.returns-clause-memory
-returns-clause-memory g c =
-    let p = c.args.publisher.now in
-    let asked = asked_of c.in_ok-question.question in
-    let s = serving (world_of g.S.Scheme.signature_of g.S.Scheme.verifies g.S.Scheme.digest_of g.H.Nsec3Hasher.hash_of p) p.keys c.args.table.now c.args.at.now 0 0 in
-    of_err c.response_with.result (was_noted s asked (is_for_keys p.zone.apex asked) c.is_dnssec_ok.result p.latest c.message_for-made.new.publisher.latest c.message_for-made.result c.message_for-made.ensures.made)
+    let new = c.answer_held.new.publisher.latest in
+    let here : is_unheld p.zone.apex (asked_of c.in_ok-question.question) ≡ false = search rules in
+    let is : is_unheld p.zone.apex q.asked ≡ false = subst (λ (a : Asked). is_unheld p.zone.apex a ≡ false) c.in_ok-question.ensures here in
+    IfOk-weaker c.answer_held.result (AnswersHeld s q p.latest new) (AnswersQueried s q p.latest new) (λ r k. answered_so s q p.latest new r false is k) c.answer_held.ensures.response

@@ -1,0 +1,5 @@
+pub mod Picked
+pub mod UsedAlike
+pub mod LinksAlike
+pub mod FactsAlike
+pub mod JudgedAlike

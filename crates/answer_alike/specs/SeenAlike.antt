@@ -1,0 +1,36 @@
+-- Messages that a judge sees alike, whatever other records they have.
+use Rattle.std.specs.Prelude.{◌≡◌, ℕ, Bool, ◌||◌, ◌==◌, List, Ok, filter}
+use Rattle.std.specs.List.{AllZip}
+use Rattle.definitions.specs.Name.{low}
+use Rattle.messages.specs.Message.{Message, Spelled, message}
+use Rattle.answer_shared.specs.Alike.{IsLike}
+use Rattle.answer_scheme.specs.Answers.{Answers}
+use Rattle.answer_judge_keys.specs.Judging.{Handing}
+use Rattle.answer_judge_facts.specs.Judged.{judged}
+
+-- types of records that a judge uses of a message that is to tell it of a type: signatures, records of chains, and that type
+abbrev pub is_used_type : ℕ → ℕ → Bool
+is_used_type t u = (u == 46) || (u == 47) || (u == 50) || (u == t)
+
+abbrev pub is_used : ℕ → Spelled → Bool
+is_used t r = is_used_type t r.rtype
+
+-- Both messages read, and their questions, up to case, and the records that are used are alike, one by one. Between these each
+-- message may have any others.
+pub record SeenAlike (k t : ℕ) (m n : List ℕ) : Type 0 where
+  pub one : Message
+  pub other : Message
+  pub reads_one : message k m ≡ Ok one
+  pub reads_other : message k n ≡ Ok other
+  pub name_is : low one.asked.name ≡ low other.asked.name
+  pub rtype_is : one.asked.rtype ≡ other.asked.rtype
+  pub class_is : one.asked.class ≡ other.asked.class
+  pub records_are : AllZip (IsLike k m n) (filter (is_used t) one.records) (filter (is_used t) other.records)
+
+-- one answer in the place of another
+abbrev pub AnswersJudgedAlike : Type 0
+AnswersJudgedAlike = (a : Answers) (k : ℕ) (h : Handing) (m n : List ℕ) → SeenAlike k h.asked.rtype m n → judged a k (record h { answer_bytes = m }) ≡ judged a k (record h { answer_bytes = n })
+
+-- one DNSKEY answer in the place of another
+abbrev pub KeysJudgedAlike : Type 0
+KeysJudgedAlike = (a : Answers) (k : ℕ) (h : Handing) (m n : List ℕ) → SeenAlike k 48 m n → judged a k (record h { dnskey_bytes = m }) ≡ judged a k (record h { dnskey_bytes = n })

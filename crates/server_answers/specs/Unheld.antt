@@ -1,0 +1,71 @@
+-- What a server answers to questions for types of which no accepted zone holds a record.
+use Rattle.std.specs.Prelude.{◌≡◌, ◌≢◌, ◌⊎◌, MatchBool, ℕ, Bool, true, false, not, ◌&&◌, ◌||◌, ◌==◌, List, [], ◌∷◌, Option, Result, Ok, Err, nat_lt, slice_index}
+use Rattle.definitions.specs.Name.{Name, same}
+use Rattle.messages.specs.HandedRr.{among}
+use Rattle.messages.specs.Message.{Asked}
+use Rattle.answer_publisher.specs.Replacing.{noted}
+use Rattle.answer_publisher.specs.declared.fault.AnswerFault.{AnswerFault}
+use Rattle.answer_publisher.specs.declared.fault.AnswerFault.TheVariants.{Memory}
+use Rattle.server_queries.specs.Queries.{Queried}
+use Rattle.server_responses.specs.Responses.{AnswersQuery, error_response, is_dnssec_ok}
+use Rattle.server_signatures.specs.Table.{missing}
+use Rattle.server_signatures.specs.declared.answering.Signed.{Signed}
+use Rattle.server_signatures.specs.declared.answering.Signed.TheVariants.{Message, Missing}
+use Rattle.server_answers.specs.MadeOf.{IsMadeOf}
+use Rattle.server_answers.specs.Responding.{IsFault, IsMessage, Serving, inputs_for, is_for_keys, rcode_of}
+use Rattle.server_answers.specs.declared.requests.Response.{Response}
+use Rattle.server_answers.specs.declared.requests.Response.TheVariants.{Nothing, Reply, Sign}
+
+-- CNAME, DNAME and NSEC3; DNSKEY, but for the keys of the zone; NSEC3PARAM, but at the apex
+abbrev pub is_unheld : Name → Asked → Bool
+is_unheld apex asked = among (5 ∷ 39 ∷ 50 ∷ []) asked.rtype || ((asked.rtype == 48) && not (is_for_keys apex asked)) || ((asked.rtype == 51) && not (same asked.name apex))
+
+-- the question for a reserved type in the place of another (RFC 6895, 3.1)
+abbrev pub reserved : Asked → Asked
+reserved a = record { name = a.name; rtype = 65535; class = a.class }
+
+-- the header counts records in the answer section
+abbrev pub has_answers : List ℕ → Bool
+has_answers m = nat_lt 0 (slice_index m 6) || nat_lt 0 (slice_index m 7)
+
+abbrev pub is_held : Result Signed AnswerFault → Bool
+is_held (Ok (Message m)) = has_answers m.items
+is_held (Ok (Missing v)) = false
+is_held (Err f) = false
+
+-- REFUSED, where a message has records of the reserved type; otherwise what is said of it
+abbrev pub IsRefusal : ℕ → Queried → Response → Type 0
+IsRefusal size q (Reply v) = v.items ≡ error_response size q 5
+IsRefusal size q response = ⊥
+
+abbrev pub IsMadeUnheld : ℕ → ℕ → Queried → Result Signed AnswerFault → Response → Type 0
+IsMadeUnheld limit size q made response = MatchBool (is_held made) (IsRefusal size q response) (IsMadeOf limit size q made response)
+
+-- the response of a message for the reserved type, and whether it has records of that type
+pub record IsMadeReserved (s : Serving) (q : Queried) (old new : Option ℕ) (held : Bool) : Type 0 where
+  pub m : List ℕ
+  pub is_message : IsMessage s (reserved q.asked) false (is_dnssec_ok q) m
+  pub held_is : has_answers m ≡ held
+  pub noted_is : new ≡ noted old s.at
+
+-- the zone's answer for the reserved type, where it has no record of it
+abbrev pub IsDenied : Serving → Queried → Option ℕ → Option ℕ → List ℕ → Type 0
+IsDenied s q old new octets = (r : IsMadeReserved s q old new false) × AnswersQuery s.limit s.size q r.m octets
+
+-- REFUSED, where it has
+abbrev pub IsRefused : Serving → Queried → Option ℕ → Option ℕ → List ℕ → Type 0
+IsRefused s q old new octets = IsMadeReserved s q old new true × (octets ≡ error_response s.size q 5)
+
+-- a reply that says why there is no message
+pub record IsUnmade (s : Serving) (q : Queried) (old new : Option ℕ) (octets : List ℕ) : Type 0 where
+  pub f : AnswerFault
+  pub is_fault : IsFault s (reserved q.asked) false (is_dnssec_ok q) f
+  pub enough_memory : f ≢ Memory
+  pub octets_are : octets ≡ error_response s.size q (rcode_of f)
+  pub unchanged : new ≡ old
+
+-- what answers such a question: a reply; or, with DO, a wish for all signatures that the table lacks
+abbrev pub AnswersUnheld : Serving → Queried → Option ℕ → Option ℕ → Response → Type 0
+AnswersUnheld s q old new Nothing = ⊥
+AnswersUnheld s q old new (Reply v) = IsDenied s q old new v.items ⊎ (IsRefused s q old new v.items ⊎ IsUnmade s q old new v.items)
+AnswersUnheld s q old new (Sign v) = (is_dnssec_ok q ≡ true) × (v.items ≡ missing s.table (inputs_for s (reserved q.asked) false)) × (new ≡ old)

@@ -1,0 +1,115 @@
+//! Questions for types of which no accepted zone holds a record.
+ghost use Rattle.std.specs.Prelude.{◌≡◌, IfOk, OnErr, slice_index};
+ghost use Rattle.answer_publisher.specs.World.{world_of};
+ghost use Rattle.messages.specs.Questions.{asked_of};
+ghost use Rattle.server_answers.specs.MadeOf.{ReadsWhole};
+ghost use Rattle.server_answers.specs.Requests.{IsOrWasNoted};
+ghost use Rattle.server_answers.specs.Responding.{serving};
+ghost use Rattle.server_answers.specs.Unheld.{AnswersUnheld, IsMadeUnheld, has_answers, is_held, is_unheld};
+ghost use Rattle.server_queries.specs.Views.{queried_of};
+
+use crate::message::{is_for_keys, message_for};
+use crate::requests::{REFUSED, Response, response_with};
+use answer_publisher::fault::AnswerFault;
+use answer_publisher::publishing::Publisher;
+use answer_scheme::Scheme;
+use denial_nsec3_hash::hasher::Nsec3Hasher;
+use keyset::UnixTime;
+use messages::names::{Name, ToName};
+use messages::question::Question;
+use numbers::rtype::Rtype;
+use server_queries::Query;
+use server_responses::{error_response, is_dnssec_ok};
+use server_signatures::{MadeSignature, Signed};
+use std::alloc::{AllocError, Global};
+
+/// A type that is reserved, so that no zone should hold a record of it (RFC 6895, 3.1).
+const RESERVED: u16 = 65535;
+
+/// Whether a question is for a type of which an accepted zone holds no record at its name: CNAME,
+/// DNAME and NSEC3, DNSKEY but at the apex, and NSEC3PARAM but at the apex. NSEC3 records are
+/// answered as if they were not there (RFC 5155, 7.2.8).
+pub(crate) fn is_unheld(apex: &Name<Vec<u8>>, question: &Question) -> bool
+    ensures { result ≡ is_unheld apex.now (asked_of question.now) }
+{
+    match question.rtype.to_int() {
+        5 | 39 | 50 => true,
+        48 => !is_for_keys(apex, question),
+        51 => !question.name.name_eq(apex),
+        _ => false,
+    }
+}
+
+/// The answer to such a question at a moment: what the zone says of the reserved type at the name,
+/// which proves as much of any type that it holds nowhere. It is REFUSED where the zone has records
+/// of the reserved type itself.
+pub(crate) fn answer_unheld<S: Scheme, H: Nsec3Hasher>(
+    alloc: Global,
+    publisher: &mut Publisher<'_, S, H>,
+    table: &[MadeSignature<'_>],
+    query: &Query<'_>,
+    question: Question,
+    at: &UnixTime,
+    limit: usize,
+    udp_size: u16,
+) -> Result<Response, AllocError>
+    requires { asked_of question ≡ (queried_of query.now).asked }
+    ensures response { let p = publisher.old in
+        let w = world_of S.signature_of S.verifies S.digest_of H.hash_of p in
+        let s = serving w p.keys table.now at.now limit udp_size in let q = queried_of query.now in
+        IfOk result (AnswersUnheld s q p.latest publisher.new.latest) }
+    ensures rest { publisher.new ≡ record publisher.old { latest = publisher.new.latest } }
+    ensures memory { OnErr result
+        (IsOrWasNoted at.now publisher.old.latest publisher.new.latest) }
+{
+    let reserved = Question {
+        name: question.name,
+        rtype: Rtype::from_int(RESERVED),
+        class: question.class,
+    };
+    let made = message_for(publisher, table, &reserved, at, is_dnssec_ok(query));
+    unheld_response(alloc, query, made, limit, udp_size)
+}
+
+/// The response that is made of a message for the reserved type, or what is said where there is
+/// none, or where the zone has records of that type.
+fn unheld_response(
+    alloc: Global,
+    query: &Query<'_>,
+    made: Result<Signed, AnswerFault>,
+    limit: usize,
+    udp_size: u16,
+) -> Result<Response, AllocError>
+    requires { IfOk made ReadsWhole }
+    ensures { IfOk result (IsMadeUnheld limit udp_size (queried_of query.now) made) }
+{
+    if is_held(&made) {
+        let octets = error_response(alloc, query, REFUSED, udp_size)?;
+        return Ok(Response::Reply(octets));
+    }
+    response_with(alloc, query, made, limit, udp_size)
+}
+
+/// Whether a message was made that has records in its answer section.
+fn is_held(made: &Result<Signed, AnswerFault>) -> bool
+    ensures { result ≡ is_held made.now }
+{
+    match made {
+        Ok(Signed::Message(message)) => has_answers(message),
+        _ => false,
+    }
+}
+
+/// Whether a message counts records in its answer section (RFC 1035, 4.1.1).
+fn has_answers(message: &[u8]) -> bool
+    ensures { result ≡ has_answers message.now }
+{
+    octet_at(message, 6) > 0 || octet_at(message, 7) > 0
+}
+
+/// The octet at a place, 0 where it is not there.
+fn octet_at(octets: &[u8], at: usize) -> u8
+    ensures { result ≡ slice_index octets.now at }
+{
+    if at < octets.len() { octets[at] } else { 0 }
+}

@@ -1,0 +1,135 @@
+-- Records whose data say the same wherever they stand, and such records in two messages.
+use Rattle.std.proofs.Common.{◌≡◌, ℕ, ◌+◌, ◌*◌, ◌<◌, ◌≤◌, Bool, true, false, List, [], ◌∷◌, ◌++◌, length, map, Option, Some, eqb, refl, sym, subst, ap, ◌∙◌, append_assoc, length-append, arith, lit<}
+use Rattle.std.specs.Prelude.{if◌then◌else◌}
+use Rattle.std.specs.List.{AllByRecursion, AllZip, flat_map}
+use Rattle.std.proofs.Math.Nat.{mod-lt}
+use Rattle.std.proofs.lemmas.Bool.{eq-eqb, true≢false}
+use Rattle.definitions.specs.Dnskey.{Dnskey, key_tag}
+use Rattle.definitions.specs.Limits.{pointer_limit}
+use Rattle.definitions.specs.Name.{IsName, Name, low}
+use Rattle.definitions.specs.Signing.{Fields}
+use Rattle.messages.specs.Message.{Spelled, rrsig_at}
+use Rattle.messages.specs.Rrsig.{rrsig_data}
+use Rattle.messages.specs.Written.{Written, record_octets}
+use Rattle.messages.specs.WrittenLaws.{AreFields, spelled_at, spelled_from}
+use Rattle.messages.proofs.MessageSignatures.{signature_here}
+use Rattle.messages.proofs.MessageWritten.{StandsAt, data_behind, end_of, moved}
+use Rattle.answer_shared.specs.Alike.{IsLike}
+use Rattle.answer_shared.specs.GroupView.{GroupView, IsRrsigData, fields_of, view_of}
+use Rattle.answer_shared.specs.Served.{Group}
+use Rattle.answer_publisher.specs.Composed.{IsWritten, joined, rrsig_of}
+use Rattle.answer_publisher.proofs.WritesData.{reads_plain}
+use Rattle.answer_publisher.proofs.WritesGroups.{IsFormed}
+use Rattle.answer_publisher.proofs.WritesRecords.{ReadsAs, ReadsRecord, first_stands, rest_stands}
+
+-- data of a signature that read as one wherever they stand in a message that is not too long
+abbrev pub ReadsSignature : List ℕ → Fields × List ℕ → Type 0
+ReadsSignature octets said = (m rest : List ℕ) (r : Spelled) → length m ≤ 65535 → StandsAt m r.start (octets ++ rest) → r.length ≡ length octets → rrsig_at pointer_limit m r ≡ Some said
+
+pub record StandsAlone (w : Written) : Type 0 where
+  pub data : List ℕ
+  pub reads : ReadsAs w.rtype w.octets data
+  pub signs : w.rtype ≡ 46 → (said : Fields × List ℕ) × ReadsSignature w.octets said
+
+-- ---- the records of RRsets and their signatures
+
+abbrev pub NoSignature : Group → Type 0
+NoSignature g = eqb g.rtype 46 ≡ false
+
+own_alone : (g : Group) (ws : List Written) (ds : List (List ℕ)) → NoSignature g → AllZip (ReadsRecord g) ws ds → AllByRecursion StandsAlone ws
+own_alone g [] [] none h = tt
+own_alone g [] (d ∷ ds) none h = absurd h
+own_alone g (w ∷ ws) [] none h = absurd h
+own_alone g (w ∷ ws) (d ∷ ds) none h = (
+  record {
+    data = d;
+    reads = subst (λ t. ReadsAs t w.octets d) (sym h.0.rtype) h.0.reads;
+    signs = λ is. absurd (true≢false (sym (eq-eqb g.rtype 46 (sym h.0.rtype ∙ is)) ∙ none));
+  },
+  own_alone g ws ds none h.1,
+)
+
+fields_fit : (apex : Name) (at life : ℕ) (g : GroupView) (key : Dnskey) → IsName apex → g.rtype < 65536 → g.ttl < 4294967296 → key_tag key < 65536 → AreFields (fields_of apex at life g key)
+fields_fit apex at life g key name t ttl tag = record {
+  covered = t;
+  ttl = ttl;
+  expiration = mod-lt (at + life) (lit< tt);
+  inception = mod-lt at (lit< tt);
+  tag = tag;
+  signer = name;
+}
+
+module _ (sign : Dnskey → List ℕ → Option (List ℕ)) (verifies : Dnskey → List ℕ → List ℕ → Bool) (apex : Name) (at life : ℕ) (name : IsName apex) where
+  signature_alone : (g : Group) (key : Dnskey) (d : List ℕ) → g.rtype < 65536 → g.ttl < 4294967296 → IsRrsigData sign verifies apex at life (view_of g) key d → StandsAlone (rrsig_of (view_of g) d)
+  signature_alone g key d t ttl made =
+      let f : Fields = fields_of apex at life (view_of g) key in
+      let whole : List ℕ = rrsig_data f made.signature in
+      record {
+        data = d;
+        reads = reads_plain 46 d refl refl refl;
+        signs = λ is. (
+          (record f { signer = low f.signer }, made.signature),
+          λ m rest r few stands size.
+              let there = subst (λ x. StandsAt m r.start (x ++ rest)) made.data_is stands in
+              let short : length whole ≤ 65535 = omega (arith, few, ap length there.whole, length-append there.front (whole ++ rest), length-append whole rest) in
+              signature_here m f made.signature rest r (fields_fit apex at life (view_of g) key name t ttl made.tag_fits) short there (size ∙ ap length made.data_is),
+        );
+      }
+
+  signatures_alone : (g : Group) (keys : List Dnskey) (ds : List (List ℕ)) → g.rtype < 65536 → g.ttl < 4294967296 → AllZip (IsRrsigData sign verifies apex at life (view_of g)) keys ds → AllByRecursion StandsAlone (map (rrsig_of (view_of g)) ds)
+  signatures_alone g [] [] t ttl h = tt
+  signatures_alone g [] (d ∷ ds) t ttl h = absurd h
+  signatures_alone g (key ∷ keys) [] t ttl h = absurd h
+  signatures_alone g (key ∷ keys) (d ∷ ds) t ttl h = (signature_alone g key d t ttl h.0, signatures_alone g keys ds t ttl h.1)
+
+  alone_append : (rs ss : List Written) → AllByRecursion StandsAlone rs → AllByRecursion StandsAlone ss → AllByRecursion StandsAlone (rs ++ ss)
+  alone_append [] ss h k = k
+  alone_append (r ∷ rs) ss h k = (h.0, alone_append rs ss h.1 k)
+
+  pub groups_alone : (keys : List Dnskey) (gs : List Group) (pieces : List (List Written)) → AllByRecursion IsFormed gs → AllByRecursion NoSignature gs → AllZip (IsWritten sign verifies apex at life keys) (map view_of gs) pieces → AllByRecursion StandsAlone (joined pieces)
+  groups_alone keys [] [] formed none written = tt
+  groups_alone keys [] (x ∷ pieces) formed none written = absurd written
+  groups_alone keys (g ∷ gs) [] formed none written = absurd written
+  groups_alone keys (g ∷ gs) (x ∷ pieces) formed none written =
+      let f : IsFormed g = formed.0 in
+      let w = written.0 in
+      let signatures : List Written = map (rrsig_of (view_of g)) w.0 in
+      let own : AllByRecursion StandsAlone g.written = own_alone g g.written g.datas none.0 f.datas in
+      let signed : AllByRecursion StandsAlone signatures = signatures_alone g (if g.signed then keys else []) w.0 f.rtype f.ttl w.1.0 in
+      alone_append x (joined pieces) (subst (AllByRecursion StandsAlone) (sym w.1.1) (alone_append g.written signatures own signed)) (groups_alone keys gs pieces formed.1 none.1 written.1)
+
+-- ---- two messages
+
+-- a record with another TTL
+pub record SameButTtl (v w : Written) : Type 0 where
+  pub owner_is : v.owner ≡ w.owner
+  pub type_is : v.rtype ≡ w.rtype
+  pub class_is : v.class ≡ w.class
+  pub octets_are : v.octets ≡ w.octets
+  pub ttl_is : w.ttl ≤ v.ttl
+
+record_alike : (m n : List ℕ) (p q : ℕ) (v w : Written) (rest more : List ℕ) → length m ≤ 65535 → length n ≤ 65535 → StandsAlone v → SameButTtl v w → StandsAt m p (record_octets v ++ rest) → StandsAt n q (record_octets w ++ more)
+    → IsLike pointer_limit m n (spelled_at p v) (spelled_at q w)
+record_alike m n p q v w rest more few short alone same one other =
+    let there = data_behind m p v rest one in
+    let here = subst (λ x. StandsAt n (spelled_at q w).start (x ++ more)) (sym same.octets_are) (data_behind n q w more other) in
+    let size = ap length (sym same.octets_are) in
+    record {
+      owner_is = ap low same.owner_is;
+      type_is = same.type_is;
+      class_is = same.class_is;
+      data_are = alone.reads m rest (spelled_at p v) few refl there refl ∙ sym (alone.reads n more (spelled_at q w) short (sym same.type_is) here size);
+      signature_is = λ is.
+          let s = alone.signs is in
+          s.1 m rest (spelled_at p v) few there refl ∙ sym (s.1 n more (spelled_at q w) short here size);
+    }
+
+pub records_alike : (m n : List ℕ) (p q : ℕ) (vs ws : List Written) (rest more : List ℕ) → length m ≤ 65535 → length n ≤ 65535 → AllByRecursion StandsAlone vs → AllZip SameButTtl vs ws → StandsAt m p (flat_map record_octets vs ++ rest) → StandsAt n q (flat_map record_octets ws ++ more)
+    → AllZip (IsLike pointer_limit m n) (spelled_from p vs) (spelled_from q ws)
+records_alike m n p q [] [] rest more few short alone same one other = tt
+records_alike m n p q [] (w ∷ ws) rest more few short alone same one other = absurd same
+records_alike m n p q (v ∷ vs) [] rest more few short alone same one other = absurd same
+records_alike m n p q (v ∷ vs) (w ∷ ws) rest more few short alone same one other = (
+  record_alike m n p q v w _ _ few short alone.0 same.0 (first_stands m p v vs rest one) (first_stands n q w ws more other),
+  records_alike m n (end_of p v) (end_of q w) vs ws rest more few short alone.1 same.1 (rest_stands m p v vs rest one) (rest_stands n q w ws more other),
+)

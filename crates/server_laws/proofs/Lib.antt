@@ -1,0 +1,5 @@
+pub mod Framed
+pub mod Alone
+pub mod ZoneGroups
+pub mod Shown
+pub mod Heard

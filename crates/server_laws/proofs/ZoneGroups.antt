@@ -1,0 +1,183 @@
+-- The RRsets of the answers of an accepted zone: their owners are names, their data are read, and none is of signatures.
+use Rattle.std.proofs.Common.{◌≡◌, ℕ, ◌<◌, Bool, true, false, ◌&&◌, ◌||◌, List, [], ◌∷◌, ◌++◌, map, Option, Some, None, cond, eqb, inl, inr, refl, sym, subst, ap}
+use Rattle.std.specs.List.{AllByRecursion, Contains, filter, list_any}
+use Rattle.definitions.specs.Base32hex.{base32hex}
+use Rattle.definitions.specs.Name.{IsName, Name, labels_eq, low}
+use Rattle.definitions.specs.Zone.{Delegated, NoName, NoType, Open, Records, StarNoType, StarRecords, Unsigned, Verdict, ce, cut, has, star_under, verdict}
+use Rattle.definitions.specs.ZoneChain.{Mode, Nsec, Nsec3, hashed_names, nsec3_names, optout_of}
+use Rattle.messages.specs.Handed.{AreHanded, IsHanded}
+use Rattle.messages.specs.HandedRr.{HandedRr}
+use Rattle.messages.proofs.Lists.{Has, all_sorted}
+use Rattle.messages.proofs.ZoneNames.{labels_eq-same}
+use Rattle.answer_shared.specs.Accepted.{IsAccepted}
+use Rattle.answer_shared.specs.Accepting.{record_cmp, sorted_records, zone_of, zone_with}
+use Rattle.answer_shared.specs.Chainable.{HasChain}
+use Rattle.answer_shared.specs.Hashing.{Hasher, hash_in}
+use Rattle.answer_shared.specs.Served.{Group, Served, ahead, ahead_open, answer_groups, chain_names, chain_record, if_any, owner_among, proofs_of, rrset, served_of, served_owner, soa, speaks_for, spelled_among, spelled_as, spoken, under, unsigned_ns}
+use Rattle.answer_shared.specs.ZoneView.{IsPublished}
+use Rattle.answer_shared.proofs.ZoneCutNames.{cut_name}
+use Rattle.answer_shared.proofs.ZoneFaultless.{no_fault_from}
+use Rattle.answer_shared.proofs.ZoneNaming.{all_filter, chain_named, either, first_name, lower_name, owner_name}
+use Rattle.answer_shared.proofs.ZoneRising.{published_from}
+use Rattle.answer_judge.proofs.GivenLists.{contained_has}
+use Rattle.answer_publisher.proofs.WritesData.{of_chain}
+use Rattle.answer_publisher.proofs.WritesGroups.{IsFormed}
+use Rattle.answer_publisher.proofs.WritesZone.{Named, answer_formed}
+use Rattle.server_laws.proofs.Alone.{NoSignature}
+
+all_has : {A : Type 0} (P : A → Type 0) (xs : List A) → ((x : A) → Has xs x → P x) → AllByRecursion P xs
+all_has P [] f = tt
+all_has P (x ∷ xs) f = (f x (inl refl), all_has P xs (λ y h. f y (inr h)))
+
+all_join : {A : Type 0} (P : A → Type 0) (xs ys : List A) → AllByRecursion P xs → AllByRecursion P ys → AllByRecursion P (xs ++ ys)
+all_join P [] ys h k = k
+all_join P (x ∷ xs) ys h k = (h.0, all_join P xs ys h.1 k)
+
+-- ---- none is of signatures
+
+module _ (s : Served) (q : Name) (t : ℕ) (plain : eqb t 46 ≡ false) where
+  abbrev None46 : List Group → Type 0
+  None46 gs = AllByRecursion NoSignature gs
+
+  at_star : (o : Option Name) → None46 (elim o [ None ↦ [] | Some e ↦ under q (rrset s (star_under e) t) ∷ [] ])
+  at_star None = tt
+  at_star (Some e) = (plain, tt)
+
+  at_cut : (o : Option Name) → None46 (elim o [ None ↦ [] | Some c ↦ unsigned_ns s c ++ if_any s c 43 ])
+  at_cut None = tt
+  at_cut (Some c) = (refl, either None46 (has s.zone c 43) (rrset s c 43 ∷ []) [] (refl, tt) tt)
+
+  left_open : (o : Option Name) → None46 (elim o [ None ↦ soa s ∷ [] | Some c ↦ cond (labels_eq c (low q) && eqb t 43) (soa s ∷ []) (unsigned_ns s c) ])
+  left_open None = (refl, tt)
+  left_open (Some c) = either None46 (labels_eq c (low q) && eqb t 43) (soa s ∷ []) (unsigned_ns s c) (refl, tt) (refl, tt)
+
+  open_unsigned : (v : Verdict) → None46 (ahead_open s q t v)
+  open_unsigned (StarRecords ds) = at_star (ce s.zone (low q))
+  open_unsigned (Records ds) = left_open (cut s.zone (low q))
+  open_unsigned NoType = left_open (cut s.zone (low q))
+  open_unsigned NoName = left_open (cut s.zone (low q))
+  open_unsigned StarNoType = left_open (cut s.zone (low q))
+  open_unsigned Delegated = left_open (cut s.zone (low q))
+  open_unsigned Open = left_open (cut s.zone (low q))
+  open_unsigned Unsigned = left_open (cut s.zone (low q))
+
+  ahead_unsigned : (v : Verdict) → None46 (ahead s q t v)
+  ahead_unsigned (Records ds) = (plain, tt)
+  ahead_unsigned NoType = (refl, tt)
+  ahead_unsigned NoName = (refl, tt)
+  ahead_unsigned (StarRecords ds) = at_star (ce s.zone (low q))
+  ahead_unsigned StarNoType = (refl, tt)
+  ahead_unsigned Delegated = at_cut (cut s.zone (low q))
+  ahead_unsigned Open = open_unsigned (verdict s.zone false q t)
+  ahead_unsigned Unsigned = tt
+
+chain_unsigned : (s : Served) (ns : List Name) → AllByRecursion NoSignature (map (chain_record s) ns)
+chain_unsigned s [] = tt
+chain_unsigned s (n ∷ ns) = (one s.mode refl, chain_unsigned s ns)
+  where
+    one : (m : Mode) → s.mode ≡ m → NoSignature (chain_record s n)
+    one Nsec e = subst (λ (x : Mode). NoSignature (chain_record (record s { mode = x }) n)) (sym e) refl
+    one (Nsec3 iterations salt optout) e = subst (λ (x : Mode). NoSignature (chain_record (record s { mode = x }) n)) (sym e) refl
+
+pub groups_unsigned : (s : Served) (q : Name) (t : ℕ) → eqb t 46 ≡ false → AllByRecursion NoSignature (answer_groups s q t)
+groups_unsigned s q t plain =
+    let v = verdict s.zone (optout_of s.mode) q t in
+    let said = spoken s (low q) (verdict s.zone false q t) v in
+    all_join NoSignature (ahead s q t v) (proofs_of s said) (ahead_unsigned s q t plain v) (chain_unsigned s (filter (λ o. list_any (speaks_for s o) said) (chain_names s)))
+
+-- ---- each has a name as its owner
+
+module _ (apex : Name) (mode : Mode) (hash : Name → List ℕ) (rs : List HandedRr) (h : AreHanded apex rs) (q : Name) (t : ℕ) (name : IsName q) where
+  abbrev s : Served
+  s = served_of apex mode hash rs
+
+  abbrev AllNamed : List Group → Type 0
+  AllNamed gs = AllByRecursion Named gs
+
+  own_named : (o : Name) (u : ℕ) → IsName o → IsName (served_owner rs o u)
+  own_named o u is = either IsName (eqb u 47 || eqb u 50) (spelled_among rs o) (owner_among rs o u) (first_name rs o h.records_are is) (owner_name rs o u h.records_are is)
+
+  apex_named : IsName (served_owner rs (low apex) 6)
+  apex_named = own_named (low apex) 6 (lower_name apex h.apex_is)
+
+  star_named : (o : Option Name) → AllNamed (elim o [ None ↦ [] | Some e ↦ under q (rrset s (star_under e) t) ∷ [] ])
+  star_named None = tt
+  star_named (Some e) = (name, tt)
+
+  cut_is : (c : Name) → cut (zone_with apex rs) (low q) ≡ Some c → IsName c
+  cut_is c i = cut_name (zone_with apex rs) (low q) c (lower_name q name) i
+
+  cut_named : (o : Option Name) → cut (zone_with apex rs) (low q) ≡ o → AllNamed (elim o [ None ↦ [] | Some c ↦ unsigned_ns s c ++ if_any s c 43 ])
+  cut_named None i = tt
+  cut_named (Some c) i =
+      let is = cut_is c i in
+      (own_named c 2 is, either AllNamed (has (zone_with apex rs) c 43) (rrset s c 43 ∷ []) [] (own_named c 43 is, tt) tt)
+
+  open_named : (o : Option Name) → cut (zone_with apex rs) (low q) ≡ o → AllNamed (elim o [ None ↦ soa s ∷ [] | Some c ↦ cond (labels_eq c (low q) && eqb t 43) (soa s ∷ []) (unsigned_ns s c) ])
+  open_named None i = (apex_named, tt)
+  open_named (Some c) i = either AllNamed (labels_eq c (low q) && eqb t 43) (soa s ∷ []) (unsigned_ns s c) (apex_named, tt) (own_named c 2 (cut_is c i), tt)
+
+  left_named : (v : Verdict) → AllNamed (ahead_open s q t v)
+  left_named (StarRecords ds) = star_named (ce (zone_with apex rs) (low q))
+  left_named (Records ds) = open_named (cut (zone_with apex rs) (low q)) refl
+  left_named NoType = open_named (cut (zone_with apex rs) (low q)) refl
+  left_named NoName = open_named (cut (zone_with apex rs) (low q)) refl
+  left_named StarNoType = open_named (cut (zone_with apex rs) (low q)) refl
+  left_named Delegated = open_named (cut (zone_with apex rs) (low q)) refl
+  left_named Open = open_named (cut (zone_with apex rs) (low q)) refl
+  left_named Unsigned = open_named (cut (zone_with apex rs) (low q)) refl
+
+  ahead_named : (v : Verdict) → AllNamed (ahead s q t v)
+  ahead_named (Records ds) = (name, tt)
+  ahead_named NoType = (apex_named, tt)
+  ahead_named NoName = (apex_named, tt)
+  ahead_named (StarRecords ds) = star_named (ce (zone_with apex rs) (low q))
+  ahead_named StarNoType = (apex_named, tt)
+  ahead_named Delegated = cut_named (cut (zone_with apex rs) (low q)) refl
+  ahead_named Open = left_named (verdict (zone_with apex rs) false q t)
+  ahead_named Unsigned = tt
+
+link_names : (apex : Name) (hash : Name → List ℕ) (rs : List HandedRr) → AreHanded apex rs → (ns : List Name) → AllByRecursion IsName ns → AllByRecursion Named (map (chain_record (served_of apex Nsec hash rs)) ns)
+link_names apex hash rs h [] is = tt
+link_names apex hash rs h (n ∷ ns) is = (first_name rs n h.records_are is.0, link_names apex hash rs h ns is.1)
+
+hash_names : (apex : Name) (iterations : ℕ) (salt : List ℕ) (optout : Bool) (hash : Name → List ℕ) (rs : List HandedRr) (ns : List Name) → AllByRecursion (λ n. Named (chain_record (served_of apex (Nsec3 iterations salt optout) hash rs) n)) ns
+    → AllByRecursion Named (map (chain_record (served_of apex (Nsec3 iterations salt optout) hash rs)) ns)
+hash_names apex iterations salt optout hash rs [] is = tt
+hash_names apex iterations salt optout hash rs (n ∷ ns) is = (is.0, hash_names apex iterations salt optout hash rs ns is.1)
+
+module _ (hasher : Hasher) (apex : Name) (limit : ℕ) (rs : List HandedRr) where
+  abbrev sorted : List HandedRr
+  sorted = sorted_records rs
+
+  chain_names_are : (mode : Mode) → AreHanded apex sorted → HasChain hasher mode (zone_of apex rs) → (qs : List Name) → AllByRecursion Named (proofs_of (served_of apex mode (hash_in hasher mode) sorted) qs)
+  chain_names_are Nsec h chain qs =
+      let x = served_of apex Nsec (hash_in hasher Nsec) sorted in
+      link_names apex (hash_in hasher Nsec) sorted h (filter (λ o. list_any (speaks_for x o) qs) (chain_names x)) (all_filter IsName (λ o. list_any (speaks_for x o) qs) (chain_names x) (chain_named apex sorted h.records_are))
+  chain_names_are (Nsec3 iterations salt optout) h chain qs =
+      let mode : Mode = Nsec3 iterations salt optout in
+      let hash : Name → List ℕ = hash_in hasher mode in
+      let x = served_of apex mode hash sorted in
+      let P : Name → Type 0 = λ n. Named (chain_record x n) in
+      let each : AllByRecursion P (nsec3_names (zone_with apex sorted) optout) = all_has P (nsec3_names (zone_with apex sorted) optout) (λ n i. spelled_apex (hash n) (chain.fit n (contained_has (nsec3_names (zone_with apex sorted) optout) n i))) in
+      hash_names apex iterations salt optout hash sorted (filter (λ o. list_any (speaks_for x o) qs) (chain_names x)) (all_filter P (λ o. list_any (speaks_for x o) qs) (chain_names x) (all_sorted P _ (nsec3_names (zone_with apex sorted) optout) each))
+    where
+      spelled_apex : (d : List ℕ) → IsName (base32hex d ∷ apex) → IsName (base32hex d ∷ spelled_as apex sorted (low apex))
+      spelled_apex d is = subst (λ (n : Name). IsName (base32hex d ∷ n)) (sym apex_itself) is
+
+      apex_itself : spelled_as apex sorted (low apex) ≡ apex
+      apex_itself = ap (λ b. cond b apex (spelled_among sorted (low apex))) (labels_eq-same (low apex) (low apex) refl)
+
+  pub are_handed : (mode : Mode) → IsName apex → AllByRecursion IsHanded rs → IsAccepted hasher apex mode limit rs → AreHanded apex sorted
+  are_handed mode name handed accepted = record { apex_is = name; records_are = all_sorted IsHanded record_cmp rs handed; known = (no_fault_from apex mode limit rs accepted.faultless).known }
+
+  pub groups_formed : (mode : Mode) → IsName apex → AllByRecursion IsHanded rs → IsAccepted hasher apex mode limit rs → (q : Name) (t : ℕ) → IsName q → t < 65536 → of_chain t ≡ false
+      → AllByRecursion IsFormed (answer_groups (served_of apex mode (hash_in hasher mode) sorted) q t)
+  groups_formed mode name handed accepted q t is small plain =
+      let h = are_handed mode name handed accepted in
+      let hash : Name → List ℕ = hash_in hasher mode in
+      let x = served_of apex mode hash sorted in
+      let v = verdict (zone_with apex sorted) (optout_of mode) q t in
+      let said = spoken x (low q) (verdict (zone_with apex sorted) false q t) v in
+      answer_formed apex mode hash sorted (published_from hasher apex mode limit rs accepted) h q t is small plain
+      (all_join Named (ahead x q t v) (proofs_of x said) (ahead_named apex mode hash sorted h q t is v) (chain_names_are mode h accepted.chain said))

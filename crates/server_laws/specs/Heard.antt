@@ -1,0 +1,51 @@
+-- What a judge says of what a name server answers.
+use Rattle.std.specs.Prelude.{◌≡◌, ℕ, ◌<◌, ◌≤◌, Bool, true, false, List, [], ◌∷◌, Option}
+use Rattle.std.specs.List.{AllByRecursion}
+use Rattle.definitions.specs.Limits.{pointer_limit}
+use Rattle.definitions.specs.Name.{IsName}
+use Rattle.messages.specs.Handed.{IsHanded}
+use Rattle.messages.specs.HandedRr.{HandedRr, among}
+use Rattle.messages.specs.Message.{pair}
+use Rattle.messages.specs.WrittenLaws.{IsQuestion}
+use Rattle.answer_scheme.specs.Answers.{Answers}
+use Rattle.answer_shared.specs.Accepted.{IsAccepted}
+use Rattle.answer_shared.specs.Accepting.{sorted_records}
+use Rattle.answer_judge_keys.specs.Judging.{Handing}
+use Rattle.answer_judge_facts.specs.Judged.{judged}
+use Rattle.answer_publisher.specs.World.{World}
+use Rattle.server_queries.specs.Headers.{has_flag}
+use Rattle.server_queries.specs.Queries.{Queried}
+use Rattle.server_responses.specs.Responses.{is_dnssec_ok}
+use Rattle.server_answers.specs.Responding.{IsAnswered, Serving}
+
+-- the zone of a world is one of records that were handed in and accepted
+pub record IsZone (w : World) : Type 0 where
+  pub records : List HandedRr
+  pub apex_is : IsName w.zone.apex
+  pub records_are : AllByRecursion IsHanded records
+  pub accepted : IsAccepted w.answers.hash w.zone.apex w.zone.mode w.zone.limit records
+  pub sorted : w.zone.records ≡ sorted_records records
+
+-- TC: the message holds less than was asked for (RFC 1035, 4.1.1)
+abbrev pub is_truncated : List ℕ → Bool
+is_truncated octets = has_flag 512 (pair octets 2)
+
+-- A server of an accepted zone; a question whose fields fit their places, for none of the types that signatures and records of
+-- chains have; and a response that holds all, with records of DNSSEC.
+pub record IsWhole (s : Serving) (q : Queried) (octets : List ℕ) : Type 0 where
+  pub zone : IsZone s.world
+  pub asked : IsQuestion q.asked
+  pub plain : among (46 ∷ 47 ∷ 50 ∷ []) q.asked.rtype ≡ false
+  pub wanted : is_dnssec_ok q ≡ true
+  pub limit : s.limit ≤ 65535
+  pub size : s.size < 65536
+  pub whole : is_truncated octets ≡ false
+
+-- of one message a judge says what it says of another, as an answer and as a DNSKEY answer, beside whatever else
+pub record IsJudgedAs (one other : List ℕ) : Type 0 where
+  pub answers : (a : Answers) (h : Handing) → judged a pointer_limit (record h { answer_bytes = one }) ≡ judged a pointer_limit (record h { answer_bytes = other })
+  pub keys : (a : Answers) (h : Handing) → judged a pointer_limit (record h { dnskey_bytes = one }) ≡ judged a pointer_limit (record h { dnskey_bytes = other })
+
+-- a response, and the message that it is made of
+abbrev pub ResponsesJudgedAlike : Type 0
+ResponsesJudgedAlike = (s : Serving) (q : Queried) (old new : Option ℕ) (octets : List ℕ) → IsWhole s q octets → (r : IsAnswered s q old new octets) → IsJudgedAs octets r.m

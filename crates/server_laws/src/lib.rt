@@ -1,0 +1,4 @@
+//! What a judge says of the responses of a name server.
+#![tactic(auto)]
+
+pub mod laws;
