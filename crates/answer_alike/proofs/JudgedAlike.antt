@@ -139,8 +139,8 @@ module _ (a : Answers) (k : ℕ) (h : Handing) (m n : List ℕ) (seen : SeenAlik
 
   key_alike : (s t : Spelled) → IsLike k m n s t → s.rtype ≡ 48 → key_at m h.apex s ≡ key_at n h.apex t
   key_alike s t like is =
-      let data : data_of m s ≡ data_of n t = some_is (data_of m s) (data_of n t) (sym (key_octets m s is) ∙ like.data_are ∙ key_octets n t (sym like.type_is ∙ is)) in
-      λ i. key_when (labels_eq (like.owner_is i) (low h.apex) && eqb (like.type_is i) 48 && eqb (like.class_is i) 1) (data i)
+      let octets : data_of m s ≡ data_of n t = some_is (data_of m s) (data_of n t) (sym (key_octets m s is) ∙ like.data_are ∙ key_octets n t (sym like.type_is ∙ is)) in
+      λ i. key_when (labels_eq (like.owner_is i) (low h.apex) && eqb (like.type_is i) 48 && eqb (like.class_is i) 1) (octets i)
 
   same_keys : keys_in m h.apex seen.one.records ≡ keys_in n h.apex seen.other.records
   same_keys = some_alike k m n 48 seen.one.records seen.other.records seen.records_are 48 (key_at m h.apex) (key_at n h.apex) refl (no_key m) (no_key n) key_alike

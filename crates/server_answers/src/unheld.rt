@@ -5,7 +5,7 @@ ghost use Rattle.messages.specs.Questions.{asked_of};
 ghost use Rattle.server_answers.specs.MadeOf.{ReadsWhole};
 ghost use Rattle.server_answers.specs.Requests.{IsOrWasNoted};
 ghost use Rattle.server_answers.specs.Responding.{serving};
-ghost use Rattle.server_answers.specs.Unheld.{AnswersUnheld, IsMadeUnheld, has_answers, is_held, is_unheld};
+ghost use Rattle.server_answers.specs.Unheld.{AnswersUnheld, IsMadeUnheld, has_answers, is_held, is_unheld, reserved};
 ghost use Rattle.server_queries.specs.Views.{queried_of};
 
 use crate::message::{is_for_keys, message_for};
@@ -62,13 +62,20 @@ pub(crate) fn answer_unheld<S: Scheme, H: Nsec3Hasher>(
     ensures memory { OnErr result
         (IsOrWasNoted at.now publisher.old.latest publisher.new.latest) }
 {
-    let reserved = Question {
+    let reserved = reserved_question(question);
+    let made = message_for(publisher, table, &reserved, at, is_dnssec_ok(query));
+    unheld_response(alloc, query, made, limit, udp_size)
+}
+
+/// The question for the reserved type at a name.
+fn reserved_question(question: Question) -> Question
+    ensures { asked_of result ≡ reserved (asked_of question) }
+{
+    Question {
         name: question.name,
         rtype: Rtype::from_int(RESERVED),
         class: question.class,
-    };
-    let made = message_for(publisher, table, &reserved, at, is_dnssec_ok(query));
-    unheld_response(alloc, query, made, limit, udp_size)
+    }
 }
 
 /// The response that is made of a message for the reserved type, or what is said where there is

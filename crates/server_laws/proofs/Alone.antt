@@ -27,8 +27,8 @@ abbrev pub ReadsSignature : List ℕ → Fields × List ℕ → Type 0
 ReadsSignature octets said = (m rest : List ℕ) (r : Spelled) → length m ≤ 65535 → StandsAt m r.start (octets ++ rest) → r.length ≡ length octets → rrsig_at pointer_limit m r ≡ Some said
 
 pub record StandsAlone (w : Written) : Type 0 where
-  pub data : List ℕ
-  pub reads : ReadsAs w.rtype w.octets data
+  pub canonical : List ℕ
+  pub reads : ReadsAs w.rtype w.octets canonical
   pub signs : w.rtype ≡ 46 → (said : Fields × List ℕ) × ReadsSignature w.octets said
 
 -- ---- the records of RRsets and their signatures
@@ -42,7 +42,7 @@ own_alone g [] (d ∷ ds) none h = absurd h
 own_alone g (w ∷ ws) [] none h = absurd h
 own_alone g (w ∷ ws) (d ∷ ds) none h = (
   record {
-    data = d;
+    canonical = d;
     reads = subst (λ t. ReadsAs t w.octets d) (sym h.0.rtype) h.0.reads;
     signs = λ is. absurd (true≢false (sym (eq-eqb g.rtype 46 (sym h.0.rtype ∙ is)) ∙ none));
   },
@@ -65,7 +65,7 @@ module _ (sign : Dnskey → List ℕ → Option (List ℕ)) (verifies : Dnskey �
       let f : Fields = fields_of apex at life (view_of g) key in
       let whole : List ℕ = rrsig_data f made.signature in
       record {
-        data = d;
+        canonical = d;
         reads = reads_plain 46 d refl refl refl;
         signs = λ is. (
           (record f { signer = low f.signer }, made.signature),

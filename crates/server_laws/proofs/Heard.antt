@@ -25,7 +25,8 @@ use Rattle.answer_shared.specs.Served.{Group, Served, answer_groups, key_group, 
 use Rattle.answer_judge_keys.specs.Judging.{Answer, Handing, Refuses, Says, is_judged, message_refusal}
 use Rattle.answer_judge_keys.specs.declared.verdict.Refusal.{Refusal}
 use Rattle.answer_judge_keys.specs.declared.verdict.Refusal.TheVariants as r
-use Rattle.answer_judge_facts.specs.Judged.{judged, judged_bytes}
+use Rattle.answer_judge_facts.specs.Judged.{AnswersAs, judged, judged_bytes}
+use Rattle.answer_judge.proofs.GivenAnswers.{answers_given}
 use Rattle.answer_alike.specs.SeenAlike.{SeenAlike}
 use Rattle.answer_alike.proofs.JudgedAlike.{answers_alike, keys_alike}
 use Rattle.answer_publisher_keys.specs.Bindings.{ZoneKeys, keys_by_tag}
@@ -43,7 +44,7 @@ use Rattle.server_signatures.specs.Outcomes.{AnswersEach, AnswersKeysEach, signe
 use Rattle.server_signatures.specs.Table.{sign_by, verify_by}
 use Rattle.server_signatures.proofs.Signing.{own_entries}
 use Rattle.server_answers.specs.Responding.{IsAnswered, IsMessage, Serving, is_for_keys}
-use Rattle.server_laws.specs.Heard.{IsJudgedAs, IsWhole, IsZone, ResponsesJudgedAlike, is_truncated}
+use Rattle.server_laws.specs.Heard.{ClientsAreTold, IsJudgedAs, IsWhole, IsZone, ResponsesJudgedAlike, is_truncated}
 use Rattle.server_laws.proofs.Alone.{NoSignature, StandsAlone, groups_alone}
 use Rattle.server_laws.proofs.Shown.{IsAlone, message_read, spelled_all, whole_seen, whole_where_clear}
 use Rattle.server_laws.proofs.ZoneGroups.{are_handed, groups_formed, groups_unsigned}
@@ -194,3 +195,9 @@ module _ (s : Serving) (q : Queried) (octets : List ℕ) (h : IsWhole s q octets
 pub responses_judged : ResponsesJudgedAlike
 responses_judged s q old new octets h r =
     message_judged s q octets h r.m (is_for_keys s.world.zone.apex q.asked) refl (subst (λ b. IsMessage s q.asked (is_for_keys s.world.zone.apex q.asked) b r.m) h.wanted r.is_message) r.answers
+
+pub clients_told : ClientsAreTold
+clients_told s t q p old new before behind key_octets octets whole d other r a h mode rs small given answer exact =
+    let keys = (responses_judged s q old new key_octets whole d).keys a (record h { answer_bytes = octets }) in
+    let answers = (responses_judged t p before behind octets other r).answers a (record h { dnskey_bytes = d.m }) in
+    answers_given a pointer_limit (record h { dnskey_bytes = d.m; answer_bytes = r.m }) answer small (subst (AnswersAs answer) (keys ∙ answers) exact) mode rs given

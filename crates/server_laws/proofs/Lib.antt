@@ -1,3 +1,4 @@
+pub mod Nowhere
 pub mod Framed
 pub mod Alone
 pub mod ZoneGroups

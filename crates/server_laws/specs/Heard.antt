@@ -3,15 +3,18 @@ use Rattle.std.specs.Prelude.{◌≡◌, ℕ, ◌<◌, ◌≤◌, Bool, true, fa
 use Rattle.std.specs.List.{AllByRecursion}
 use Rattle.definitions.specs.Limits.{pointer_limit}
 use Rattle.definitions.specs.Name.{IsName}
+use Rattle.definitions.specs.Zone.{verdict}
+use Rattle.definitions.specs.ZoneChain.{Mode, optout_of}
 use Rattle.messages.specs.Handed.{IsHanded}
 use Rattle.messages.specs.HandedRr.{HandedRr, among}
 use Rattle.messages.specs.Message.{pair}
 use Rattle.messages.specs.WrittenLaws.{IsQuestion}
 use Rattle.answer_scheme.specs.Answers.{Answers}
 use Rattle.answer_shared.specs.Accepted.{IsAccepted}
-use Rattle.answer_shared.specs.Accepting.{sorted_records}
-use Rattle.answer_judge_keys.specs.Judging.{Handing}
-use Rattle.answer_judge_facts.specs.Judged.{judged}
+use Rattle.answer_shared.specs.Accepting.{sorted_records, zone_of}
+use Rattle.answer_judge_keys.specs.Judging.{Answer, Handing, Says}
+use Rattle.answer_judge_facts.specs.Judged.{AnswersAs, judged}
+use Rattle.answer_judge.specs.Meeting.{WasGiven}
 use Rattle.answer_publisher.specs.World.{World}
 use Rattle.server_queries.specs.Headers.{has_flag}
 use Rattle.server_queries.specs.Queries.{Queried}
@@ -49,3 +52,13 @@ pub record IsJudgedAs (one other : List ℕ) : Type 0 where
 -- a response, and the message that it is made of
 abbrev pub ResponsesJudgedAlike : Type 0
 ResponsesJudgedAlike = (s : Serving) (q : Queried) (old new : Option ℕ) (octets : List ℕ) → IsWhole s q octets → (r : IsAnswered s q old new octets) → IsJudgedAs octets r.m
+
+-- What a zone under keys that meet has given, a DNSKEY answer and an answer, is judged by its clients as it is: from the whole responses
+-- that they have of both, whichever servers of the zone made them, the judge says the zone's verdict.
+abbrev pub ClientsAreTold : Type 0
+ClientsAreTold =
+    (s t : Serving) (q p : Queried) (old new before behind : Option ℕ) (key_octets octets : List ℕ)
+    → IsWhole s q key_octets → (d : IsAnswered s q old new key_octets) → IsWhole t p octets → (r : IsAnswered t p before behind octets)
+    → (a : Answers) (h : Handing) (mode : Mode) (rs : List HandedRr) → h.limit < 65536 → WasGiven a pointer_limit (record h { dnskey_bytes = d.m; answer_bytes = r.m }) mode rs
+    → (answer : Answer) → AnswersAs answer (judged a pointer_limit (record h { dnskey_bytes = key_octets; answer_bytes = octets }))
+    → AnswersAs answer (Says (verdict (zone_of h.apex rs) (optout_of mode) h.asked.name h.asked.rtype))

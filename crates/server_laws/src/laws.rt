@@ -1,5 +1,6 @@
 //! Laws of the responses of a name server.
-ghost use Rattle.server_laws.specs.Heard.{ResponsesJudgedAlike};
+ghost use Rattle.server_laws.specs.Heard.{ClientsAreTold, ResponsesJudgedAlike};
+ghost use Rattle.server_laws.specs.Unheld.{AbsentAnsweredAlike, UnheldAnsweredAlike};
 
 /// A judge says of a whole response to a query that wants records of DNSSEC what it says of the
 /// message of the zone's publisher that the response was made of, whether the response stands in
@@ -10,4 +11,19 @@ ghost use Rattle.server_laws.specs.Heard.{ResponsesJudgedAlike};
 /// without TC holds all that the message holds.
 pub fn responses_are_judged_alike()
     ensures { ResponsesJudgedAlike }
+{}
+
+/// So the verdict reaches the clients of a name server: from the whole responses to two queries, one
+/// for the keys, that are made of what a zone under keys that meet has given, a judge says the
+/// zone's verdict.
+pub fn clients_are_told_the_verdict()
+    ensures { ClientsAreTold }
+{}
+
+/// A zone answers alike for all types of which it holds no record, but DS, which is the parent's at
+/// a delegation: so what it answers for a reserved type is its answer for CNAME, DNAME, DNSKEY,
+/// NSEC3 and NSEC3PARAM, of which an accepted zone holds none.
+pub fn unheld_types_are_answered_alike()
+    ensures absent { AbsentAnsweredAlike }
+    ensures unheld { UnheldAnsweredAlike }
 {}

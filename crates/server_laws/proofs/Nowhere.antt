@@ -1,0 +1,174 @@
+-- A type of which a zone holds no record is answered as any other such type.
+use Rattle.std.proofs.Common.{◌≡◌, ℕ, Bool, true, false, ◌&&◌, ◌||◌, List, [], ◌∷◌, ◌++◌, map, Option, Some, None, cond, eqb, refl, sym, ap, ◌∙◌}
+use Rattle.std.specs.List.{AllByRecursion, list_any}
+use Rattle.std.proofs.lemmas.Bool.{eqb-true, or_parts, true≢false}
+use Rattle.definitions.specs.Name.{Name, labels_eq, low}
+use Rattle.definitions.specs.Zone.{Delegated, NoName, NoType, Open, Records, StarNoType, StarRecords, Unsigned, Verdict, Zone, at_existing, ce, cut, data_at, exists, is_of, is_open, star_under, verdict}
+use Rattle.definitions.specs.ZoneChain.{Mode, optout_of}
+use Rattle.messages.specs.HandedRr.{HandedRr, among}
+use Rattle.messages.proofs.Lists.{all_fail, all_sorted}
+use Rattle.answer_shared.specs.Accepted.{IsAccepted}
+use Rattle.answer_shared.specs.Accepting.{is_added_by_signing, is_alias, record_cmp, rr_of, sorted_records}
+use Rattle.answer_shared.specs.Hashing.{Hasher}
+use Rattle.answer_shared.specs.Served.{Group, Served, ahead, ahead_open, answer_groups, proofs_of, served_of, soa, spoken, unsigned_ns}
+use Rattle.answer_shared.proofs.ZoneFaultless.{no_fault_from}
+use Rattle.server_laws.specs.Unheld.{AbsentAnsweredAlike, IsNowhere, UnheldAnsweredAlike}
+
+-- verdicts that tell no data
+abbrev NoData : Verdict → Type 0
+NoData (Records ds) = ⊥
+NoData NoType = Unit {0}
+NoData NoName = Unit {0}
+NoData (StarRecords ds) = ⊥
+NoData StarNoType = Unit {0}
+NoData Delegated = Unit {0}
+NoData Open = Unit {0}
+NoData Unsigned = Unit {0}
+
+nothing : (b : Bool) → (b && false) ≡ false
+nothing true = refl
+nothing false = refl
+
+module _ (s : Served) (q : Name) where
+  abbrev z : Zone
+  z = s.zone
+
+  -- what a zone says of a type that it does not hold
+  abbrev denied_by : Bool → Option Name → Bool → Option Name → Verdict
+  denied_by hidden cut_off there encloser = elim hidden [
+    | true ↦ Open
+    | false ↦ elim cut_off [
+      | Some c ↦ Delegated
+      | None ↦ elim there [
+        | true ↦ NoType
+        | false ↦ elim encloser [ None ↦ NoName | Some e ↦ cond (exists z (star_under e)) StarNoType NoName ]
+      ]
+    ]
+  ]
+
+  abbrev denied : Bool → Verdict
+  denied optout = denied_by (is_open z optout (low q)) (cut z (low q)) (exists z (low q)) (ce z (low q))
+
+  star_denied : (b : Bool) → NoData (cond b StarNoType NoName)
+  star_denied true = tt
+  star_denied false = tt
+
+  no_data_by : (a : Bool) (c : Option Name) (x : Bool) (e : Option Name) → NoData (denied_by a c x e)
+  no_data_by true c x e = tt
+  no_data_by false (Some c) x e = tt
+  no_data_by false None true e = tt
+  no_data_by false None false None = tt
+  no_data_by false None false (Some e) = star_denied (exists z (star_under e))
+
+  no_data : (optout : Bool) → NoData (denied optout)
+  no_data optout = no_data_by (is_open z optout (low q)) (cut z (low q)) (exists z (low q)) (ce z (low q))
+
+  -- so it says
+  said : (t : ℕ) → eqb t 43 ≡ false → IsNowhere z t → (optout : Bool) → verdict z optout q t ≡ denied optout
+  said t other none optout =
+      let away : (c : Name) → (labels_eq c (low q) && eqb t 43) ≡ false = λ c. ap (λ b. labels_eq c (low q) && b) other ∙ nothing (labels_eq c (low q)) in
+      λ i. elim (is_open z optout (low q)) as (λ _. Verdict) [
+        | true ↦ Open
+        | false ↦ elim (cut z (low q)) as (λ _. Verdict) [
+          | Some c ↦ cond (away c i) (at_existing z (low q) 43) Delegated
+          | None ↦ elim (exists z (low q)) as (λ _. Verdict) [
+            | true ↦ cond (none (low q) i) (Records (data_at z (low q) t)) NoType
+            | false ↦ elim (ce z (low q)) as (λ _. Verdict) [
+              | None ↦ NoName
+              | Some e ↦ cond (exists z (star_under e)) (cond (none (star_under e) i) (StarRecords (data_at z (star_under e) t)) StarNoType) NoName
+            ]
+          ]
+        ]
+      ]
+
+  module _ (t u : ℕ) (other : eqb t 43 ≡ false) (another : eqb u 43 ≡ false) (none : IsNowhere z t) (no_more : IsNowhere z u) where
+    left : (elim (cut z (low q)) as (λ _. List Group) [ None ↦ soa s ∷ [] | Some c ↦ cond (labels_eq c (low q) && eqb t 43) (soa s ∷ []) (unsigned_ns s c) ])
+        ≡ (elim (cut z (low q)) as (λ _. List Group) [ None ↦ soa s ∷ [] | Some c ↦ cond (labels_eq c (low q) && eqb u 43) (soa s ∷ []) (unsigned_ns s c) ])
+    left = ap (λ b. elim (cut z (low q)) as (λ _. List Group) [ None ↦ soa s ∷ [] | Some c ↦ cond (labels_eq c (low q) && b) (soa s ∷ []) (unsigned_ns s c) ]) (other ∙ sym another)
+
+    open_alike : (v : Verdict) → NoData v → ahead_open s q t v ≡ ahead_open s q u v
+    open_alike (Records ds) h = absurd h
+    open_alike (StarRecords ds) h = absurd h
+    open_alike NoType h = left
+    open_alike NoName h = left
+    open_alike StarNoType h = left
+    open_alike Delegated h = left
+    open_alike Open h = left
+    open_alike Unsigned h = left
+
+    ahead_alike : (v : Verdict) → NoData v → ahead s q t v ≡ ahead s q u v
+    ahead_alike (Records ds) h = absurd h
+    ahead_alike (StarRecords ds) h = absurd h
+    ahead_alike NoType h = refl
+    ahead_alike NoName h = refl
+    ahead_alike StarNoType h = refl
+    ahead_alike Delegated h = refl
+    ahead_alike Open h = ap (ahead_open s q t) (said t other none false) ∙ open_alike (denied false) (no_data false) ∙ sym (ap (ahead_open s q u) (said u another no_more false))
+    ahead_alike Unsigned h = refl
+
+    abbrev proofs : List Group
+    proofs = proofs_of s (spoken s (low q) (denied false) (denied (optout_of s.mode)))
+
+    groups_of : (k : ℕ) → eqb k 43 ≡ false → IsNowhere z k → answer_groups s q k ≡ ahead s q k (denied (optout_of s.mode)) ++ proofs
+    groups_of k is nowhere =
+        let first = said k is nowhere (optout_of s.mode) in
+        let second = said k is nowhere false in
+        λ i. ahead s q k (first i) ++ proofs_of s (spoken s (low q) (second i) (first i))
+
+    groups_alike : answer_groups s q t ≡ answer_groups s q u
+    groups_alike =
+        groups_of t other none
+        ∙ ap (λ gs. gs ++ proofs) (ahead_alike (denied (optout_of s.mode)) (no_data (optout_of s.mode)))
+        ∙ sym (groups_of u another no_more)
+
+pub absent_alike : AbsentAnsweredAlike
+absent_alike s q t u other another none no_more = groups_alike s q t u other another none no_more
+
+-- ---- accepted zones
+
+nowhere : (o : Name) (t : ℕ) (rs : List HandedRr) → AllByRecursion (λ (r : HandedRr). eqb r.rtype t ≡ false) rs → list_any (is_of o t) (map rr_of rs) ≡ false
+nowhere o t [] h = refl
+nowhere o t (r ∷ rs) h =
+    (λ i. (labels_eq (low r.owner) o && h.0 i) || nowhere o t rs h.1 i)
+    ∙ ap (λ b. b || false) (nothing (labels_eq (low r.owner) o))
+
+abbrev unheld : ℕ → Bool
+unheld t = among (5 ∷ 39 ∷ 48 ∷ 50 ∷ 51 ∷ []) t
+
+not_unheld : (r : HandedRr) → is_added_by_signing r ≡ false → is_alias r ≡ false → unheld r.rtype ≡ false
+not_unheld r signed alias =
+    let t = r.rtype in
+    let a46 = or_parts (eqb t 46) _ signed in
+    let a47 = or_parts (eqb t 47) _ a46.1 in
+    let a48 = or_parts (eqb t 48) _ a47.1 in
+    let a50 = or_parts (eqb t 50) _ a48.1 in
+    let a51 = or_parts (eqb t 51) false a50.1 in
+    let a5 = or_parts (eqb t 5) _ alias in
+    let a39 = or_parts (eqb t 39) false a5.1 in
+    λ i. a5.0 i || (a39.0 i || (a48.0 i || (a50.0 i || (a51.0 i || false))))
+
+-- a type that passes a test, and one that does not
+apart : (p : ℕ → Bool) (t u : ℕ) → p t ≡ true → p u ≡ false → eqb u t ≡ false
+apart p t u yes no = go (eqb u t) refl
+  where
+    go : (b : Bool) → eqb u t ≡ b → b ≡ false
+    go true e = absurd (true≢false (sym yes ∙ ap p (sym (eqb-true u t e)) ∙ no))
+    go false e = refl
+
+none_unheld : (t : ℕ) (rs : List HandedRr) → unheld t ≡ true → AllByRecursion (λ (r : HandedRr). is_added_by_signing r ≡ false) rs → AllByRecursion (λ (r : HandedRr). is_alias r ≡ false) rs → AllByRecursion (λ (r : HandedRr). eqb r.rtype t ≡ false) rs
+none_unheld t [] is signed alias = tt
+none_unheld t (r ∷ rs) is signed alias = (apart unheld t r.rtype is (not_unheld r signed.0 alias.0), none_unheld t rs is signed.1 alias.1)
+
+ds_apart : (t : ℕ) → unheld t ≡ true → eqb t 43 ≡ false
+ds_apart t is = go (eqb t 43) refl
+  where
+    go : (b : Bool) → eqb t 43 ≡ b → b ≡ false
+    go true e = absurd (true≢false (sym is ∙ ap unheld (eqb-true t 43 e)))
+    go false e = refl
+
+pub unheld_alike : UnheldAnsweredAlike
+unheld_alike hasher apex mode limit rs hash q t accepted reserved is =
+    let clean = no_fault_from apex mode limit rs accepted.faultless in
+    let none = none_unheld t (sorted_records rs) is clean.unsigned clean.no_alias in
+    let no_more = all_sorted (λ (r : HandedRr). eqb r.rtype 65535 ≡ false) record_cmp rs (all_fail (λ (r : HandedRr). eqb r.rtype 65535) rs reserved) in
+    absent_alike (served_of apex mode hash (sorted_records rs)) q t 65535 (ds_apart t is) refl (λ o. nowhere o t (sorted_records rs) none) (λ o. nowhere o 65535 (sorted_records rs) no_more)
