@@ -1,6 +1,6 @@
 -- What messages whose used records are alike verify is the same, up to the case of the names in links.
-use Rattle.std.proofs.Common.{◌≡◌, ℕ, Bool, true, false, ◌&&◌, ◌||◌, List, length, Option, Some, None, eqb, refl, sym, ap, ◌∙◌}
-use Rattle.std.specs.List.{AllZip, filter, filter_map}
+use Rattle.std.proofs.Common.{◌≡◌, ℕ, Bool, true, false, ◌&&◌, ◌||◌, List, length, Option, None, eqb, refl, sym, ap, ◌∙◌}
+use Rattle.std.specs.List.{AllZip, filter}
 use Rattle.std.specs.Option.{option_map}
 use Rattle.std.proofs.lemmas.Bool.{eq-eqb, eqb-true, or_parts, true≢false}
 use Rattle.definitions.specs.Name.{Name, at_or_above, same}

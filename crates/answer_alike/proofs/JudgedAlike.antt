@@ -1,10 +1,9 @@
 -- A judge says the same of messages that it sees alike.
 use Rattle.std.proofs.Common.{◌≡◌, ℕ, Bool, true, false, not, ◌&&◌, ◌||◌, List, length, map, filter, Option, Some, None, Result, Ok, Err, eqb, nat_eq, refl, sym, ap, ◌∙◌}
 use Rattle.std.specs.Prelude.{if◌then◌else◌}
-use Rattle.std.specs.List.{filter_map}
 use Rattle.definitions.specs.Dnskey.{Dnskey, dnskey_data, dnskey_of_data}
 use Rattle.definitions.specs.Name.{Name, labels_eq, low, same}
-use Rattle.definitions.specs.Zone.{Unsigned, Verdict, sorted_data}
+use Rattle.definitions.specs.Zone.{Unsigned, sorted_data}
 use Rattle.denial_laws.specs.Facts.{Facts}
 use Rattle.messages.specs.declared.error.MessageError.{MessageError}
 use Rattle.messages.specs.Message.{Asked, Message, Spelled, canonical_data, data_of, message}
@@ -15,11 +14,11 @@ use Rattle.answer_shared.specs.EqualTags.{has_equal_tags}
 use Rattle.answer_shared.specs.FactsCase.{low_facts}
 use Rattle.answer_shared.proofs.FactsCase.{caseless}
 use Rattle.answer_judge_rules.specs.Hashes.{hash_among}
-use Rattle.answer_judge_keys.specs.Judging.{Answer, Handing, Refuses, Says, first_refusal, is_judged, key_at, keys_in, may_ask, message_refusal, same_question}
+use Rattle.answer_judge_keys.specs.Judging.{Answer, Handing, Refuses, Says, is_judged, key_at, keys_in, may_ask, message_refusal, same_question}
 use Rattle.answer_judge_keys.specs.Trusted.{is_trusted, is_usable}
 use Rattle.answer_judge_keys.specs.declared.verdict.Refusal.{Refusal}
 use Rattle.answer_judge_keys.specs.declared.verdict.Refusal.TheVariants as r
-use Rattle.answer_judge_facts.specs.Judged.{are_mixed, are_over, by_facts, facts_in, has_unlike_times, is_chained, is_unhashed, judged, judged_answer, judged_bytes, judged_facts, judged_messages, judged_proof, keys_of, trusting}
+use Rattle.answer_judge_facts.specs.Judged.{are_mixed, are_over, by_facts, facts_in, is_chained, is_unhashed, judged, judged_answer, judged_bytes, judged_facts, judged_messages, keys_of, trusting}
 use Rattle.answer_judge_facts.specs.Times.{are_unlike}
 use Rattle.answer_judge_facts.specs.Verified.{is_verified}
 use Rattle.answer_judge.proofs.GivenNext.{canonical_octets}

@@ -3,14 +3,13 @@ use Rattle.std.proofs.Common.{◌≡◌, ℕ, Bool, true, false, ◌&&◌, List,
 use Rattle.std.specs.List.{AllZip, cons_option, filter, filter_map}
 use Rattle.std.specs.Option.{option_map}
 use Rattle.std.specs.Prelude.{slice_range}
-use Rattle.std.specs.Str.{str_to_ascii_lowercase}
 use Rattle.definitions.specs.Bitmap.{is_bitmap}
 use Rattle.definitions.specs.Name.{Name, at_or_above, low, wire}
 use Rattle.definitions.proofs.ReadingLaws.{reads_exactly}
 use Rattle.definitions.proofs.SignedLaws.{Labelled, wire_of}
 use Rattle.numbers.specs.Decoding.{decoded}
 use Rattle.denial_laws.specs.Facts.{HashLink, Link}
-use Rattle.messages.specs.Message.{HashedNext, Spelled, canonical_data, data_of, fits, if_true, name_in, nsec3_at, nsec3_data, nsec3_of, nsec_at, nsec_data}
+use Rattle.messages.specs.Message.{HashedNext, Spelled, data_of, fits, if_true, name_in, nsec3_at, nsec3_of, nsec_at}
 use Rattle.messages.specs.Message as message
 use Rattle.messages.proofs.Lists.{some_is}
 use Rattle.messages.proofs.ReadNames.{reads_labelled}

@@ -1,16 +1,15 @@
 -- RRsets and signatures of messages whose used records are alike.
-use Rattle.std.proofs.Common.{◌≡◌, ℕ, Bool, true, false, ◌&&◌, ◌||◌, List, [], ◌∷◌, Option, Some, None, Result, eqb, refl, sym, ap, subst, ◌∙◌}
+use Rattle.std.proofs.Common.{◌≡◌, ℕ, Bool, true, false, ◌&&◌, ◌||◌, List, [], ◌∷◌, Option, Some, None, eqb, refl, sym, ap, ◌∙◌}
 use Rattle.std.specs.List.{AllZip, filter, filter_map, list_any}
 use Rattle.std.specs.Option.{option_map}
-use Rattle.std.proofs.lemmas.Bool.{cases_Bool, eqb-true, eq-eqb, or_parts, or_right, true≢false}
+use Rattle.std.proofs.lemmas.Bool.{eqb-true, eq-eqb, or_right, true≢false}
 use Rattle.definitions.specs.Name.{Name, labels_eq, low, same}
 use Rattle.definitions.specs.Signing.{Fields}
 use Rattle.definitions.specs.Zone.{sorted_data}
-use Rattle.denial_laws.specs.Facts.{Rrset}
 use Rattle.denial_laws.specs.NsecRules.{first_some}
 use Rattle.messages.specs.Message.{Spelled, canonical_data, rrsig_at}
 use Rattle.answer_shared.specs.Alike.{IsLike}
-use Rattle.answer_judge_keys.specs.Trusted.{is_signature, signs}
+use Rattle.answer_judge_keys.specs.Trusted.{signs}
 use Rattle.answer_judge_facts.specs.Verified.{Trusting, datum_of, is_verified, rrset_in, verified_by, verified_rrset, verified_with, verifies_with}
 use Rattle.answer_alike.specs.SeenAlike.{is_used, is_used_type}
 use Rattle.answer_alike.proofs.Picked.{any_picked, any_zipped, first_picked, first_zipped, some_picked, some_zipped}

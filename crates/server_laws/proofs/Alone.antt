@@ -1,5 +1,5 @@
 -- Records whose data say the same wherever they stand, and such records in two messages.
-use Rattle.std.proofs.Common.{◌≡◌, ℕ, ◌+◌, ◌*◌, ◌<◌, ◌≤◌, Bool, true, false, List, [], ◌∷◌, ◌++◌, length, map, Option, Some, eqb, refl, sym, subst, ap, ◌∙◌, append_assoc, length-append, arith, lit<}
+use Rattle.std.proofs.Common.{◌≡◌, ℕ, ◌+◌, ◌*◌, ◌<◌, ◌≤◌, Bool, true, false, List, [], ◌∷◌, ◌++◌, length, map, Option, Some, eqb, refl, sym, subst, ap, ◌∙◌, length-append, arith, lit<}
 use Rattle.std.specs.Prelude.{if◌then◌else◌}
 use Rattle.std.specs.List.{AllByRecursion, AllZip, flat_map}
 use Rattle.std.proofs.Math.Nat.{mod-lt}
@@ -13,7 +13,7 @@ use Rattle.messages.specs.Rrsig.{rrsig_data}
 use Rattle.messages.specs.Written.{Written, record_octets}
 use Rattle.messages.specs.WrittenLaws.{AreFields, spelled_at, spelled_from}
 use Rattle.messages.proofs.MessageSignatures.{signature_here}
-use Rattle.messages.proofs.MessageWritten.{StandsAt, data_behind, end_of, moved}
+use Rattle.messages.proofs.MessageWritten.{StandsAt, data_behind, end_of}
 use Rattle.answer_shared.specs.Alike.{IsLike}
 use Rattle.answer_shared.specs.GroupView.{GroupView, IsRrsigData, fields_of, view_of}
 use Rattle.answer_shared.specs.Served.{Group}

@@ -2,7 +2,7 @@
 use Rattle.std.proofs.Common.{◌≡◌, ℕ, ◌+◌, ◌≤◌, ◌<◌, Bool, true, false, not, ◌&&◌, ◌||◌, List, [], ◌∷◌, ◌++◌, length, map, nat_eq, nat_le, Option, Some, None, Result, Ok, eqb, refl, sym, subst, ap, ◌∙◌, arith, length-append, lit<}
 use Rattle.std.specs.Prelude.{if◌then◌else◌}
 use Rattle.std.specs.List.{AllByRecursion, AllZip, flat_map}
-use Rattle.std.proofs.lemmas.Bool.{and_parts, eq-eqb, eqb-true, ne_eqb, or_parts, true≢false}
+use Rattle.std.proofs.lemmas.Bool.{and_parts, eqb-true, or_parts}
 use Rattle.std.proofs.lemmas.List.Concat.{flat_map-append}
 use Rattle.definitions.specs.Dnskey.{Dnskey}
 use Rattle.definitions.specs.Limits.{pointer_limit}
@@ -18,7 +18,7 @@ use Rattle.messages.proofs.ZoneNames.{same_labels}
 use Rattle.answer_scheme.specs.Answers.{Answers}
 use Rattle.answer_scheme.specs.Moments.{second_of}
 use Rattle.answer_shared.specs.Accepting.{sorted_records}
-use Rattle.answer_shared.specs.Asking.{asks_alias, is_allowed}
+use Rattle.answer_shared.specs.Asking.{is_allowed}
 use Rattle.answer_shared.specs.GroupView.{GroupView, Presents, view_of}
 use Rattle.answer_shared.specs.Hashing.{hash_in}
 use Rattle.answer_shared.specs.Served.{Group, Served, answer_groups, key_group, served_of, ttl_among}
@@ -29,9 +29,6 @@ use Rattle.answer_judge_facts.specs.Judged.{AnswersAs, judged, judged_bytes}
 use Rattle.answer_judge.proofs.GivenAnswers.{answers_given}
 use Rattle.answer_alike.specs.SeenAlike.{SeenAlike}
 use Rattle.answer_alike.proofs.JudgedAlike.{answers_alike, keys_alike}
-use Rattle.answer_publisher_keys.specs.Bindings.{ZoneKeys, keys_by_tag}
-use Rattle.answer_publisher_keys.specs.declared.keys.Publication.TheVariants as publication
-use Rattle.answer_publisher.specs.Answering.{AnswersKeys, AnswersZone}
 use Rattle.answer_publisher.specs.Composed.{IsAnswer, IsWritten, joined}
 use Rattle.answer_publisher.specs.World.{AnswersKeysQuestion, AnswersQuestion, World, present_keys}
 use Rattle.answer_publisher.proofs.WritesAnswer.{all_behind, all_presented}
@@ -40,10 +37,10 @@ use Rattle.answer_publisher.proofs.WritesGroups.{IsFormed, all_hold, all_records
 use Rattle.answer_publisher.proofs.WritesZone.{keys_formed}
 use Rattle.server_queries.specs.Queries.{Queried}
 use Rattle.server_responses.specs.Responses.{AnswersQuery, is_dnssec_ok, response_of}
-use Rattle.server_signatures.specs.Outcomes.{AnswersEach, AnswersKeysEach, signed_by}
+use Rattle.server_signatures.specs.Outcomes.{signed_by}
 use Rattle.server_signatures.specs.Table.{sign_by, verify_by}
 use Rattle.server_signatures.proofs.Signing.{own_entries}
-use Rattle.server_answers.specs.Responding.{IsAnswered, IsMessage, Serving, is_for_keys}
+use Rattle.server_answers.specs.Responding.{IsMessage, Serving, is_for_keys}
 use Rattle.server_laws.specs.Heard.{ClientsAreTold, IsJudgedAs, IsWhole, IsZone, ResponsesJudgedAlike, is_truncated}
 use Rattle.server_laws.proofs.Alone.{NoSignature, StandsAlone, groups_alone}
 use Rattle.server_laws.proofs.Shown.{IsAlone, message_read, spelled_all, whole_seen, whole_where_clear}

@@ -4,12 +4,10 @@ use Rattle.std.specs.List.{AllByRecursion, list_any}
 use Rattle.std.proofs.lemmas.Bool.{eqb-true, or_parts, true≢false}
 use Rattle.definitions.specs.Name.{Name, labels_eq, low}
 use Rattle.definitions.specs.Zone.{Delegated, NoName, NoType, Open, Records, StarNoType, StarRecords, Unsigned, Verdict, Zone, at_existing, ce, cut, data_at, exists, is_of, is_open, star_under, verdict}
-use Rattle.definitions.specs.ZoneChain.{Mode, optout_of}
+use Rattle.definitions.specs.ZoneChain.{optout_of}
 use Rattle.messages.specs.HandedRr.{HandedRr, among}
 use Rattle.messages.proofs.Lists.{all_fail, all_sorted}
-use Rattle.answer_shared.specs.Accepted.{IsAccepted}
 use Rattle.answer_shared.specs.Accepting.{is_added_by_signing, is_alias, record_cmp, rr_of, sorted_records}
-use Rattle.answer_shared.specs.Hashing.{Hasher}
 use Rattle.answer_shared.specs.Served.{Group, Served, ahead, ahead_open, answer_groups, proofs_of, served_of, soa, spoken, unsigned_ns}
 use Rattle.answer_shared.proofs.ZoneFaultless.{no_fault_from}
 use Rattle.server_laws.specs.Unheld.{AbsentAnsweredAlike, IsNowhere, UnheldAnsweredAlike}

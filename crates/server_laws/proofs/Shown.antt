@@ -1,5 +1,5 @@
 -- What a response has of a message, read as it stands there.
-use Rattle.std.proofs.Common.{◌≡◌, ℕ, zero, suc, ◌+◌, ◌*◌, ◌/◌, ◌%◌, ◌<◌, ◌≤◌, Bool, true, false, not, ◌&&◌, ◌||◌, List, [], ◌∷◌, ◌++◌, length, map, min, take, drop, Option, Some, None, Ok, cond, eqb, nat_le, refl, sym, subst, ap, ◌∙◌, append_assoc, length-append, arith, le_refl, leb-true, lit<, lit≤}
+use Rattle.std.proofs.Common.{◌≡◌, ℕ, suc, ◌+◌, ◌*◌, ◌/◌, ◌%◌, ◌<◌, ◌≤◌, Bool, true, false, not, ◌&&◌, ◌||◌, List, [], ◌∷◌, ◌++◌, length, map, take, drop, Option, Some, None, Ok, cond, eqb, nat_le, refl, sym, subst, ap, ◌∙◌, append_assoc, length-append, arith, le_refl, leb-true, lit<, lit≤}
 use Rattle.std.specs.Int.{w16, to_be_bytes}
 use Rattle.std.specs.List.{AllByRecursion, AllZip, filter, flat_map}
 use Rattle.std.proofs.Math.Nat.{min-le_left, mod-lt}
@@ -7,7 +7,7 @@ use Rattle.std.proofs.lemmas.Bool.{eq-eqb, true≢false}
 use Rattle.std.proofs.lemmas.List.{append-nil}
 use Rattle.std.proofs.lemmas.List.Concat.{flat_map-append}
 use Rattle.definitions.specs.Limits.{pointer_limit}
-use Rattle.definitions.specs.Name.{IsName, low, wire, wire_len}
+use Rattle.definitions.specs.Name.{IsName, low, wire}
 use Rattle.messages.specs.Message.{Asked, Message, Spelled, data_of, message, pair}
 use Rattle.messages.specs.Written.{Written, message_octets, question_octets, record_octets, written}
 use Rattle.messages.specs.WrittenLaws.{AreSections, IsQuestion, IsRecord, first_place, spelled_at, spelled_from}
@@ -22,7 +22,7 @@ use Rattle.server_queries.specs.declared.edns.Edns.{Edns}
 use Rattle.server_responses.specs.Responses.{answers_shown, authority_shown, head_octets, is_dnssec_ok, reply_octets, response_flags, response_of, truncated_response, whole_response}
 use Rattle.server_responses.specs.Sections.{answer_section, authority_section, is_added, is_soa_or_its_signature, negative_ttl, no_greater, written_at}
 use Rattle.server_laws.proofs.Alone.{SameButTtl, StandsAlone, records_alike}
-use Rattle.server_laws.proofs.Framed.{answers_of, authority_of, both, flags_of, framed, message_framed, read_framed, records_of}
+use Rattle.server_laws.proofs.Framed.{answers_of, authority_of, flags_of, framed, message_framed, read_framed, records_of}
 use Rattle.server_laws.specs.Heard.{is_truncated}
 
 -- ---- sections of a message

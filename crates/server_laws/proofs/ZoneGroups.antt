@@ -1,10 +1,10 @@
 -- The RRsets of the answers of an accepted zone: their owners are names, their data are read, and none is of signatures.
-use Rattle.std.proofs.Common.{◌≡◌, ℕ, ◌<◌, Bool, true, false, ◌&&◌, ◌||◌, List, [], ◌∷◌, ◌++◌, map, Option, Some, None, cond, eqb, inl, inr, refl, sym, subst, ap}
-use Rattle.std.specs.List.{AllByRecursion, Contains, filter, list_any}
+use Rattle.std.proofs.Common.{◌≡◌, ℕ, ◌<◌, Bool, false, ◌&&◌, ◌||◌, List, [], ◌∷◌, ◌++◌, map, Option, Some, None, cond, eqb, inl, inr, refl, sym, subst, ap}
+use Rattle.std.specs.List.{AllByRecursion, filter, list_any}
 use Rattle.definitions.specs.Base32hex.{base32hex}
 use Rattle.definitions.specs.Name.{IsName, Name, labels_eq, low}
 use Rattle.definitions.specs.Zone.{Delegated, NoName, NoType, Open, Records, StarNoType, StarRecords, Unsigned, Verdict, ce, cut, has, star_under, verdict}
-use Rattle.definitions.specs.ZoneChain.{Mode, Nsec, Nsec3, hashed_names, nsec3_names, optout_of}
+use Rattle.definitions.specs.ZoneChain.{Mode, Nsec, Nsec3, nsec3_names, optout_of}
 use Rattle.messages.specs.Handed.{AreHanded, IsHanded}
 use Rattle.messages.specs.HandedRr.{HandedRr}
 use Rattle.messages.proofs.Lists.{Has, all_sorted}
@@ -14,7 +14,6 @@ use Rattle.answer_shared.specs.Accepting.{record_cmp, sorted_records, zone_of, z
 use Rattle.answer_shared.specs.Chainable.{HasChain}
 use Rattle.answer_shared.specs.Hashing.{Hasher, hash_in}
 use Rattle.answer_shared.specs.Served.{Group, Served, ahead, ahead_open, answer_groups, chain_names, chain_record, if_any, owner_among, proofs_of, rrset, served_of, served_owner, soa, speaks_for, spelled_among, spelled_as, spoken, under, unsigned_ns}
-use Rattle.answer_shared.specs.ZoneView.{IsPublished}
 use Rattle.answer_shared.proofs.ZoneCutNames.{cut_name}
 use Rattle.answer_shared.proofs.ZoneFaultless.{no_fault_from}
 use Rattle.answer_shared.proofs.ZoneNaming.{all_filter, chain_named, either, first_name, lower_name, owner_name}
