@@ -14,20 +14,20 @@ use Rattle.messages.proofs.MessageSignatures.{pair_here}
 use Rattle.messages.proofs.MessageWritten.{StandsAt, bind_ok, owner_here, past, records_here, u16_here, wire-length}
 
 -- a question and what stands behind it
-abbrev class_then : Asked → List ℕ → List ℕ
+abbrev pub class_then : Asked → List ℕ → List ℕ
 class_then q rest = to_be_bytes w16 q.class ++ rest
 
-abbrev type_then : Asked → List ℕ → List ℕ
+abbrev pub type_then : Asked → List ℕ → List ℕ
 type_then q rest = to_be_bytes w16 q.rtype ++ class_then q rest
 
-abbrev name_then : Asked → List ℕ → List ℕ
+abbrev pub name_then : Asked → List ℕ → List ℕ
 name_then q rest = wire q.name ++ type_then q rest
 
 -- a header's counts, of records in three sections, and what stands behind them
-abbrev two_then : ℕ → ℕ → Asked → List ℕ → List ℕ
+abbrev pub two_then : ℕ → ℕ → Asked → List ℕ → List ℕ
 two_then u e q rest = to_be_bytes w16 u ++ (to_be_bytes w16 e ++ name_then q rest)
 
-abbrev counts_then : ℕ → ℕ → ℕ → Asked → List ℕ → List ℕ
+abbrev pub counts_then : ℕ → ℕ → ℕ → Asked → List ℕ → List ℕ
 counts_then a u e q rest = to_be_bytes w16 a ++ two_then u e q rest
 
 -- a message of an id, flags, counts, and a question, before other octets

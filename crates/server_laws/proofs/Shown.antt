@@ -237,7 +237,7 @@ pub record IsAlone (flags : ℕ) (asked : Asked) (answers authority : List Writt
   pub short : length m ≤ 65535
 
 module _ (flags : ℕ) (asked : Asked) (answers authority : List Written) (m : List ℕ) (is : IsAlone flags asked answers authority m) (size : ℕ) (q : Queried) (small : size < 65536) (fits : IsQuestion q.asked) (wanted : is_dnssec_ok q ≡ true) where
-  abbrev place : ℕ
+  abbrev pub place : ℕ
   place = first_place asked
 
   abbrev pub spelled_all : List Spelled
@@ -295,13 +295,13 @@ module _ (flags : ℕ) (asked : Asked) (answers authority : List Written) (m : L
   shown_authority : AllZip SameButTtl authority (authority_shown q m spelled_all)
   shown_authority = subst (AllZip SameButTtl authority) (sym (authority_are ∙ ap (map (shown_with kept_for m)) second_part)) (same_shown kept_for m (place_behind place answers) authority both_datas.1)
 
-  abbrev firsts : List Written
+  abbrev pub firsts : List Written
   firsts = answers_shown q m spelled_all
 
-  abbrev seconds : List Written
+  abbrev pub seconds : List Written
   seconds = authority_shown q m spelled_all
 
-  abbrev whole : List ℕ
+  abbrev pub whole : List ℕ
   whole = whole_response size q m spelled_all
 
   whole_framed : whole ≡ framed q.header.id (response_flags q.header (pair m 2) false) (length firsts) (length seconds) (one_if_some q.edns) q.asked (flat_map record_octets (firsts ++ seconds ++ opts size q.edns) ++ [])

@@ -146,7 +146,7 @@ hash_names apex iterations salt optout hash rs [] is = tt
 hash_names apex iterations salt optout hash rs (n ∷ ns) is = (is.0, hash_names apex iterations salt optout hash rs ns is.1)
 
 module _ (hasher : Hasher) (apex : Name) (limit : ℕ) (rs : List HandedRr) where
-  abbrev sorted : List HandedRr
+  abbrev pub sorted : List HandedRr
   sorted = sorted_records rs
 
   chain_names_are : (mode : Mode) → AreHanded apex sorted → HasChain hasher mode (zone_of apex rs) → (qs : List Name) → AllByRecursion Named (proofs_of (served_of apex mode (hash_in hasher mode) sorted) qs)

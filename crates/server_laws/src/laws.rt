@@ -6,15 +6,15 @@ ghost use Rattle.server_laws.specs.Unheld.{AbsentAnsweredAlike, UnheldAnsweredAl
 /// message of the zone's publisher that the response was made of, whether the response stands in
 /// the place of the answer or in that of the DNSKEY answer.
 ///
-/// The response has the query's id, RD and spelling of the question, an OPT record, and the lesser
-/// TTL of a denial's SOA record (RFC 2308, 3; RFC 6891, 6.1): a judge sees none of them. A response
+/// The response has the query's id, RD and spelling of the question, an OPT record, and in a denial
+/// the lesser TTL of the SOA record (RFC 2308, 3; RFC 6891, 6.1): a judge sees none of them. One
 /// without TC holds all that the message holds.
 pub fn responses_are_judged_alike()
     ensures { ResponsesJudgedAlike }
 {}
 
-/// So the verdict reaches the clients of a name server: from the whole responses to two queries, one
-/// for the keys, that are made of what a zone under keys that meet has given, a judge says the
+/// So the verdict reaches the clients of a name server: from the whole responses to two queries,
+/// one for the keys, that are made of what a zone under keys that meet has given, a judge says the
 /// zone's verdict.
 pub fn clients_are_told_the_verdict()
     ensures { ClientsAreTold }
