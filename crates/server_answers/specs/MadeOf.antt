@@ -10,7 +10,7 @@ use Rattle.server_signatures.specs.declared.answering.Signed.{Signed}
 use Rattle.server_signatures.specs.declared.answering.Signed.TheVariants.{Message, Missing}
 use Rattle.server_answers.specs.Responding.{rcode_of}
 use Rattle.server_answers.specs.declared.requests.Response.{Response}
-use Rattle.server_answers.specs.declared.requests.Response.TheVariants.{Reply, Sign}
+use Rattle.server_answers.specs.declared.requests.Response.TheVariants.{Nothing, Reply, Sign}
 
 -- a message that reads; what is missing has none
 abbrev pub ReadsWhole : Signed → Type 0

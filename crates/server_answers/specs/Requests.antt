@@ -9,7 +9,7 @@ use Rattle.server_responses.specs.declared.transport.Transport.{Transport}
 use Rattle.server_answers.specs.Answering.{AnswersQueried}
 use Rattle.server_answers.specs.Responding.{Serving}
 use Rattle.server_answers.specs.declared.requests.Response.{Response}
-use Rattle.server_answers.specs.declared.requests.Response.TheVariants.{Nothing, Reply}
+use Rattle.server_answers.specs.declared.requests.Response.TheVariants.{Nothing, Reply, Sign}
 
 -- the greatest second of an answer stayed, or an answer of a moment was noted
 abbrev pub IsOrWasNoted : ℕ → Option ℕ → Option ℕ → Type 0
