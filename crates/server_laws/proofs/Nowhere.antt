@@ -147,10 +147,10 @@ not_unheld r signed alias =
 
 -- a type that passes a test, and one that does not
 apart : (p : ℕ → Bool) (t u : ℕ) → p t ≡ true → p u ≡ false → eqb u t ≡ false
-apart p t u yes no = go (eqb u t) refl
+apart p t u passes fails = go (eqb u t) refl
   where
     go : (b : Bool) → eqb u t ≡ b → b ≡ false
-    go true e = absurd (true≢false (sym yes ∙ ap p (sym (eqb-true u t e)) ∙ no))
+    go true e = absurd (true≢false (sym passes ∙ ap p (sym (eqb-true u t e)) ∙ fails))
     go false e = refl
 
 none_unheld : (t : ℕ) (rs : List HandedRr) → unheld t ≡ true → AllByRecursion (λ (r : HandedRr). is_added_by_signing r ≡ false) rs → AllByRecursion (λ (r : HandedRr). is_alias r ≡ false) rs → AllByRecursion (λ (r : HandedRr). eqb r.rtype t ≡ false) rs

@@ -149,6 +149,13 @@ module _ (hasher : Hasher) (apex : Name) (limit : ℕ) (rs : List HandedRr) wher
   abbrev pub sorted : List HandedRr
   sorted = sorted_records rs
 
+  -- the apex is spelled as it was handed in
+  apex_itself : spelled_as apex sorted (low apex) ≡ apex
+  apex_itself = ap (λ b. cond b apex (spelled_among sorted (low apex))) (labels_eq-same (low apex) (low apex) refl)
+
+  spelled_apex : (d : List ℕ) → IsName (base32hex d ∷ apex) → IsName (base32hex d ∷ spelled_as apex sorted (low apex))
+  spelled_apex d is = subst (λ (n : Name). IsName (base32hex d ∷ n)) (sym apex_itself) is
+
   chain_names_are : (mode : Mode) → AreHanded apex sorted → HasChain hasher mode (zone_of apex rs) → (qs : List Name) → AllByRecursion Named (proofs_of (served_of apex mode (hash_in hasher mode) sorted) qs)
   chain_names_are Nsec h chain qs =
       let x = served_of apex Nsec (hash_in hasher Nsec) sorted in
@@ -160,12 +167,6 @@ module _ (hasher : Hasher) (apex : Name) (limit : ℕ) (rs : List HandedRr) wher
       let P : Name → Type 0 = λ n. Named (chain_record x n) in
       let each : AllByRecursion P (nsec3_names (zone_with apex sorted) optout) = all_has P (nsec3_names (zone_with apex sorted) optout) (λ n i. spelled_apex (hash n) (chain.fit n (contained_has (nsec3_names (zone_with apex sorted) optout) n i))) in
       hash_names apex iterations salt optout hash sorted (filter (λ o. list_any (speaks_for x o) qs) (chain_names x)) (all_filter P (λ o. list_any (speaks_for x o) qs) (chain_names x) (all_sorted P _ (nsec3_names (zone_with apex sorted) optout) each))
-    where
-      spelled_apex : (d : List ℕ) → IsName (base32hex d ∷ apex) → IsName (base32hex d ∷ spelled_as apex sorted (low apex))
-      spelled_apex d is = subst (λ (n : Name). IsName (base32hex d ∷ n)) (sym apex_itself) is
-
-      apex_itself : spelled_as apex sorted (low apex) ≡ apex
-      apex_itself = ap (λ b. cond b apex (spelled_among sorted (low apex))) (labels_eq-same (low apex) (low apex) refl)
 
   pub are_handed : (mode : Mode) → IsName apex → AllByRecursion IsHanded rs → IsAccepted hasher apex mode limit rs → AreHanded apex sorted
   are_handed mode name handed accepted = record { apex_is = name; records_are = all_sorted IsHanded record_cmp rs handed; known = (no_fault_from apex mode limit rs accepted.faultless).known }
