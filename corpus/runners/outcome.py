@@ -71,11 +71,17 @@ def mark(case: Case) -> str:
     return hashlib.sha256(json.dumps(shown).encode()).hexdigest()[:8]
 
 
-def agreeing(validator: str, cases: list[Case]) -> set[str]:
-    """The cases that agreed in the kept run."""
+def kept(validator: str, cases: list[Case]) -> dict[str, Said]:
+    """What the kept run has of cases that have not changed since."""
     path = SAID / f"{validator}.json"
     known = json.loads(path.read_text())["said"] if path.exists() else {}
-    return {it["id"] for it in cases if known.get(it["id"], [])[3:] == [mark(it)] and verdict(it, Said(*known[it["id"]][:3])) == "agrees"}
+    return {it["id"]: Said(*known[it["id"]][:3]) for it in cases if known.get(it["id"], [])[3:] == [mark(it)]}
+
+
+def agreeing(validator: str, cases: list[Case]) -> set[str]:
+    """The cases that agreed in the kept run."""
+    known = kept(validator, cases)
+    return {it["id"] for it in cases if it["id"] in known and verdict(it, known[it["id"]]) == "agrees"}
 
 
 def store(validator: str, version: str, told: dict[str, Said]) -> None:

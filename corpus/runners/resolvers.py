@@ -8,6 +8,7 @@ from __future__ import annotations
 
 import asyncio
 import base64
+import functools
 import os
 import pathlib
 import re
@@ -29,6 +30,14 @@ ROOT_PUBLIC = base64.b64encode(ROOT_KEY.pair.public).decode()
 
 def clock(moment: int, form: str) -> str:
     return time.strftime(form, time.gmtime(moment))
+
+
+@functools.cache
+def clock_library(folder: pathlib.Path) -> pathlib.Path:
+    """The clock that is put in front, built once."""
+    library = folder / "clock.so"
+    subprocess.run(["cc", "-O2", "-shared", "-fPIC", "-o", library, CLOCK], check=True)
+    return library
 
 
 def query(number: int, name: bytes, rtype: int) -> bytes:
@@ -124,9 +133,7 @@ class Resolver:
 
     def clock(self) -> dict[str, str]:
         """An environment in which a program believes that it is the moment."""
-        library = self.folder / "clock.so"
-        subprocess.run(["cc", "-O2", "-shared", "-fPIC", "-o", library, CLOCK], check=True)
-        return {"LD_PRELOAD": str(library), "CORPUS_MOMENT": str(self.moment), "CORPUS_SLOWNESS": str(SLOWNESS)}
+        return {"LD_PRELOAD": str(clock_library(self.folder.parent)), "CORPUS_MOMENT": str(self.moment), "CORPUS_SLOWNESS": str(SLOWNESS)}
 
     async def start(self) -> None:
         self.write("hints", f". 3600 NS server.root.\nserver.root. 3600 A {ROOT}\n")

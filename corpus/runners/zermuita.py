@@ -18,10 +18,12 @@ import zermuita  # noqa: E402
 
 RSA, ECDSA, ED25519 = 8, 13, 15
 ALGORITHMS = [RSA, ECDSA, ED25519]
+CNAME, DNAME = 5, 39
 SAYS = {
     zermuita.Verdict.RECORDS: (SECURE, "answer"), zermuita.Verdict.NODATA: (SECURE, "nodata"), zermuita.Verdict.NXDOMAIN: (SECURE, "nxdomain"),
     zermuita.Verdict.WILDCARD: (SECURE, "wildcard"), zermuita.Verdict.WILDCARD_NODATA: (SECURE, "wildcard-nodata"),
     **dict.fromkeys((zermuita.Verdict.ALIAS, zermuita.Verdict.WILDCARD_ALIAS, zermuita.Verdict.DNAME), (SECURE, "alias")),
+    zermuita.Verdict.REFERRAL: (SECURE, "delegated"),
     zermuita.Verdict.OPTOUT: (INSECURE, "optout"), zermuita.Verdict.INSECURE: (INSECURE, "no-ds"),
 }
 ITERATIONS_OVER_LIMIT = 23
@@ -56,10 +58,11 @@ def check(ask: Any) -> None:
 
 
 def said(library: Any, case: Case) -> Said:
-    ds = [bytes.fromhex(it) for it in case["ds"]]
+    ds, rtype = [bytes.fromhex(it) for it in case["ds"]], case["question"]["type"]
     handed = zermuita.Case(
         bytes.fromhex(case["apex"]), ds, bytes.fromhex(case["dnskey"]), bytes.fromhex(case["answer"]), bytes.fromhex(case["question"]["name"]),
-        case["question"]["type"], now=case["moment"], max_nsec3_iterations=case["nsec3_limit"], algorithms=ALGORITHMS, no_ds=not ds,
+        rtype, now=case["moment"], max_nsec3_iterations=case["nsec3_limit"], algorithms=ALGORITHMS, no_ds=not ds,
+        other_question=rtype in (CNAME, DNAME),
     )
     try:
         judgement = library.judge(handed, passes)
@@ -67,7 +70,7 @@ def said(library: Any, case: Case) -> Said:
         if refused.reply == ITERATIONS_OVER_LIMIT:
             return Said(INSECURE, "iterations", str(refused))
         return Said(BOGUS, "", str(refused))
-    if judgement.verdict in (zermuita.Verdict.DELEGATED, zermuita.Verdict.REFERRAL):
+    if judgement.verdict is zermuita.Verdict.DELEGATED:
         return delegated(case)
     if judgement.ede:
         return Said(INSECURE, "algorithms", f"{library.strerror(int(judgement.verdict))}, EDE {judgement.ede}")
