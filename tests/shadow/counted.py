@@ -1,0 +1,72 @@
+"""Instructions that programs take, by valgrind's callgrind: the same whatever else the machine does."""
+
+import asyncio
+import re
+import subprocess
+
+from recorded import Capture, record
+
+# LuaJIT, of which Knot Resolver is made, writes code as it runs.
+VALGRIND = ["valgrind", "--tool=callgrind", "--callgrind-out-file=/dev/null", "--smc-check=all-non-file"]
+
+
+def collected(text):
+    return int(re.search(r"Collected : (\d+)", text)[1])
+
+
+def counting(kind):
+    """A resolver under callgrind, which takes its time to end."""
+
+    class Counting(kind):
+        def command(self):
+            return [*VALGRIND, f"--log-file={self.folder}/callgrind", *super().command()]
+
+        async def is_up(self):
+            for _ in range(9):
+                try:
+                    return await super().is_up()
+                except TimeoutError:
+                    pass
+            await super().is_up()
+
+        def end(self):
+            if self.process and self.process.poll() is None:
+                self.process.terminate()
+                self.process.wait(timeout=300)
+            super().end()
+
+        def instructions(self):
+            return collected((self.folder / "callgrind").read_text())
+
+    return Counting
+
+
+async def of_resolver(kind, folder, address, key, questions, is_logging):
+    """How many instructions a resolver takes from its start to its end."""
+    folder.mkdir()
+    resolver = counting(kind)(folder, address, key)
+    resolver.is_logging = is_logging
+    capture = Capture(resolver.folder) if is_logging else None
+    try:
+        await resolver.start()
+        await resolver.is_up()
+        gate = asyncio.Semaphore(20)
+
+        async def ask(question):
+            async with gate:
+                return await resolver.client.ask(*question)
+
+        missing = sum(it is None for it in await asyncio.gather(*map(ask, questions)))
+    finally:
+        resolver.end()
+        if capture:
+            capture.end()
+    return resolver.instructions(), missing
+
+
+async def of_shadow(program, anchor, kind, folder, address, key, questions):
+    """How many instructions the shadow takes for what a resolver logs."""
+    file = await record(kind, folder, address, key, questions)
+    words = [*VALGRIND, program, f"--anchors={anchor}", f"--file={file}"]
+    ran = subprocess.run(list(map(str, words)), stdin=subprocess.DEVNULL, capture_output=True, text=True, check=True)
+    return collected(ran.stderr)
