@@ -1,0 +1,3 @@
+pub mod Wanting
+pub mod Onward
+pub mod Truly

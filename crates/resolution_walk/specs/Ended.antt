@@ -1,0 +1,58 @@
+-- What a walk ends in, as it is kept.
+use Rattle.std.specs.Prelude.{◌≡◌, List, ◌++◌, Option, Some, None, IfSome}
+use Rattle.definitions.specs.Dnskey.{Ds}
+use Rattle.definitions.specs.Name.{Name}
+use Rattle.denial_laws.specs.Leading.{To}
+use Rattle.messages.specs.Message.{Asked}
+use Rattle.answer_judge_rules.specs.Rules.{verdict_of}
+use Rattle.answer_findings.specs.Seen.{lead_seen}
+use Rattle.resolution_tree.specs.Tree.{Said, Secure, Unsigned, LeftOpen, Leads}
+use Rattle.resolution_evidence.specs.Given.{Given}
+use Rattle.resolution_evidence.specs.Walking.{Onward, GoesDown, EndsIn, Stops, IsOnward, Tells, Follows}
+use Rattle.resolution_walk.specs.declared.ending.Ending.{Ending}
+use Rattle.resolution_walk.specs.declared.ending.Ending.TheVariants as ends
+use Rattle.resolution_walk.specs.declared.ending.Turn.{Turn}
+use Rattle.resolution_walk.specs.declared.ending.Turn.TheVariants as turns
+use Rattle.resolution_walk.specs.declared.ending.Walk.{Walk}
+
+-- what an ending says; none where the evidence does not suffice
+abbrev pub said_of : Ending → Option Said
+said_of (ends.Secure zone v) = Some (Secure zone (verdict_of v))
+said_of (ends.Leads lead) = Some (Leads (lead_seen lead))
+said_of (ends.Unsigned c) = Some (Unsigned c)
+said_of (ends.LeftOpen zone) = Some (LeftOpen zone)
+said_of _ = None
+
+-- the name that an alias leads to
+abbrev pub leads_to : Option Said → Option Name
+leads_to (Some (Leads (To n))) = Some n
+leads_to _ = None
+
+abbrev pub ends_in : Option Said → Onward
+ends_in None = Stops
+ends_in (Some s) = EndsIn s
+
+abbrev pub onward_of : Turn → Onward
+onward_of (turns.Down c ds) = GoesDown c ds.items
+onward_of (turns.Ends ending) = ends_in (said_of ending)
+
+-- a turn is where evidence leads, if anywhere
+abbrev pub IsWay : Given → Asked → Name → List Ds → Onward → Type 0
+IsWay e asked zone ds Stops = Unit {0}
+IsWay e asked zone ds o = IsOnward e asked zone ds o
+
+abbrev pub IsTurn : Given → Asked → Name → List Ds → Turn → Type 0
+IsTurn e asked zone ds turn = IsWay e asked zone ds (onward_of turn)
+
+abbrev pub IsEnding : Given → Asked → Name → List Ds → Ending → Type 0
+IsEnding e asked zone ds ending = IfSome (said_of ending) (λ s. Tells e asked s zone ds)
+
+-- a walk follows aliases behind those so far
+pub record IsFollowed (e : Given) (asked : Asked) (before : List Name) (through : List Name) (said : Said) : Type 0 where
+  pub names : List Name
+  pub through_are : through ≡ before ++ names
+  pub follows : Follows e said asked names
+
+-- an end of aliases is none that leads on
+abbrev pub IsWalked : Given → Asked → List Name → Walk → Type 0
+IsWalked e asked before w = IfSome (said_of w.ending) (IsFollowed e asked before w.through.items)

@@ -1,0 +1,68 @@
+//! Where a walk ends.
+use answer_findings::Lead;
+use answer_judge::{Refusal, Verdict};
+use answer_judge_table::Ask;
+use denial_data::Ds;
+use messages::names::Name;
+use names_rdata::rtype::Rtype;
+
+/// A message that is wanted: of which zone, and the answer to which question.
+#[derive(Debug, Drop)]
+pub struct Wanted {
+    pub zone: Name<Vec<u8>>,
+    pub name: Name<Vec<u8>>,
+    pub rtype: Rtype,
+}
+
+/// Where a walk ends.
+#[derive(Debug, Drop)]
+pub enum Ending {
+    /// The zone that has the name says this verdict.
+    Secure {
+        zone: Name<Vec<u8>>,
+        verdict: Verdict,
+    },
+    /// The name is an alias that leads to none: what a DNAME makes of it is too long.
+    Leads(Lead),
+    /// The delegation of this name has no DS record of a known algorithm and digest: what is below
+    /// is insecure (RFC 4035, 5.2).
+    Unsigned(Name<Vec<u8>>),
+    /// Opt-out of this zone leaves the name open: it is insecure (RFC 5155, 6).
+    LeftOpen(Name<Vec<u8>>),
+    /// The zone's answer to this question tells nothing of the way: it is bogus, where it was
+    /// refused, or another answer is wanted.
+    Untold {
+        zone: Name<Vec<u8>>,
+        name: Name<Vec<u8>>,
+        rtype: Rtype,
+        refusal: Option<Refusal>,
+    },
+    /// These signatures are wanted.
+    Asks(Vec<Ask>),
+    /// These messages are wanted.
+    Wants(Vec<Wanted>),
+    /// More delegations are on the way than the limit allows.
+    TooManyCuts,
+    /// More aliases are on the way than the limit allows.
+    TooManyAliases,
+    /// The question is none of the anchor: its name is not at or below, or it is for DS there.
+    Outside,
+}
+
+/// Where a zone's messages lead.
+#[derive(Debug, Drop)]
+pub(crate) enum Turn {
+    /// Down to this zone, with these DS records.
+    Down {
+        zone: Name<Vec<u8>>,
+        ds: Vec<Ds<Vec<u8>>>,
+    },
+    Ends(Ending),
+}
+
+/// Where a walk ends, and the names that aliases lead through on the way.
+#[derive(Debug, Drop)]
+pub struct Walk {
+    pub ending: Ending,
+    pub through: Vec<Name<Vec<u8>>>,
+}

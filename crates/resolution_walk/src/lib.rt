@@ -1,0 +1,16 @@
+//! The way from a trust anchor down to what is said of a name: a function of evidence, which is
+//! messages of zones with the questions that they answer, and signatures that were checked. It
+//! opens no socket and keeps nothing: it says what is secure or insecure, or which messages and
+//! signatures are wanted (RFC 4035, 5).
+#![tactic(auto)]
+
+pub mod ending;
+pub mod evidence;
+mod names_between;
+mod place;
+mod turns;
+pub mod walk;
+
+pub use crate::ending::{Ending, Walk, Wanted};
+pub use crate::evidence::{Evidence, Message};
+pub use crate::walk::{Limits, resolve};
