@@ -1,0 +1,186 @@
+//! What the lines so far handed in.
+
+use crate::grown::{Anchor, Grown, Walker};
+use crate::said::{Kind, kind_of, said};
+use crate::signatures::Signatures;
+use crate::store::{Replay, Store};
+use crate::words::{name_of, question_of};
+use denial_data::Ds;
+use denial_fields::unix_time::UnixTime;
+use messages::question::Question;
+use numbers::algorithm::{DigestAlgorithm, SecurityAlgorithm};
+use resolution_walk::Limits;
+use std::alloc::Global;
+use std::time::Duration;
+use test_lines::{octets_of, text};
+
+#[derive(Drop)]
+pub struct Desk {
+    signatures: Signatures,
+    store: Store,
+    anchor: Option<Anchor>,
+    limits: Limits,
+}
+
+impl Desk {
+    pub fn new(alloc: Global) -> Desk {
+        Desk {
+            signatures: Signatures::new(alloc),
+            store: Store::new(alloc),
+            anchor: None,
+            limits: Limits {
+                cuts: 32,
+                aliases: 11,
+            },
+        }
+    }
+
+    /// A line of the table of signatures.
+    pub fn take_signature(&mut self, alloc: Global, name: &str, words: &[&str]) -> Option<String> {
+        match name {
+            "key" => self.signatures.take_key(alloc, words)?,
+            _ => self.signatures.take_signature(alloc, words)?,
+        }
+        Some(String::new(alloc))
+    }
+
+    /// A line of a message.
+    pub fn take_message(&mut self, alloc: Global, words: &[&str]) -> Option<String> {
+        self.store.take(alloc, words)?;
+        Some(String::new(alloc))
+    }
+
+    /// The line of the trust anchor.
+    pub fn take_anchor(&mut self, alloc: Global, words: &[&str]) -> Option<String> {
+        let [name, ds, moment] = words else {
+            return None;
+        };
+        let mut set = Vec::new(alloc);
+        set.push(ds_of(alloc, ds)?).ok()?;
+        self.anchor = Some(Anchor {
+            name: name_of(alloc, name)?,
+            ds: set,
+            moment: UnixTime::new(Duration::from_secs(moment.parse::<u64>().ok()?)),
+        });
+        format!(in alloc; "anchor {name} {moment}").ok()
+    }
+
+    /// A line that leaves a message out, brings all back, or sets limits.
+    pub fn set(&mut self, alloc: Global, line: &str, name: &str, words: &[&str]) -> Option<String> {
+        match name {
+            "without" => self.store.leave_out(alloc, words)?,
+            "with" => self.store.bring_back(),
+            _ => self.limits = limits_of(words)?,
+        }
+        text(alloc, line)
+    }
+
+    /// A line that asks.
+    pub fn asked(&self, alloc: Global, line: &str, name: &str, words: &[&str]) -> Option<String> {
+        let [qname, rtype] = words else {
+            return None;
+        };
+        let question = question_of(alloc, qname, rtype)?;
+        let said = match name {
+            "resolve" => self.resolved(alloc, &question)?,
+            _ => self.replayed(alloc, &question)?,
+        };
+        format!(in alloc; "{line}: {said}").ok()
+    }
+
+    fn walker(&self, replay: Option<Replay>) -> Option<Walker> {
+        Some(Walker {
+            anchor: self.anchor.as_ref()?,
+            store: &self.store,
+            signatures: &self.signatures,
+            limits: self.limits,
+            replay,
+        })
+    }
+
+    /// What is said of a question.
+    fn resolved(&self, alloc: Global, question: &Question) -> Option<String> {
+        let walker = self.walker(None)?;
+        let Grown { walk, places } = walker.grown(alloc, question, Vec::new(alloc))?;
+        let (first, count) = (said(alloc, &walk)?, places.len());
+        let again = said(alloc, &walker.grown(alloc, question, places)?.walk)?;
+        if again == first {
+            return format!(in alloc; "{first}; {count} messages").ok();
+        }
+        format!(in alloc; "{first}; {count} messages; at once {again}").ok()
+    }
+
+    /// What is said of a question where messages are replayed.
+    fn replayed(&self, alloc: Global, question: &Question) -> Option<String> {
+        let Grown { walk, places } = self.walker(None)?.grown(alloc, question, Vec::new(alloc))?;
+        let honest = Honest {
+            kind: kind_of(&walk.ending),
+            text: said(alloc, &walk)?,
+        };
+        let (mut tries, mut otherwise) = (0_u32, 0_u32);
+        for place in &places {
+            for by in 0..self.store.len() {
+                if by == *place {
+                    continue;
+                }
+                let replay = Replay { place: *place, by };
+                tries = tries.saturating_add(1);
+                if !self.is_as(alloc, question, replay, &honest)? {
+                    otherwise = otherwise.saturating_add(1);
+                }
+            }
+        }
+        format!(in alloc; "{tries} tries, {otherwise} otherwise").ok()
+    }
+
+    /// Whether nothing else is said where a message is replayed.
+    fn is_as(
+        &self,
+        alloc: Global,
+        question: &Question,
+        replay: Replay,
+        honest: &Honest,
+    ) -> Option<bool> {
+        let walker = self.walker(Some(replay))?;
+        let walk = walker.grown(alloc, question, Vec::new(alloc))?.walk;
+        match kind_of(&walk.ending) {
+            Kind::Nothing => Some(true),
+            Kind::Insecure => Some(honest.kind == Kind::Insecure),
+            Kind::Secure => Some(honest.text == said(alloc, &walk)?),
+        }
+    }
+}
+
+/// What is said where nothing is replayed.
+#[derive(Drop)]
+struct Honest {
+    kind: Kind,
+    text: String,
+}
+
+fn limits_of(words: &[&str]) -> Option<Limits> {
+    let [cuts, aliases] = words else {
+        return None;
+    };
+    Some(Limits {
+        cuts: cuts.parse::<u16>().ok()?,
+        aliases: aliases.parse::<u16>().ok()?,
+    })
+}
+
+/// A DS record of its tag, algorithm, type of digest and digest.
+fn ds_of(alloc: Global, word: &str) -> Option<Ds<Vec<u8>>> {
+    let fields: Vec<&str> = word.split(':').collect(alloc).ok()?;
+    let [tag, algorithm, digest_type, digest] = fields.as_slice() else {
+        return None;
+    };
+    let (tag, algorithm) = (tag.parse::<u16>().ok()?, algorithm.parse::<u8>().ok()?);
+    let digest_type = digest_type.parse::<u8>().ok()?;
+    Ds::new(
+        tag,
+        SecurityAlgorithm::from_int(algorithm),
+        DigestAlgorithm::from_int(digest_type),
+        octets_of(alloc, digest)?,
+    )
+    .ok()
+}
