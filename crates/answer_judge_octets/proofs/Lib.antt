@@ -8,4 +8,4 @@ pub mod Standing
 pub mod Carried
 pub mod NumbersOnce
 pub mod PlacesPut
-pub mod RestsOn
+pub mod PlacesInFront

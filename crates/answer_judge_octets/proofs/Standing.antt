@@ -1,13 +1,13 @@
 -- Octets that stand in others, and how many entries of a table have such.
-use Rattle.std.proofs.Common.{◌≡◌, ℕ, ◌+◌, ◌<◌, ◌≤◌, Bool, true, false, ◌||◌, List, [], ◌∷◌, ◌++◌, zero, suc, ◌-◌, take, drop, length, filter, refl, sym, ap, ◌∙◌, arith}
+use Rattle.std.proofs.Common.{◌≡◌, ℕ, ◌+◌, ◌≤◌, Bool, true, false, ◌||◌, List, [], ◌∷◌, ◌++◌, zero, suc, ◌-◌, take, drop, length, filter, refl, sym, ◌∙◌, arith}
 use Rattle.std.specs.Prelude.{nat_lt}
 use Rattle.std.proofs.lemmas.Bool.{le-ltb}
 use Rattle.std.proofs.lemmas.List.{append-nil, take-append-drop}
 use Rattle.std.proofs.lemmas.Slice.Eq.{starts_is}
 use Rattle.std.proofs.lemmas.Bool.Decides.{Decides-eqb}
 use Rattle.std.proofs.lemmas.List.Sums.{count_by-le-length, length-filter}
-use Rattle.std.specs.List.{list_any, slice_range}
-use Rattle.answer_judge_octets.specs.Replying.{begins_with, ends, stands_in}
+use Rattle.std.specs.List.{slice_range}
+use Rattle.answer_judge_octets.specs.Replying.{begins_with, stands_in}
 
 first_stands : (b c : Bool) → b ≡ true → (b || c) ≡ true
 first_stands true c h = refl

@@ -1,5 +1,5 @@
 -- What octets spell is one thing, and a list grows by what was asked for.
-use Rattle.std.specs.Prelude.{◌≡◌, ℕ, ◌+◌, ◌-◌, ◌≤◌, Bool, true, false, List, [], ◌∷◌, ◌++◌, Option, Some, None, Ok, filter, length, map, take}
+use Rattle.std.specs.Prelude.{◌≡◌, ℕ, ◌+◌, ◌-◌, ◌≤◌, Bool, true, false, List, [], ◌∷◌, ◌++◌, filter, length, map, take}
 use Rattle.std.specs.List.{list_all}
 use Rattle.definitions.specs.Name.{Name}
 use Rattle.definitions.specs.Dnskey.{Dnskey}
@@ -13,13 +13,8 @@ use Rattle.answer_shared.specs.Served.{Group, Served}
 use Rattle.answer_shared.specs.Told.{TellsAnswer, TellsKeys}
 use Rattle.answer_judge_keys.specs.Judging.{Handing}
 use Rattle.answer_judge_octets.specs.declared.octets.OctetCase.{OctetCase}
-use Rattle.answer_judge_octets.specs.Places.{rests_on}
 use Rattle.answer_judge_octets.specs.Replying.{IsJudged, Spells, are_too_many, is_carried, most_of}
-use Rattle.answer_findings.specs.declared.made.Judgements.{Judgements}
-use Rattle.answer_findings.specs.declared.made.Made.{Made}
-use Rattle.answer_findings.specs.Found.{AreAskedFor, AreJudgements}
-use Rattle.answer_findings.specs.Judgements.{aside, question_of}
-use Rattle.answer_findings.specs.Seen.{Seen, SeesVerdict, SeesDelegated, SeesNoDs, SeesAlias, SeesStarAlias, SeesDname, SeesReferral, found_by}
+use Rattle.answer_findings.specs.Found.{AreAskedFor}
 use Rattle.answer_judge_table.specs.Table.{Checked, Tried, checked}
 use Rattle.answer_judge_octets.specs.Written.{FitsChecked, IsList, checked_octets, passes_octets}
 
@@ -54,29 +49,6 @@ abbrev pub AsksStayFew : Type 0
 AsksStayFew =
     (most : ℕ) (h : Handing) (table answered : List Checked)
     → AreAskedFor table h (map (λ c. c.tried) answered) → are_too_many most h table (length answered) ≡ false → StaysFew most h table answered
-
--- what a judgement of a search was made for, if it was made
-abbrev pub judged_in : Handing → Option Made → List Handing
-judged_in h None = []
-judged_in h (Some m) = aside h (question_of m) ∷ []
-
--- What the judgements were made for that a finding rests on, by which it lasts: the case's own for a verdict, and with it those of NS
--- and DS at a cut, or that of NS at a name without DS; that of an alias, or that of the DS records of a referral.
-abbrev pub rests_among : Handing → Option Made → Option Made → Option Made → Seen → List Handing
-rests_among h alias ns ds (SeesVerdict v) = h ∷ []
-rests_among h alias ns ds (SeesDelegated None) = h ∷ []
-rests_among h alias ns ds (SeesDelegated (Some cut)) = h ∷ (judged_in h ns ++ judged_in h ds)
-rests_among h alias ns ds (SeesNoDs d) = h ∷ judged_in h ns
-rests_among h alias ns ds (SeesAlias target) = judged_in h alias
-rests_among h alias ns ds (SeesStarAlias target) = judged_in h alias
-rests_among h alias ns ds (SeesDname owner leads) = judged_in h alias
-rests_among h alias ns ds (SeesReferral cut ds_set) = judged_in h ds
-
--- What the judgements of a search come to rests on just these.
-abbrev pub FindingsRestOnJudgements : Type 0
-FindingsRestOnJudgements =
-    (table : List Checked) (h : Handing) (js : Judgements) (s : Seen)
-    → AreJudgements table h js → found_by h js ≡ Ok s → rests_on h s ≡ rests_among h js.alias js.ns js.ds s
 
 -- the data of an RRset are in form, each by itself
 abbrev pub is_group_in_form : Group → Bool

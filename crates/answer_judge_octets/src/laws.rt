@@ -1,7 +1,7 @@
 //! Laws of cases in octets.
 
-ghost use Rattle.answer_judge_octets.specs.Laws.{AsksStayFew, FindingsRestOnJudgements};
-ghost use Rattle.answer_judge_octets.specs.Laws.{ListsGrow, OctetsSpellOneCase, ToldAreInForm};
+ghost use Rattle.answer_judge_octets.specs.Laws.{AsksStayFew, ListsGrow, OctetsSpellOneCase};
+ghost use Rattle.answer_judge_octets.specs.Laws.{ToldAreInForm};
 
 /// The octets of a case spell one thing to be judged, and one table of signatures, if any.
 pub fn octets_spell_one_case()
@@ -19,12 +19,6 @@ pub fn lists_grow_by_entries()
 /// checked than it allows (CVE-2023-50387).
 pub fn asks_stay_few()
     ensures { AsksStayFew }
-{}
-
-/// The records that a verdict vouches for are those of the judgements of the search that it rests
-/// on, each for its own question.
-pub fn findings_rest_on_judgements()
-    ensures { FindingsRestOnJudgements }
 {}
 
 /// Where the data of a zone's records are in form, as `are_records_in_form` says of the records

@@ -1,0 +1,39 @@
+-- Octets in front of a reply, where places are wanted.
+use Rattle.std.proofs.Common.{◌≡◌, ℕ, Bool, true, List, Option, Result, Ok, Err, IfOk, sym, ap, subst, ◌∙◌}
+use Rattle.std.specs.declared.alloc.AllocError.{AllocError}
+use Rattle.answer_judge_keys.specs.Judging.{Handing}
+use Rattle.answer_judge_keys.specs.declared.verdict.Lasting.{Lasting}
+use Rattle.answer_findings.specs.Found.{IsFound}
+use Rattle.answer_findings.specs.Seen.{seen}
+use Rattle.answer_findings.specs.Truth.{FindsTruly}
+use Rattle.answer_findings.specs.declared.finding.Finding.{Finding}
+use Rattle.answer_findings.specs.declared.finding.Found.{Found}
+use Rattle.answer_findings.specs.declared.finding.Found.TheVariants as f
+use Rattle.answer_judge_table.specs.Table.{Checked}
+use Rattle.answer_judge_octets.specs.declared.octets.OctetCase.{OctetCase}
+use Rattle.answer_judge_octets.specs.declared.reply.Reply.{Reply}
+use Rattle.answer_judge_octets.specs.Places.{octets_in_front}
+use Rattle.answer_judge_octets.specs.Replying.{Replied, SaysFound, behind, counted, found_reply, front_of, reply_seen}
+
+module _ (case : OctetCase) (error : ℕ) (places : Bool) (h : Handing) (table : List Checked) where
+  -- a finding that was replied, behind what stands in front of it where places are wanted
+  says_finding : (finding : Finding) (lasting : Option Lasting) (verifications hashes : ℕ) (front : List ℕ) (said : Replied) (r : Result Reply AllocError)
+      → IsFound table h (f.Finds finding lasting verifications hashes) → FindsTruly table h (f.Finds finding lasting verifications hashes)
+      → front ≡ front_of places table h (seen finding) → said ≡ counted verifications hashes (found_reply case.moment error (seen finding) lasting)
+      → IfOk r (λ r. reply_seen r ≡ behind front said) → IfOk r (λ r. SaysFound case error places h table (reply_seen r))
+  says_finding finding lasting verifications hashes front said (Ok r) found honest in_front is put = record {
+    found = f.Finds finding lasting verifications hashes;
+    is_found = found;
+    honest = honest;
+    replied = put ∙ (λ i. behind (in_front i) (is i));
+  }
+  says_finding finding lasting verifications hashes front said (Err e) found honest in_front is put = tt
+
+  -- where they are wanted
+  pub says_places : (finding : Finding) (lasting : Option Lasting) (verifications hashes : ℕ) (front : List ℕ) (said : Replied) (r : Result Reply AllocError) (found : Found)
+      → places ≡ true → found ≡ f.Finds finding lasting verifications hashes → IsFound table h found → FindsTruly table h found
+      → front ≡ octets_in_front table h (seen finding) → said ≡ counted verifications hashes (found_reply case.moment error (seen finding) lasting)
+      → IfOk r (λ r. reply_seen r ≡ behind front said) → IfOk r (λ r. SaysFound case error places h table (reply_seen r))
+  says_places finding lasting verifications hashes front said r found wanted e is honest in_front =
+      says_finding finding lasting verifications hashes front said r (subst (IsFound table h) e is) (subst (FindsTruly table h) e honest)
+      (in_front ∙ ap (λ (b : Bool). front_of b table h (seen finding)) (sym wanted))

@@ -1,0 +1,24 @@
+use Rattle.std.proofs.Common.{◌≡◌, rules}
+use Rattle.answer_findings.specs.Found.{IsFound}
+use Rattle.answer_findings.specs.Seen.{seen}
+use Rattle.answer_findings.specs.Truth.{FindsTruly}
+use Rattle.answer_judge_octets.specs.Places.{octets_in_front}
+use Rattle.answer_judge_octets.specs.ReadCases.{handing_of}
+use Rattle.answer_judge_octets.specs.Replying.{counted, found_reply, reply_seen}
+use Rattle.answer_judge_octets.proofs.PlacesInFront.{says_places}
+use Rattle.answer_judge_octets.proofs.octets.judged.Goals as goal
+
+pub returns-in_ok-octets_in_front-in-Finds : goal.returns-in_ok-octets_in_front-in-Finds
+returns-in_ok-octets_in_front-in-Finds c =
+    let case = c.args.case.now in
+    let read = c.args.read.now in
+    let h = handing_of case read in
+    let table = read.table.items in
+    let finds = c.in-Finds in
+    let found : IsFound table h c.in_ok-finding.field-0 = search rules in
+    let honest : FindsTruly table h c.in_ok-finding.field-0 = search rules in
+    let front : c.in_ok-octets_in_front-in-Finds.field-0.items ≡ octets_in_front table h (seen finds.finding) = search rules in
+    let said : reply_seen c.counted-reply.result ≡ counted finds.verifications finds.hashes (found_reply case.moment read.error (seen finds.finding) finds.lasting) = search rules in
+    says_places case read.error read.places h table finds.finding finds.lasting finds.verifications finds.hashes
+    c.in_ok-octets_in_front-in-Finds.field-0.items (reply_seen c.counted-reply.result) c.behind.result c.in_ok-finding.field-0
+    c.if-not-read.false finds.is found honest front said c.behind.ensures
