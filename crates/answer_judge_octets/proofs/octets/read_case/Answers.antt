@@ -1,6 +1,6 @@
-use Rattle.std.proofs.Common.{◌≡◌, Some, ap, sym, ◌∙◌, length, rules}
-use Rattle.std.specs.Prelude.{◌==◌, Bool}
-use Rattle.answer_judge_octets.specs.Replying.{IsJudged, flag_in, stand_as_received, unsupported}
+use Rattle.std.proofs.Common.{◌≡◌, Some, length, rules}
+use Rattle.std.specs.Prelude.{◌==◌}
+use Rattle.answer_judge_octets.specs.Replying.{flag_in, stand_as_received}
 use Rattle.answer_judge_octets.specs.Written.{FitsDs, IsList, ds_octets}
 use Rattle.answer_judge_octets.proofs.octets.read_case.Goals as goal
 
