@@ -1,0 +1,2 @@
+pub mod EntriesAsked
+pub mod EntriesMade

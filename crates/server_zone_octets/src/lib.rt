@@ -1,0 +1,21 @@
+//! A zone that is served, octets to octets, for callers in other languages: it is opened from its
+//! journal, lines are applied to it, it says what is due, and it answers requests by signatures
+//! that its caller makes.
+#![tactic(auto)]
+
+mod code;
+mod due;
+mod entries;
+mod lines;
+mod parts;
+mod records;
+mod report;
+mod request;
+mod told;
+
+pub use crate::code::ZoneCode;
+pub use crate::due::{OctetDue, due_octets};
+pub use crate::lines::{apply_octets, open_octets};
+pub use crate::records::records_octets;
+pub use crate::report::ZoneReport;
+pub use crate::request::{OctetRequest, respond_octets};

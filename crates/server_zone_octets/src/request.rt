@@ -1,0 +1,147 @@
+//! A request that is answered.
+ghost use Rattle.std.specs.Prelude.{◌≡◌};
+ghost use Rattle.answer_publisher.specs.World.{world_of};
+ghost use Rattle.server_zone_octets.specs.Requests.{AnswersRequest, IsToldResponse, TellsResponse};
+ghost use Rattle.server_zone_octets.specs.Requests.{transport_of};
+ghost use Rattle.server_zone_octets.specs.Telling.{told_seen};
+
+use crate::code::ZoneCode;
+use crate::entries::{asked_entries, read_made};
+use crate::report::ZoneReport;
+use crate::told::{Told, hand_out};
+use answer_scheme::Scheme;
+use denial_nsec3_hash::hasher::Nsec3Hasher;
+use keyset::UnixTime;
+use server_answers::{Response, ServerTerms, respond};
+use server_responses::Transport;
+use server_zone::Zone;
+use std::alloc::{AllocError, Global};
+use std::time::Duration;
+
+/// What a server is sent, and how it answers.
+#[repr(C)]
+#[derive(Drop)]
+pub struct OctetRequest<'a> {
+    /// How many octets this has as its caller knows it: 64.
+    pub size: usize,
+    /// What was received, a whole message.
+    pub request: &'a [u8],
+    /// The signatures that were made, as they were asked for.
+    pub made: &'a [u8],
+    /// The moment of the clock, in seconds since 1970.
+    pub moment: u64,
+    /// How many seconds before the clock everything is that an answer says.
+    pub backdate: u32,
+    /// 1 where a stream carries the response, as TCP does; 0 where a datagram does.
+    pub stream: u32,
+    /// How many octets this server sends at most by a datagram.
+    pub limit: u16,
+    /// How many octets it takes by a datagram, as its OPT records say.
+    pub udp_size: u16,
+}
+
+/// How many octets a request has in memory.
+const REQUEST_SIZE: usize = 64;
+
+const _: () = prove!(size_of::<OctetRequest>() == REQUEST_SIZE);
+
+/// Answers a request as [`respond`] does. The response is written to the front of `out` where there
+/// is room for it, or the entries of signatures that are to be made: each has room for its
+/// signature, and belongs into `made` once that is there.
+pub fn respond_octets<S: Scheme, H: Nsec3Hasher>(
+    alloc: Global,
+    zone: &mut Zone<'_, S, H>,
+    request: &OctetRequest,
+    out: &mut [u8],
+    report: &mut ZoneReport,
+) -> ZoneCode
+    ensures answered { let p = zone.old.publisher in
+        let w = world_of S.signature_of S.verifies S.digest_of H.hash_of p in
+        let answers = AnswersRequest w p.keys request.now p.latest zone.new.publisher.latest in
+        answers report.old report.new out.old out.new result }
+    ensures rest { let p = record zone.old.publisher { latest = zone.new.publisher.latest } in
+        zone.new ≡ record zone.old { publisher = p } }
+{
+    if !report.is_known() {
+        return ZoneCode::BadCall;
+    }
+    let told = reply_to(alloc, zone, request);
+    hand_out(&told, out, report)
+}
+
+/// The reply to a request.
+fn reply_to<S: Scheme, H: Nsec3Hasher>(
+    alloc: Global,
+    zone: &mut Zone<'_, S, H>,
+    handed: &OctetRequest,
+) -> Told
+    ensures told { let p = zone.old.publisher in
+        let w = world_of S.signature_of S.verifies S.digest_of H.hash_of p in
+        let tells = TellsResponse w p.keys handed.now p.latest zone.new.publisher.latest in
+        tells (told_seen result) }
+    ensures rest { let p = record zone.old.publisher { latest = zone.new.publisher.latest } in
+        zone.new ≡ record zone.old { publisher = p } }
+{
+    let transport = match transport_of(handed) {
+        Some(transport) => transport,
+        None => return Told::only(alloc, ZoneCode::BadCall),
+    };
+    let table = match read_made(alloc, handed.made) {
+        Ok(table) => table,
+        Err(code) => return Told::only(alloc, code),
+    };
+    let now = UnixTime::new(Duration::from_secs(handed.moment));
+    let terms = ServerTerms {
+        backdate: handed.backdate,
+        udp_size: handed.udp_size,
+    };
+    let publisher = &mut zone.publisher;
+    match respond(
+        alloc,
+        publisher,
+        &table,
+        handed.request,
+        &now,
+        transport,
+        &terms,
+    ) {
+        Ok(response) => told_response(alloc, response),
+        Err(AllocError) => Told::only(alloc, ZoneCode::OutOfMemory),
+    }
+}
+
+/// What is told of a response.
+fn told_response(alloc: Global, response: Response) -> Told
+    ensures { IsToldResponse response (told_seen result) }
+{
+    match response {
+        Response::Nothing => Told::only(alloc, ZoneCode::NoResponse),
+        Response::Reply(octets) => Told {
+            code: ZoneCode::Response,
+            octets,
+        },
+        Response::Sign(inputs) => match asked_entries(alloc, &inputs) {
+            Ok(octets) => Told {
+                code: ZoneCode::Sign,
+                octets,
+            },
+            Err(_) => Told::only(alloc, ZoneCode::OutOfMemory),
+        },
+    }
+}
+
+/// What carries the response.
+fn transport_of(handed: &OctetRequest) -> Option<Transport>
+    ensures { result ≡ transport_of handed.now }
+{
+    if handed.size != REQUEST_SIZE {
+        return None;
+    }
+    match handed.stream {
+        0 => Some(Transport::Datagram {
+            limit: handed.limit,
+        }),
+        1 => Some(Transport::Stream),
+        _ => None,
+    }
+}
