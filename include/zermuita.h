@@ -117,7 +117,7 @@ struct zermuita_case {
     struct zermuita_octets algorithms; /* the algorithms that the caller checks, an octet each; none: all */
     uint32_t max_signatures;           /* how many signatures of both messages are to be checked at most; 0: 16 */
     uint32_t other_question;           /* 1: the answer may be one to another question of the zone; 0: to this one */
-    uint32_t no_ds;                    /* 1: the parent proved that there is no DS record; 0: `ds` has some */
+    uint32_t no_ds;                    /* 1: the parent proved a delegation without DS records; 0: `ds` has some */
     uint32_t places;                   /* 1: a verdict says which records of `answer` it vouches for; 0: it does not */
 };
 
