@@ -1,7 +1,7 @@
 /*
  * Prints what a signed zone says of a name, and how long that lasts, from files with the octets of two messages and of a DS set,
  * each record's data behind its length in two octets; a file without octets means that the parent proved a delegation without DS
- * record. The type is a number; the moment, else now, is in seconds since 1970. OpenSSL checks the signatures. The status is 0 for a
+ * records. The type is a number; the moment, else now, is in seconds since 1970. OpenSSL checks the signatures. The status is 0 for a
  * verdict, 1 for a refusal, else 2. To build it: cc validate.c $(pkg-config --cflags --libs zermuita) -lcrypto
  */
 #include "signature.h"
