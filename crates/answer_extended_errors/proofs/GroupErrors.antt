@@ -10,7 +10,7 @@ use Rattle.definitions.specs.Name.{Name, at_or_above, low, same}
 use Rattle.messages.specs.Message.{Asked, Spelled}
 use Rattle.messages.proofs.Lists.{Has, all_at, any_from, both_ways, found, list_any-map}
 use Rattle.messages.proofs.ZoneNames.{labels_eq-same, same_labels}
-use Rattle.answer_hash_owners.specs.HashOwner.{spells_hash}
+use Rattle.answer_shared.specs.HashOwner.{spells_hash}
 use Rattle.answer_judge_facts.specs.Marked.{AreGathered, IsAlone, IsGathered, data_in, is_chain, is_chain_type, is_of, marked, stands_alone}
 use Rattle.answer_judge_facts.specs.Sought.{is_alone}
 use Rattle.answer_judge_facts.specs.Verified.{Trusting, is_hash_alone, is_verified, one_known, rrset_in}

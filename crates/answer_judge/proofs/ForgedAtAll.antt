@@ -10,7 +10,7 @@ use Rattle.answer_scheme.specs.Answers.{Answers}
 use Rattle.answer_judge_keys.specs.Judging.{Handing, keys_in}
 use Rattle.answer_judge_facts.specs.Sought.{Sought}
 use Rattle.answer_judge_facts.specs.Verified.{datum_of}
-use Rattle.answer_honest.specs.Honest.{NothingForged, WasSigned, sought_of_answer, sought_of_keys}
+use Rattle.answer_judge_facts.specs.Honest.{NothingForged, WasSigned, sought_of_answer, sought_of_keys}
 use Rattle.answer_judge.specs.ForgedAtAll.{AtAllIsEnough, NothingForgedAtAll}
 use Rattle.answer_judge.proofs.GivenLists.{has_contained}
 use Rattle.answer_judge.proofs.HonestKeys.{keys_read}

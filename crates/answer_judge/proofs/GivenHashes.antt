@@ -17,13 +17,13 @@ use Rattle.messages.proofs.ZoneNames.{labels_eq-same}
 use Rattle.answer_shared.specs.Served.{Group}
 use Rattle.answer_shared.specs.Told.{AreRecords, AreSignatures, IsRecord, IsSignature, TellsGroups}
 use Rattle.answer_judge_facts.specs.Verified.{Trusting, hash_link_at, hash_link_with, is_hash_alone, is_hash_link, is_known, is_verified, one_known, rrset_in, verified_hash_links}
-use Rattle.answer_hash_owners.specs.HashOwner.{hash_spelled, spells_hash}
+use Rattle.answer_shared.specs.HashOwner.{hash_spelled, spells_hash}
 use Rattle.answer_judge.proofs.GivenGroups.{SaysHashLink, has_twins, is_nsec3, said_of}
 use Rattle.answer_judge.proofs.GivenLinks.{OneRecord, one_record, sorted_one}
 use Rattle.answer_judge.proofs.GivenNext.{canonical_nsec3}
 use Rattle.answer_judge.proofs.GivenRecords.{rrset_given}
 use Rattle.answer_judge.proofs.GivenSignatures.{IsSignedBy, verified_given}
-use Rattle.answer_hash_owners.proofs.HashOwners.{label_spells}
+use Rattle.answer_shared.proofs.HashOwners.{label_spells}
 
 -- ---- owners
 

@@ -22,8 +22,8 @@ use Rattle.messages.proofs.ZoneNames.{labels_eq-same}
 use Rattle.answer_shared.specs.Accepting.{sorted_records}
 use Rattle.answer_shared.specs.Hashing.{hash_in}
 use Rattle.answer_scheme.specs.Answers.{Answers}
-use Rattle.answer_honest.specs.Honest.{IsHonest, Signing, WasSigned, sought_of_answer}
-use Rattle.answer_honest.specs.Versions.{IsOfChain, IsRrsetOf, OfZone, OfChain, OfParameters, SignedRrset, Version, zone_in}
+use Rattle.answer_judge_facts.specs.Honest.{IsHonest, Signing, WasSigned, sought_of_answer}
+use Rattle.answer_judge_facts.specs.Versions.{IsOfChain, IsRrsetOf, OfZone, OfChain, OfParameters, SignedRrset, Version, zone_in}
 use Rattle.answer_judge_keys.specs.Trusted.{labels_fit, may_expand}
 use Rattle.answer_judge_facts.specs.Judged.{trusting}
 use Rattle.answer_judge_keys.specs.Judging.{Handing}

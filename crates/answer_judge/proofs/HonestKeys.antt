@@ -17,8 +17,8 @@ use Rattle.messages.proofs.Lists.{Has, all_at, all_more, all_sorted, some_is}
 use Rattle.answer_shared.specs.Hashing.{hash_in}
 use Rattle.answer_shared.proofs.KeyData.{key_read_back}
 use Rattle.answer_scheme.specs.Answers.{Answers}
-use Rattle.answer_honest.specs.Honest.{IsHonest, NoStranger, Signing, WasSigned, sought_of_keys}
-use Rattle.answer_honest.specs.Versions.{IsOfChain, IsRrsetOf, OfZone, OfChain, OfParameters, SignedRrset, Version, zone_in}
+use Rattle.answer_judge_facts.specs.Honest.{IsHonest, NoStranger, Signing, WasSigned, sought_of_keys}
+use Rattle.answer_judge_facts.specs.Versions.{IsOfChain, IsRrsetOf, OfZone, OfChain, OfParameters, SignedRrset, Version, zone_in}
 use Rattle.answer_judge_keys.specs.Trusted.{is_trusted, is_usable, names_key}
 use Rattle.answer_judge_facts.specs.Judged.{is_chained, keys_of, trusting}
 use Rattle.answer_judge_keys.specs.Judging.{Handing, key_at, keys_in}

@@ -11,7 +11,7 @@ use Rattle.messages.specs.Message.{AreOctets, Message, Spelled}
 use Rattle.messages.proofs.Lists.{Has}
 use Rattle.answer_scheme.specs.Answers.{Answers}
 use Rattle.answer_shared.specs.Hashing.{hash_in}
-use Rattle.answer_honest.specs.Versions.{Version, zone_in}
+use Rattle.answer_judge_facts.specs.Versions.{Version, zone_in}
 use Rattle.answer_judge_facts.specs.Judged.{trusting}
 use Rattle.answer_judge_keys.specs.Judging.{Handing}
 use Rattle.answer_judge_facts.specs.Verified.{Trusting, hash_link_at, link_at, verified_facts}

@@ -19,7 +19,7 @@ use Rattle.messages.proofs.Lists.{Has, all_at, all_more, found, some_is}
 use Rattle.messages.proofs.ZoneNames.{same_labels}
 use Rattle.answer_scheme.specs.Answers.{Answers}
 use Rattle.answer_judge_keys.specs.Trusted.{fits_key, is_due, is_signature, is_usable, labels_fit, signs}
-use Rattle.answer_honest.specs.Honest.{IsHonest, MayBeUsed, over}
+use Rattle.answer_judge_facts.specs.Honest.{IsHonest, MayBeUsed, over}
 use Rattle.answer_judge_facts.specs.Judged.{trusting}
 use Rattle.answer_judge_keys.specs.Judging.{Handing}
 use Rattle.answer_judge_facts.specs.Sought.{Sought}

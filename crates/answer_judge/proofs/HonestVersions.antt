@@ -10,8 +10,8 @@ use Rattle.messages.specs.Message.{Message, message}
 use Rattle.messages.proofs.Lists.{Has, some_is}
 use Rattle.answer_scheme.specs.Answers.{Answers}
 use Rattle.answer_shared.specs.Hashing.{hash_in}
-use Rattle.answer_honest.specs.Honest.{HasOneRrset, IsHonest, Signing, WasSigned, sought_of_answer}
-use Rattle.answer_honest.specs.Versions.{Version}
+use Rattle.answer_judge_facts.specs.Honest.{HasOneRrset, IsHonest, Signing, WasSigned, sought_of_answer}
+use Rattle.answer_judge_facts.specs.Versions.{Version}
 use Rattle.answer_judge_facts.specs.Judged.{trusting}
 use Rattle.answer_judge_keys.specs.Judging.{Handing}
 use Rattle.answer_judge_facts.specs.Times.{Times, are_unlike, proof_times, times_at, times_of}

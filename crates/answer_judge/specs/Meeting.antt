@@ -18,7 +18,7 @@ use Rattle.answer_shared.specs.Asking.{is_allowed}
 use Rattle.answer_shared.specs.EqualTags.{has_equal_tags}
 use Rattle.answer_judge_keys.specs.declared.verdict.Judgement.{Judgement}
 use Rattle.answer_judge_keys.specs.declared.verdict.Refused.{Refused}
-use Rattle.answer_honest.specs.Honest.{AnswersHonest}
+use Rattle.answer_judge_facts.specs.Honest.{AnswersHonest}
 use Rattle.answer_judge.specs.Timely.{RefusesUntimely}
 use Rattle.answer_judge_facts.specs.Judged.{AnswersAs, judged}
 use Rattle.answer_judge_facts.specs.Counted.{Counts, hashes_due, verifications_due}

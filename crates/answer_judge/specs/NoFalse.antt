@@ -1,7 +1,7 @@
 -- A judge says no false verdict of honest messages.
 use Rattle.std.specs.Prelude.{ℕ}
 use Rattle.answer_scheme.specs.Answers.{Answers}
-use Rattle.answer_honest.specs.Honest.{AnswersHonest}
+use Rattle.answer_judge_facts.specs.Honest.{AnswersHonest}
 use Rattle.answer_judge_keys.specs.Judging.{Answer, Handing}
 use Rattle.answer_judge_facts.specs.Judged.{AnswersAs, judged}
 

@@ -11,7 +11,7 @@ use Rattle.answer_scheme.specs.Answers.{Answers}
 use Rattle.answer_shared.specs.Told.{TellsKeys}
 use Rattle.answer_judge_keys.specs.Judging.{Handing}
 use Rattle.answer_judge_facts.specs.Verified.{Trusting}
-use Rattle.answer_honest.specs.Honest.{IsHonest, Signing, WasSigned, sought_of_answer, sought_of_keys}
+use Rattle.answer_judge_facts.specs.Honest.{IsHonest, Signing, WasSigned, sought_of_answer, sought_of_keys}
 use Rattle.answer_judge.specs.OwnFacts.{TellsZone}
 
 -- records that are served with a chain, signed from a second on for so many seconds

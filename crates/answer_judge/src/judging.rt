@@ -8,7 +8,7 @@ ghost use Rattle.messages.specs.Message.{Asked, message};
 ghost use Rattle.messages.specs.View.{Gives};
 ghost use Rattle.answer_judge.specs.Beyond.{SaysBeyond};
 ghost use Rattle.answer_judge.specs.Decided.{HashesDecided, HashesDecidedBeyond};
-ghost use Rattle.answer_honest.specs.Honest.{AnswersHonest};
+ghost use Rattle.answer_judge_facts.specs.Honest.{AnswersHonest};
 ghost use Rattle.answer_judge.specs.Timely.{RefusesUntimely};
 ghost use Rattle.answer_judge_facts.specs.Judged.{judged, said, AnswersAs};
 ghost use Rattle.answer_judge_facts.specs.Lasting.{LastsSo, lasting_in_bytes};

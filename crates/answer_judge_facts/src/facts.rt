@@ -21,7 +21,7 @@ ghost use Rattle.answer_judge_facts.specs.Ranked.{AreRanked, AskedLast, IsRun, a
 use crate::groups::{Group, is_chain_type, place_of, read_group, verify_groups};
 use crate::lasting::lasting_of;
 use crate::times::are_unlike;
-use answer_hash_owners::owner::{hash_spelled, spells_hash};
+use answer_shared::owner::{hash_spelled, spells_hash};
 use answer_judge_keys::trust::Trust;
 use answer_judge_keys::verdict::{DataList, Lasting};
 use answer_judge_keys::verifier::Verifier;

@@ -4,6 +4,7 @@
 
 pub mod facts;
 pub mod groups;
+pub mod honest;
 pub mod lasting;
 pub mod laws;
 pub mod signed_keys;

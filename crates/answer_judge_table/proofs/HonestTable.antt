@@ -3,8 +3,8 @@ use Rattle.std.proofs.Common.{ℕ, Bool, List, [], ◌∷◌}
 use Rattle.std.specs.List.{AllByRecursion}
 use Rattle.definitions.specs.Dnskey.{Dnskey}
 use Rattle.messages.specs.Message.{Spelled}
-use Rattle.answer_honest.specs.Honest.{AnswersHonest, IsHonest, IsSignedOfVersion, IsVersion, SignedOfKeys, SignedOfVersion, Signing, WasSigned, over}
-use Rattle.answer_honest.specs.Versions.{Version}
+use Rattle.answer_judge_facts.specs.Honest.{AnswersHonest, IsHonest, IsSignedOfVersion, IsVersion, SignedOfKeys, SignedOfVersion, Signing, WasSigned, over}
+use Rattle.answer_judge_facts.specs.Versions.{Version}
 use Rattle.answer_judge_facts.specs.Sought.{Sought}
 use Rattle.answer_judge_keys.specs.Judging.{Answer, Handing}
 use Rattle.answer_judge_table.specs.Table.{AreTrue, Tried, answers_with, tried}

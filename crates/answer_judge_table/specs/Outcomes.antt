@@ -4,7 +4,7 @@ use Rattle.definitions.specs.Limits.{pointer_limit}
 use Rattle.answer_judge_keys.specs.Judging.{Handing, answer_of, hashes_of}
 use Rattle.answer_judge_keys.specs.declared.verdict.Judgement.{Judgement}
 use Rattle.answer_judge_keys.specs.declared.verdict.Refused.{Refused}
-use Rattle.answer_honest.specs.Honest.{AnswersHonest}
+use Rattle.answer_judge_facts.specs.Honest.{AnswersHonest}
 use Rattle.answer_judge.specs.Meeting.{JudgesSo}
 use Rattle.answer_judge_facts.specs.Lasting.{LastsSo}
 use Rattle.answer_judge_table.specs.declared.outcome.Outcome.{Outcome}

@@ -22,8 +22,8 @@ use Rattle.answer_events.specs.declared.event.Act.{Act}
 use Rattle.answer_events.specs.declared.event.Act.TheVariants as act
 use Rattle.answer_events.specs.Calls.{call_of}
 use Rattle.answer_scheme.specs.Moments.{second_of}
-use Rattle.answer_honest.specs.Versions.{Version}
-use Rattle.answer_honest.specs.Honest.{FewIterations, IsVersion, Settled, Signing}
+use Rattle.answer_judge_facts.specs.Versions.{Version}
+use Rattle.answer_judge_facts.specs.Honest.{FewIterations, IsVersion, Settled, Signing}
 use Rattle.answer_judge.specs.Meeting.{IsJudgement}
 use Rattle.answer_judge.specs.OwnMessages.{signing_of}
 use Rattle.answer_judge_keys.specs.Judging.{Handing, answer_of, hashes_of, verifications_of}

@@ -9,8 +9,8 @@ use Rattle.answer_shared.specs.ZoneView.{AcceptedZone}
 use Rattle.answer_events.specs.declared.event.Act.{Act}
 use Rattle.answer_events.specs.declared.event.Act.TheVariants as act
 use Rattle.answer_events.specs.declared.event.Event.{Event}
-use Rattle.answer_honest.specs.Honest.{SaysOneOf, Signing}
-use Rattle.answer_honest.proofs.OneZone.{at_most}
+use Rattle.answer_judge_facts.specs.Honest.{SaysOneOf, Signing}
+use Rattle.answer_judge_facts.proofs.OneZone.{at_most}
 use Rattle.answer_judge.proofs.GivenLists.{contained_has}
 use Rattle.answer_judge_keys.specs.Judging.{Answer}
 use Rattle.answer_publisher.specs.World.{World}

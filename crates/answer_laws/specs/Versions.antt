@@ -8,7 +8,7 @@ use Rattle.answer_shared.specs.Accepting.{sorted_records}
 use Rattle.answer_events.specs.declared.event.Act.{Act}
 use Rattle.answer_events.specs.declared.event.Act.TheVariants as act
 use Rattle.answer_events.specs.declared.event.Event.{Event}
-use Rattle.answer_honest.specs.Honest.{SaysOneOf, Signing}
+use Rattle.answer_judge_facts.specs.Honest.{SaysOneOf, Signing}
 use Rattle.answer_judge_keys.specs.Judging.{Answer}
 use Rattle.answer_publisher.specs.Replacing.{whole_second}
 use Rattle.answer_publisher.specs.World.{World}

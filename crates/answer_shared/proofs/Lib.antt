@@ -15,3 +15,5 @@ pub mod FactsCase
 pub mod Servable
 pub mod ZoneNaming
 pub mod ZoneCutNames
+pub mod Digits
+pub mod HashOwners

@@ -16,3 +16,4 @@ pub mod FactsCase
 pub mod Servable
 pub mod Chainable
 pub mod Accepted
+pub mod HashOwner

@@ -6,5 +6,6 @@
 pub mod dnskey;
 pub mod laws;
 pub mod mode;
+pub mod owner;
 pub mod question;
 pub mod ranked;

@@ -7,7 +7,7 @@ use Rattle.definitions.specs.Dnskey.{Dnskey}
 use Rattle.definitions.specs.Limits.{pointer_limit}
 use Rattle.messages.specs.Message.{Message, message}
 use Rattle.messages.proofs.Lists.{all_at}
-use Rattle.answer_honest.specs.Honest.{NoStranger}
+use Rattle.answer_judge_facts.specs.Honest.{NoStranger}
 use Rattle.answer_judge.proofs.GivenLists.{has_contained}
 use Rattle.answer_judge.proofs.Spliced.{ok_is}
 use Rattle.answer_judge_keys.specs.Judging.{Handing, keys_in}

@@ -10,8 +10,8 @@ use Rattle.definitions.specs.Zone.{NoName}
 use Rattle.definitions.specs.ZoneChain.{nsec_names}
 use Rattle.messages.specs.Message.{owner_at}
 use Rattle.messages.proofs.Lists.{Has}
-use Rattle.answer_honest.specs.Honest.{IsSaidByOne, OneAtATime, Signing, sought_of_answer, verdict_of}
-use Rattle.answer_honest.specs.Versions.{OfChain, Version, zone_in}
+use Rattle.answer_judge_facts.specs.Honest.{IsSaidByOne, OneAtATime, Signing, sought_of_answer, verdict_of}
+use Rattle.answer_judge_facts.specs.Versions.{OfChain, Version, zone_in}
 use Rattle.answer_judge_keys.specs.Judging.{Handing}
 use Rattle.answer_judge.proofs.GivenLists.{has_contained}
 use Rattle.counterexamples_honest.specs.Premises.{IsMixture, Premises, SaysFalsely, all, without_settled}

@@ -16,8 +16,8 @@ use Rattle.denial_laws.specs.Truth.{IsServable}
 use Rattle.messages.specs.Message.{owner_at}
 use Rattle.messages.proofs.Lists.{Has}
 use Rattle.messages.proofs.ZoneNames.{same_labels}
-use Rattle.answer_honest.specs.Honest.{NoStranger, NothingForged, OneAtATime, Signing, SignedOfKeys, WasSigned, sought_of_answer, sought_of_keys}
-use Rattle.answer_honest.specs.Versions.{OfChain, Version, zone_in}
+use Rattle.answer_judge_facts.specs.Honest.{NoStranger, NothingForged, OneAtATime, Signing, SignedOfKeys, WasSigned, sought_of_answer, sought_of_keys}
+use Rattle.answer_judge_facts.specs.Versions.{OfChain, Version, zone_in}
 use Rattle.answer_judge_facts.specs.Times.{Times}
 use Rattle.answer_judge_keys.specs.Judging.{Refuses}
 use Rattle.answer_judge_keys.specs.Trusted.{is_usable}

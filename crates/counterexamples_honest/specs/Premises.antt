@@ -12,8 +12,8 @@ use Rattle.messages.specs.WrittenLaws.{IsQuestion}
 use Rattle.answer_shared.specs.Chainable.{HasChain}
 use Rattle.answer_shared.specs.Hashing.{hash_in}
 use Rattle.answer_scheme.specs.Answers.{Answers}
-use Rattle.answer_honest.specs.Honest.{AreHonest, FewIterations, IsSaidByOne, NoStranger, NothingForged, Settled, Signing, WasSigned, sought_of_answer, sought_of_keys}
-use Rattle.answer_honest.specs.Versions.{Version, zone_in}
+use Rattle.answer_judge_facts.specs.Honest.{AreHonest, FewIterations, IsSaidByOne, NoStranger, NothingForged, Settled, Signing, WasSigned, sought_of_answer, sought_of_keys}
+use Rattle.answer_judge_facts.specs.Versions.{Version, zone_in}
 use Rattle.answer_judge_facts.specs.Judged.{judged}
 use Rattle.answer_judge_keys.specs.Judging.{Answer, Handing, Refuses, Says}
 use Rattle.answer_judge_keys.specs.declared.verdict.Refusal.TheVariants.{MixedVersions}

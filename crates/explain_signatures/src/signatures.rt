@@ -3,7 +3,7 @@
 use crate::asked::Asked;
 use crate::delegation::{KeyReason, is_usable};
 use crate::recording::Tried;
-use answer_hash_owners::owner::spells_hash;
+use answer_shared::owner::spells_hash;
 use answer_judge_facts::groups::{is_chain_type, read_group};
 use answer_judge_keys::keys::TaggedKey;
 use answer_judge_keys::order::sort_data;

@@ -5,7 +5,7 @@ use Rattle.definitions.specs.Limits.{pointer_limit}
 use Rattle.definitions.specs.Name.{Name}
 use Rattle.definitions.specs.Zone.{cut, data_at}
 use Rattle.messages.specs.Message.{Asked}
-use Rattle.answer_honest.specs.Versions.{Version}
+use Rattle.answer_judge_facts.specs.Versions.{Version}
 use Rattle.answer_judge_keys.specs.Judging.{Handing}
 use Rattle.answer_judge_table.specs.Table.{AreTrue, Tried, answers_with, passes_in}
 use Rattle.answer_findings.specs.Truth.{AreHonestBeside}

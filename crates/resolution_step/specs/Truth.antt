@@ -6,7 +6,7 @@ use Rattle.definitions.specs.Name.{Name, low}
 use Rattle.definitions.specs.Zone.{cut, is_open, data_at}
 use Rattle.definitions.specs.ZoneChain.{optout_of}
 use Rattle.denial_laws.specs.Aliases.{is_aliased}
-use Rattle.answer_honest.specs.Versions.{Version, zone_in}
+use Rattle.answer_judge_facts.specs.Versions.{Version, zone_in}
 use Rattle.answer_judge_keys.specs.Judging.{Handing}
 use Rattle.answer_judge_table.specs.Table.{AreTrue, Checked, Tried, answers_with, passes_in}
 use Rattle.answer_findings.specs.Truth.{AreHonestBeside}

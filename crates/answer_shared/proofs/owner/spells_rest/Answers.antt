@@ -1,7 +1,7 @@
 use Rattle.std.proofs.Common.{ap, ◌∙◌, ◌%◌}
 use Rattle.std.specs.Prelude.{◌==◌}
-use Rattle.answer_hash_owners.proofs.Digits.{spells_four, spells_five, spells_seven}
-use Rattle.answer_hash_owners.proofs.owner.spells_rest.Goals as goal
+use Rattle.answer_shared.proofs.Digits.{spells_four, spells_five, spells_seven}
+use Rattle.answer_shared.proofs.owner.spells_rest.Goals as goal
 
 pub returns-in-len4 : goal.returns-in-len4
 returns-in-len4 c = ap (λ v. v % 16 == 0) c.value-in-len4.ensures ∙ spells_four c.args.digits.now c.in-len4.len_at_least c.in-len4.len_below c.requires.digits

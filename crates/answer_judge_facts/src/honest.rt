@@ -1,6 +1,6 @@
 //! Laws of honest messages.
 
-ghost use Rattle.answer_honest.specs.OneZone.{HonestOfOneZone};
+ghost use Rattle.answer_judge_facts.specs.OneZone.{HonestOfOneZone};
 
 /// The judge says the verdict of a zone that does not change, or refuses, whether or not signatures
 /// must be of one moment.

@@ -2,7 +2,7 @@
 use Rattle.std.specs.Prelude.{ℕ}
 use Rattle.answer_scheme.specs.Answers.{Answers}
 use Rattle.answer_judge_keys.specs.Judging.{Answer, Handing}
-use Rattle.answer_honest.specs.Honest.{AnswersHonest, AnswersHonestOf}
+use Rattle.answer_judge_facts.specs.Honest.{AnswersHonest, AnswersHonestOf}
 
 abbrev pub HonestOfOneZone : Type 0
 HonestOfOneZone = (a : Answers) (k : ℕ) (h : Handing) (answer : Answer) → AnswersHonest a k h answer → AnswersHonestOf a k h answer

@@ -11,8 +11,8 @@ use Rattle.std.proofs.lemmas.Slice.Eq.{bytes_eq-Decides}
 use Rattle.definitions.specs.Base32hex.{base32hex, digit}
 use Rattle.definitions.proofs.Members.{both_ways}
 use Rattle.numbers.specs.Decoding.{decoded, is_digit, octet_one, octet_two, octet_three, octet_four, octet_five, value}
-use Rattle.answer_hash_owners.specs.HashOwner.{is_base32hex}
-use Rattle.answer_hash_owners.proofs.HashOwners.{AreDigits, digit_small, digits_alone, unspelled}
+use Rattle.answer_shared.specs.HashOwner.{is_base32hex}
+use Rattle.answer_shared.proofs.HashOwners.{AreDigits, digit_small, digits_alone, unspelled}
 
 -- ---- what a digit stands for
 

@@ -13,7 +13,7 @@ use Rattle.numbers.specs.Refusing.{IsBadLength, RefusedDigits, RefusedText}
 use Rattle.numbers.specs.declared.base32hex.DecodeError.{DecodeError}
 use Rattle.numbers.specs.declared.base32hex.DecodeError.TheVariants.{BadChar, BadLength, TrailingBits, Memory}
 use Rattle.numbers.proofs.Decodes.{decodes}
-use Rattle.answer_hash_owners.specs.HashOwner.{is_base32hex, label_octets}
+use Rattle.answer_shared.specs.HashOwner.{is_base32hex, label_octets}
 
 -- ---- digits
 

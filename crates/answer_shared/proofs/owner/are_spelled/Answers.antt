@@ -1,7 +1,7 @@
 use Rattle.std.proofs.Common.{refl, arith}
 use Rattle.answer_shared.proofs.Octets.{are_octets}
-use Rattle.answer_hash_owners.proofs.HashOwners.{label_spells}
-use Rattle.answer_hash_owners.proofs.owner.are_spelled.Goals as goal
+use Rattle.answer_shared.proofs.HashOwners.{label_spells}
+use Rattle.answer_shared.proofs.owner.are_spelled.Goals as goal
 
 pub returns-clause-spelled : goal.returns-clause-spelled
 returns-clause-spelled c = (label_spells c.args.label.now c.args.octets.now (are_octets c.args.octets.now c.args.octets.now refl (λ i. omega (arith, c.type_inv.octets i))) c.requires).0

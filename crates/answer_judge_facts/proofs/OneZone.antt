@@ -2,9 +2,9 @@
 use Rattle.std.proofs.Common.{◌≡◌, zero, suc, [], ◌∷◌, sym, ap, ◌∙◌, arith}
 use Rattle.std.specs.Prelude.{Contains}
 use Rattle.answer_judge_keys.specs.Judging.{Answer, Handing, Says, Refuses}
-use Rattle.answer_honest.specs.Honest.{SaysAtMost, SaysOneOf, is_alias_in, verdict_of}
-use Rattle.answer_honest.specs.OneZone.{HonestOfOneZone}
-use Rattle.answer_honest.specs.Versions.{Version}
+use Rattle.answer_judge_facts.specs.Honest.{SaysAtMost, SaysOneOf, is_alias_in, verdict_of}
+use Rattle.answer_judge_facts.specs.OneZone.{HonestOfOneZone}
+use Rattle.answer_judge_facts.specs.Versions.{Version}
 
 only : {A : Type 0} (x y : A) → Contains (x ∷ []) y → x ≡ y
 only x y (zero, l, e) = e

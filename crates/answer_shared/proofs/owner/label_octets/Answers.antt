@@ -2,8 +2,8 @@ use Rattle.std.proofs.Common.{◌∙◌, sym, ap}
 use Rattle.std.specs.Str.{str_to_ascii_lowercase}
 use Rattle.std.proofs.lemmas.Bool.{false≢true}
 use Rattle.definitions.specs.Base32hex.{base32hex}
-use Rattle.answer_hash_owners.proofs.HashOwners.{label_no_text, label_refused, text_refused}
-use Rattle.answer_hash_owners.proofs.owner.label_octets.Goals as goal
+use Rattle.answer_shared.proofs.HashOwners.{label_no_text, label_refused, text_refused}
+use Rattle.answer_shared.proofs.owner.label_octets.Goals as goal
 
 pub returns-in_default : goal.returns-in_default
 returns-in_default c = label_no_text c.args.label.now c.in_default.ensures.cases.0

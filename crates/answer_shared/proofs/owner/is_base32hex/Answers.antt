@@ -1,8 +1,8 @@
 use Rattle.std.proofs.Common.{◌*◌, ◌/◌, length, subst, sym, ap, ◌∙◌}
 use Rattle.std.proofs.lemmas.List.{take_rest}
-use Rattle.answer_hash_owners.specs.HashOwner.{is_base32hex}
-use Rattle.answer_hash_owners.proofs.Digits.{AreEither, no_digits, rest_decides, rest_digits}
-use Rattle.answer_hash_owners.proofs.owner.is_base32hex.Goals as goal
+use Rattle.answer_shared.specs.HashOwner.{is_base32hex}
+use Rattle.answer_shared.proofs.Digits.{AreEither, no_digits, rest_decides, rest_digits}
+use Rattle.answer_shared.proofs.owner.is_base32hex.Goals as goal
 
 pub returns-then-not-are_digits : goal.returns-then-not-are_digits
 returns-then-not-are_digits c = sym (no_digits c.args.label.now (sym c.are_digits.ensures ∙ c.if-not-are_digits.true))

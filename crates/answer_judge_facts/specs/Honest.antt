@@ -19,7 +19,7 @@ use Rattle.answer_judge_keys.specs.Trusted.{is_trusted, is_usable}
 use Rattle.answer_judge_keys.specs.Judging.{Answer, Says, Refuses, Handing, keys_in}
 use Rattle.answer_judge_facts.specs.Sought.{Sought, answer_sought, keys_sought}
 use Rattle.answer_judge_facts.specs.Times.{Times, times_of}
-use Rattle.answer_honest.specs.Versions.{Version, SignedRrset, IsRrsetOf, zone_in}
+use Rattle.answer_judge_facts.specs.Versions.{Version, SignedRrset, IsRrsetOf, zone_in}
 
 -- ---- what was signed
 
