@@ -3,3 +3,5 @@ pub mod UsedAlike
 pub mod LinksAlike
 pub mod FactsAlike
 pub mod JudgedAlike
+pub use Rattle.answer_judge.proofs.GivenAnswers
+pub use Rattle.answer_judge.proofs.GivenLists

@@ -1,1 +1,2 @@
 pub mod SeenAlike
+pub use Rattle.answer_judge.specs.Meeting

@@ -13,7 +13,7 @@ use Rattle.denial_laws.proofs.NameFacts.{names_same, same_names, strictly_unlike
 use Rattle.messages.specs.Message.{Asked}
 use Rattle.answer_judge_facts.specs.Honest.{IsSaidByOne, SaysOneOf}
 use Rattle.answer_judge_facts.specs.Versions.{Version, zone_in}
-use Rattle.answer_judge.proofs.GivenLists.{has_contained}
+use Rattle.answer_judge_table.proofs.GivenLists.{has_contained}
 use Rattle.answer_judge_keys.specs.Judging.{Answer, Says, Refuses, Handing, answer_of}
 use Rattle.answer_judge_keys.specs.declared.verdict.Judgement.{Judgement}
 use Rattle.answer_judge_keys.specs.declared.verdict.Refused.{Refused}

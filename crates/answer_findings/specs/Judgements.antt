@@ -8,7 +8,7 @@ use Rattle.messages.specs.Questions.{asked_of}
 use Rattle.answer_judge_keys.specs.Judging.{Answer, Says, Refuses, Handing, answer_of}
 use Rattle.answer_judge_keys.specs.declared.verdict.Refusal.{Refusal}
 use Rattle.answer_judge_keys.specs.declared.verdict.Refusal.TheVariants as r
-use Rattle.answer_judge.specs.Decided.{is_out_of_memory}
+use Rattle.answer_judge_table.specs.Decided.{is_out_of_memory}
 use Rattle.answer_judge_table.specs.Asking.{AreAsked}
 use Rattle.answer_judge_table.specs.Outcomes.{IsJudgedBy}
 use Rattle.answer_judge_table.specs.Table.{Checked, Tried}

@@ -13,7 +13,7 @@ ghost use Rattle.answer_findings.specs.Judgements.{is_delegated, is_no_type, is_
 ghost use Rattle.answer_findings.specs.Judgements.{ns_question, says_delegated, seeks_delegation};
 
 use crate::hints::{Hint, answer_records, has_cname, owner_among};
-use answer_judge::{Case, Judgement, Refusal, Refused, Verdict};
+use answer_judge_table::{Case, Judgement, Refusal, Refused, Verdict};
 use messages::ViewRecord;
 use messages::names::{Name, copy_name, is_above, is_at_or_above};
 use messages::question::Question;

@@ -1,6 +1,5 @@
 //! What is found.
-use answer_judge::{DataList, Lasting, Refusal, Verdict};
-use answer_judge_table::Ask;
+use answer_judge_table::{Ask, DataList, Lasting, Refusal, Verdict};
 use messages::names::Name;
 
 /// Where a DNAME leads a name below its owner (RFC 6672, 2.2).

@@ -9,8 +9,7 @@ use crate::leads::lead_found;
 use crate::made::Judgements;
 use crate::sought::{judged_alias, judged_ds, judged_first, judged_ns};
 use crate::weighed::weighed;
-use answer_judge::Case;
-use answer_judge_table::{Ask, CheckedSignature, Outcome, judge_by_table};
+use answer_judge_table::{Ask, Case, CheckedSignature, Outcome, judge_by_table};
 use std::alloc::{AllocError, Global};
 
 /// Says what an answer tells of a question, by a table of signatures that were checked, as

@@ -6,7 +6,7 @@ ghost use Rattle.definitions.specs.Limits.{pointer_limit};
 ghost use Rattle.messages.specs.Record.{spelled};
 ghost use Rattle.answer_findings.specs.Hints.{answer_records, hints_at};
 
-use answer_judge::Case;
+use answer_judge_table::Case;
 use messages::names::{Name, ToName, copy_name, is_above, is_at_or_above};
 use messages::{ViewRecord, read_message_into};
 use names_rdata::rtype::Rtype;

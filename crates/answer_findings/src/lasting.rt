@@ -6,7 +6,7 @@ ghost use Rattle.answer_findings.specs.Seen.{seen};
 
 use crate::finding::Finding;
 use crate::made::{Judgements, Made};
-use answer_judge::{Judgement, Lasting, Refused};
+use answer_judge_table::{Judgement, Lasting, Refused};
 
 /// How long the judgements of a search last, where they are made and say it.
 #[derive(Clone, Copy, Debug)]

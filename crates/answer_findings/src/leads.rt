@@ -9,7 +9,7 @@ ghost use Rattle.answer_findings.specs.Seen.{seen, star_lead};
 
 use crate::finding::{Finding, Lead};
 use crate::made::Made;
-use answer_judge::{Case, DataList, Verdict};
+use answer_judge_table::{Case, DataList, Verdict};
 use messages::names::{Name, copy_name, is_above, name_from_octets};
 use names_rdata::rtype::Rtype;
 use names_traits::chain::Chain;

@@ -16,3 +16,7 @@ mod weighed;
 
 pub use crate::finding::{Finding, Found, Lead};
 pub use crate::finds::find;
+pub use answer_judge_table::{
+    Ask, Case, CheckedSignature, DataList, Lasting, Outcome, Refusal, Verdict, digest, entry_of,
+    judge_by_table,
+};

@@ -3,12 +3,13 @@ ghost use Rattle.std.specs.Prelude.{◌≡◌, IfOk, MatchResult};
 ghost use Rattle.std.specs.Option.{option_map};
 ghost use Rattle.messages.specs.Questions.{asked_of};
 ghost use Rattle.answer_judge_keys.specs.Judging.{answer_of};
-ghost use Rattle.answer_judge.specs.Decided.{is_out_of_memory};
+ghost use Rattle.answer_judge_table.specs.Decided.{is_out_of_memory};
 ghost use Rattle.answer_judge_table.specs.Outcomes.{IsOutcome};
 ghost use Rattle.answer_findings.specs.Judgements.{AreAskedAside, IsMadeOf, aside};
 
-use answer_judge::{Case, Judgement, Refusal, Refused};
-use answer_judge_table::{Ask, CheckedSignature, Outcome, judge_by_table};
+use answer_judge_table::{
+    Ask, Case, CheckedSignature, Judgement, Outcome, Refusal, Refused, judge_by_table,
+};
 use messages::question::Question;
 use std::alloc::{AllocError, Global};
 

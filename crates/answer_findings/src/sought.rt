@@ -8,8 +8,7 @@ ghost use Rattle.answer_findings.specs.Judgements.{first_question, ns_question};
 
 use crate::asked::{alias_question, ds_question, first_question, ns_question};
 use crate::made::{Made, judged_aside};
-use answer_judge::{Case, Judgement, Refused};
-use answer_judge_table::{Ask, CheckedSignature};
+use answer_judge_table::{Ask, Case, CheckedSignature, Judgement, Refused};
 use std::alloc::{AllocError, Global};
 
 /// The judgement that may prove more than the case itself, if one is suggested; or the signatures

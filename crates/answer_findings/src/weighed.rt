@@ -14,7 +14,7 @@ use crate::asked::{is_delegated, is_no_type, says_delegated};
 use crate::finding::{Finding, Found};
 use crate::lasting::Lastings;
 use crate::made::{Judgements, Made};
-use answer_judge::{Case, Judgement, Refusal, Refused, Verdict};
+use answer_judge_table::{Case, Judgement, Refusal, Refused, Verdict};
 use messages::names::{Name, ToName, copy_name};
 use names_rdata::rtype::Rtype;
 use std::alloc::{AllocError, Global};

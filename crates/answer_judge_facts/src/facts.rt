@@ -21,12 +21,12 @@ ghost use Rattle.answer_judge_facts.specs.Ranked.{AreRanked, AskedLast, IsRun, a
 use crate::groups::{Group, is_chain_type, place_of, read_group, verify_groups};
 use crate::lasting::lasting_of;
 use crate::times::are_unlike;
-use answer_shared::owner::{hash_spelled, spells_hash};
 use answer_judge_keys::trust::Trust;
 use answer_judge_keys::verdict::{DataList, Lasting};
 use answer_judge_keys::verifier::Verifier;
 use answer_judge_rules::decide::{Facts, HashLink, Link, Rrset};
 use answer_scheme::checks::Checks;
+use answer_shared::owner::{hash_spelled, spells_hash};
 use messages::names::{Name, ToName, cow_name, is_at_or_above};
 use messages::rdata::read_hashed_link;
 use messages::{Owner, ViewRecord};

@@ -20,8 +20,8 @@ use Rattle.answer_judge_facts.specs.Verified.{Trusting}
 use Rattle.answer_judge_keys.specs.Judging.{Handing, first_refusal}
 use Rattle.answer_judge_keys.specs.Trusted.{is_trusted, is_usable}
 use Rattle.answer_judge_keys.specs.declared.verdict.Refusal.{Refusal}
-use Rattle.answer_judge_table.specs.Asking.{AreAsked, IsTriedBy}
-use Rattle.answer_judge_table.specs.Table.{Checked, Tried, answers_with, may_pass_in}
+use Rattle.answer_findings.specs.Asking.{AreAsked, IsTriedBy}
+use Rattle.answer_findings.specs.Table.{Checked, Tried, answers_with, may_pass_in}
 use Rattle.answer_findings.specs.Judgements.{aside}
 use Rattle.answer_judge_octets.specs.Laws.{AsksStayFew, StaysFew}
 use Rattle.answer_judge_octets.specs.Replying.{are_too_many, is_carried, most_of, stands_in}

@@ -4,9 +4,9 @@ use Rattle.std.specs.List.{AllByRecursion, flat_map}
 use Rattle.std.proofs.lemmas.Grind.{flat_map-append}
 use Rattle.std.proofs.lemmas.List.{append-nil, map-append}
 use Rattle.messages.proofs.Lists.{take_next}
-use Rattle.answer_judge_table.specs.Asking.{unchecked}
-use Rattle.answer_judge_table.specs.Table.{Tried}
-use Rattle.answer_judge_table.proofs.AsksGrow.{all_more}
+use Rattle.answer_findings.specs.Asking.{unchecked}
+use Rattle.answer_findings.specs.Table.{Tried}
+use Rattle.answer_findings.proofs.AsksGrow.{all_more}
 use Rattle.answer_judge_octets.specs.Replying.{entries_of}
 use Rattle.answer_judge_octets.specs.Written.{FitsChecked, checked_octets}
 

@@ -10,7 +10,7 @@ use Rattle.definitions.specs.Dnskey.{Dnskey, Ds, dnskey_data, dnskey_of_data}
 use Rattle.denial_keys.specs.Keys.{ds_data}
 use Rattle.answer_shared.proofs.KeyData.{key_read_back}
 use Rattle.answer_judge_octets.specs.EntryLaws.{once_long, once_short, parted, short_ds, short_key}
-use Rattle.answer_judge_table.specs.Table.{Checked, tried}
+use Rattle.answer_findings.specs.Table.{Checked, tried}
 use Rattle.answer_judge_octets.specs.Written.{FitsChecked, FitsDs, IsLong, IsShort, Splits, checked_octets, ds_octets, passes_octets, with_long_length}
 
 -- ---- DS records

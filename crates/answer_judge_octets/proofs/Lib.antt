@@ -9,3 +9,4 @@ pub mod Carried
 pub mod NumbersOnce
 pub mod PlacesPut
 pub mod PlacesInFront
+pub use Rattle.answer_findings.proofs.AsksGrow

@@ -9,7 +9,7 @@ use Rattle.answer_findings.specs.Truth.{FindsTruly}
 use Rattle.answer_findings.specs.declared.finding.Finding.{Finding}
 use Rattle.answer_findings.specs.declared.finding.Found.{Found}
 use Rattle.answer_findings.specs.declared.finding.Found.TheVariants as f
-use Rattle.answer_judge_table.specs.Table.{Checked}
+use Rattle.answer_findings.specs.Table.{Checked}
 use Rattle.answer_judge_octets.specs.declared.octets.OctetCase.{OctetCase}
 use Rattle.answer_judge_octets.specs.declared.reply.Reply.{Reply}
 use Rattle.answer_judge_octets.specs.Places.{octets_in_front}

@@ -18,7 +18,7 @@ use Rattle.answer_judge_octets.specs.declared.octets.OctetCase.{OctetCase}
 use Rattle.answer_judge_octets.specs.EntryLaws.{once_checked, once_ds, some_checked, some_ds}
 use Rattle.answer_judge_octets.specs.Laws.{ListsGrow, OctetsSpellOneCase, answered_entry}
 use Rattle.answer_judge_octets.specs.Replying.{IsJudged, Spells, flag_in, judged_ds, stand_as_received}
-use Rattle.answer_judge_table.specs.Table.{Checked, Tried, checked}
+use Rattle.answer_findings.specs.Table.{Checked, Tried, checked}
 use Rattle.answer_judge_octets.specs.Written.{FitsChecked, FitsDs, checked_octets, ds_octets, passes_octets, with_long_length}
 use Rattle.answer_judge_octets.proofs.ListsRead.{spelled_once}
 

@@ -15,7 +15,7 @@ use Rattle.answer_judge_keys.specs.Judging.{Handing}
 use Rattle.answer_judge_octets.specs.declared.octets.OctetCase.{OctetCase}
 use Rattle.answer_judge_octets.specs.Replying.{IsJudged, Spells, are_too_many, is_carried, most_of}
 use Rattle.answer_findings.specs.Found.{AreAskedFor}
-use Rattle.answer_judge_table.specs.Table.{Checked, Tried, checked}
+use Rattle.answer_findings.specs.Table.{Checked, Tried, checked}
 use Rattle.answer_judge_octets.specs.Written.{FitsChecked, IsList, checked_octets, passes_octets}
 
 -- a case in octets spells one thing to be judged, and one table

@@ -10,7 +10,7 @@ use Rattle.definitions.specs.Zone.{Unsigned}
 use Rattle.answer_findings.specs.Judgements.{aside, asking}
 use Rattle.answer_findings.specs.Seen.{Seen, SeesVerdict, SeesDelegated, SeesNoDs, SeesAlias, SeesStarAlias, SeesDname, SeesReferral}
 use Rattle.answer_judge_keys.specs.Judging.{Handing}
-use Rattle.answer_judge_table.specs.Table.{Checked, answers_with, passes_in}
+use Rattle.answer_findings.specs.Table.{Checked, answers_with, passes_in}
 use Rattle.answer_verified_records.specs.Records.{verified_records}
 
 -- the same messages, judged for a type at a name

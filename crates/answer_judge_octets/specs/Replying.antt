@@ -25,8 +25,8 @@ use Rattle.answer_judge_octets.specs.declared.reply.ReplyCode.TheVariants as c
 use Rattle.answer_judge_octets.specs.declared.reply.Reply.{Reply}
 use Rattle.answer_judge_octets.specs.declared.octets.OctetCase.{OctetCase}
 use Rattle.answer_judge_octets.specs.declared.octets.Report.{Report}
-use Rattle.answer_judge_table.specs.Asking.{unchecked}
-use Rattle.answer_judge_table.specs.Table.{Checked, Tried, answers_with, passes_in}
+use Rattle.answer_findings.specs.Asking.{unchecked}
+use Rattle.answer_findings.specs.Table.{Checked, Tried, answers_with, passes_in}
 use Rattle.answer_judge_octets.specs.Places.{octets_in_front}
 use Rattle.answer_judge_octets.specs.Written.{FitsChecked, FitsDs, IsList, checked_octets, ds_octets}
 

@@ -5,7 +5,7 @@ use Rattle.std.specs.List.{AllByRecursion, flat_map}
 use Rattle.names_rdata.specs.Composing.{with_length}
 use Rattle.definitions.specs.Dnskey.{Ds, dnskey_data}
 use Rattle.denial_keys.specs.Keys.{ds_data}
-use Rattle.answer_judge_table.specs.Table.{Checked}
+use Rattle.answer_findings.specs.Table.{Checked}
 
 -- octets behind their number in four octets
 abbrev pub with_long_length : List ℕ → List ℕ

@@ -4,8 +4,7 @@ ghost use Rattle.answer_judge_octets.specs.Replying.{error_of};
 
 use crate::table_alone::TableAlone;
 use answer_extended_errors::extended_error;
-use answer_judge::{Case, Refusal};
-use answer_judge_table::CheckedSignature;
+use answer_findings::{Case, CheckedSignature, Refusal};
 use std::alloc::{AllocError, Global};
 use std::marker::Brand;
 use std::sync::ledger::{Blank, Ledger};

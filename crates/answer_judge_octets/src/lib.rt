@@ -16,4 +16,6 @@ mod table_alone;
 
 pub use crate::octets::{OctetCase, Report, judge_octets};
 pub use crate::reply::ReplyCode;
-pub use answer_judge_table::{Ask, CheckedSignature, Outcome, judge_by_table};
+pub use answer_findings::{
+    Ask, Case, CheckedSignature, Finding, Found, Lead, Outcome, Verdict, find, judge_by_table,
+};

@@ -2,8 +2,7 @@
 ghost use Rattle.std.specs.Prelude.{◌≡◌, filter, length};
 ghost use Rattle.answer_judge_octets.specs.Replying.{are_too_many, is_carried, most_of, stands_in};
 
-use answer_judge::Case;
-use answer_judge_table::CheckedSignature;
+use answer_findings::{Case, CheckedSignature};
 
 /// How many signatures may be checked where a case says no number.
 const MOST_SIGNATURES: u32 = 16;

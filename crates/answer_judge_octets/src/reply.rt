@@ -6,7 +6,7 @@ ghost use Rattle.names_rdata.specs.Composing.{with_length};
 ghost use Rattle.answer_judge_rules.specs.Rules.{verdict_of};
 ghost use Rattle.answer_findings.specs.Seen.{lead_seen, seen};
 ghost use Rattle.answer_judge_octets.specs.declared.reply.ReplyCode.{ReplyCode};
-ghost use Rattle.answer_judge_table.specs.Asking.{unchecked};
+ghost use Rattle.answer_findings.specs.Asking.{unchecked};
 ghost use Rattle.answer_judge_octets.specs.Written.{FitsChecked, IsLong, IsShort, checked_octets};
 ghost use Rattle.answer_judge_octets.specs.Written.{with_long_length};
 ghost use Rattle.answer_judge_octets.specs.Replying.{AsksOrStops, behind, code_of_refusal, code_of_verdict};
@@ -17,9 +17,7 @@ ghost use Rattle.answer_judge_octets.specs.Replying.{octets_found, octets_of_dna
 ghost use Rattle.answer_judge_octets.specs.Replying.{octets_of_verdict, only, refusal_reply};
 ghost use Rattle.answer_judge_octets.specs.Replying.{reply_seen, ttl_of, until_of};
 
-use answer_findings::{Finding, Lead};
-use answer_judge::{DataList, Lasting, Refusal, Verdict};
-use answer_judge_table::Ask;
+use answer_findings::{Ask, DataList, Finding, Lasting, Lead, Refusal, Verdict};
 use answer_shared::dnskey::ZoneKey;
 use messages::names::{Name, ZoneName};
 use std::alloc::{AllocError, Global};

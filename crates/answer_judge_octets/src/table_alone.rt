@@ -1,7 +1,7 @@
 //! A table as the checks of a judge, where a signature that it doesn't have does not pass.
 ghost use Rattle.std.specs.Prelude.{◌≡◌, ◌<◌};
 
-use answer_judge_table::{CheckedSignature, digest, entry_of};
+use answer_findings::{CheckedSignature, digest, entry_of};
 use answer_scheme::steps::Steps;
 use answer_scheme::{Checks, SchemeError};
 use denial_data::Dnskey;
@@ -40,7 +40,7 @@ impl<'t, 's, L: Ledger, M: Ledger> TableAlone<'t, 's, L, M> {
 }
 
 impl<'t, 's, L: Ledger, M: Ledger> Checks for TableAlone<'t, 's, L, M> {
-    ghost use Rattle.answer_judge_table.specs.Table.{answers_with, passes_in};
+    ghost use Rattle.answer_findings.specs.Table.{answers_with, passes_in};
 
     ghost answers = { λ c. answers_with (passes_in c.table.now) };
 

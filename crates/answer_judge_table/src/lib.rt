@@ -13,3 +13,4 @@ pub use crate::checked::{CheckedSignature, entry_of};
 pub use crate::digests::digest;
 pub use crate::judging::{judge_by_table, judge_counted};
 pub use crate::outcome::{Ask, Counted, Outcome};
+pub use answer_judge::{Case, DataList, Judgement, Lasting, Refusal, Refused, Verdict};

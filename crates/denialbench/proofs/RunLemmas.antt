@@ -6,9 +6,9 @@ use Rattle.denial_nsec3_sha1.specs.Iterated.{answered}
 use Rattle.messages.specs.HandedRr.{HandedRr}
 use Rattle.answer_zone_records.specs.Faults.{IsFault}
 use Rattle.answer_zone_records.specs.declared.fault.ZoneFault.{ZoneFault}
-use Rattle.answer_laws.specs.Simulations.{IsSimulation}
+use Rattle.answer.specs.Simulations.{IsSimulation}
 use Rattle.answer_events.specs.declared.event.Event.{Event}
-use Rattle.answer_outcomes.specs.declared.outcome.Outcome.{Outcome}
+use Rattle.answer.specs.Outcome.{Outcome}
 use Rattle.denialbench_session.specs.Grammar.{ZoneLine}
 use Rattle.denialbench_session.specs.Readings.{event_view}
 use Rattle.denialbench_print.specs.Names.{zone_fault_name}

@@ -9,10 +9,10 @@ use Rattle.messages.specs.HandedRr.{HandedRr}
 use Rattle.denial_nsec3_sha1.specs.Iterated.{answered}
 use Rattle.answer_shared.specs.Accepting.{sorted_records}
 use Rattle.answer_zone_records.specs.Faults.{IsFault}
-use Rattle.answer_laws.specs.Simulations.{IsSimulation}
-use Rattle.answer_publisher.specs.World.{World, world}
+use Rattle.answer.specs.Simulations.{IsSimulation}
+use Rattle.answer.specs.World.{World, world}
 use Rattle.answer_events.specs.declared.event.Event.{Event}
-use Rattle.answer_outcomes.specs.declared.outcome.Outcome.{Outcome}
+use Rattle.answer.specs.Outcome.{Outcome}
 use Rattle.answer_zone_records.specs.declared.fault.ZoneFault.{ZoneFault}
 use Rattle.denialbench_session.specs.Grammar.{ZoneLine, EventLine}
 use Rattle.denialbench_session.specs.Readings.{event_view}

@@ -6,7 +6,7 @@ use Rattle.definitions.specs.Dnskey.{Ds}
 use Rattle.definitions.specs.Name.{Name, same}
 use Rattle.messages.specs.Message.{Asked}
 use Rattle.answer_judge_keys.specs.Judging.{Handing, handed_for}
-use Rattle.answer_judge_table.specs.Table.{Checked}
+use Rattle.resolution_step.specs.Table.{Checked}
 
 -- a message: the zone that it is of, and the question that it answers
 pub record Message : Type 0 where

@@ -5,10 +5,10 @@ use Rattle.definitions.specs.Limits.{pointer_limit}
 use Rattle.definitions.specs.Name.{Name}
 use Rattle.definitions.specs.Zone.{cut, data_at}
 use Rattle.messages.specs.Message.{Asked}
-use Rattle.answer_judge_facts.specs.Versions.{Version}
+use Rattle.resolution_step.specs.Versions.{Version}
 use Rattle.answer_judge_keys.specs.Judging.{Handing}
-use Rattle.answer_judge_table.specs.Table.{AreTrue, Tried, answers_with, passes_in}
-use Rattle.answer_findings.specs.Truth.{AreHonestBeside}
+use Rattle.resolution_step.specs.Table.{AreTrue, Tried, answers_with, passes_in}
+use Rattle.resolution_step.specs.Truth.{AreHonestBeside}
 use Rattle.resolution_tree.specs.Tree.{Tree, TreeZone, Said, Resolves, is_bound, zone_at}
 use Rattle.resolution_tree.specs.Orderly.{IsOrderlyZone}
 use Rattle.resolution_step.specs.KnownDs.{known_ds, knows}

@@ -4,3 +4,7 @@
 #![tactic(auto)]
 
 pub mod laws;
+
+pub use resolution_step::{
+    Ask, Case, CheckedSignature, Lead, Refusal, Step, Verdict, cut_step, step,
+};

@@ -12,10 +12,10 @@ use Rattle.denial_laws.specs.Leading.{Lead, LeadsTo}
 use Rattle.denial_laws.specs.Leading as leading
 use Rattle.denial_laws.proofs.NameFacts.{above-low, above_trans, strictly_at}
 use Rattle.denial_laws.proofs.ZoneCuts.{IsCut, cut_is}
-use Rattle.answer_judge_facts.specs.Honest.{IsSaidByOne}
-use Rattle.answer_judge_facts.specs.Versions.{Version, zone_in}
+use Rattle.answer_findings.specs.Honest.{IsSaidByOne}
+use Rattle.answer_findings.specs.Versions.{Version, zone_in}
 use Rattle.answer_judge_keys.specs.Judging.{Handing}
-use Rattle.answer_judge_table.specs.Table.{Checked}
+use Rattle.answer_findings.specs.Table.{Checked}
 use Rattle.answer_findings.specs.declared.finding.Found.{Found}
 use Rattle.answer_findings.specs.declared.finding.Found.TheVariants as f
 use Rattle.answer_findings.specs.Found.{IsFound}

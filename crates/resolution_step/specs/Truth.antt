@@ -6,10 +6,10 @@ use Rattle.definitions.specs.Name.{Name, low}
 use Rattle.definitions.specs.Zone.{cut, is_open, data_at}
 use Rattle.definitions.specs.ZoneChain.{optout_of}
 use Rattle.denial_laws.specs.Aliases.{is_aliased}
-use Rattle.answer_judge_facts.specs.Versions.{Version, zone_in}
+use Rattle.answer_findings.specs.Versions.{Version, zone_in}
 use Rattle.answer_judge_keys.specs.Judging.{Handing}
-use Rattle.answer_judge_table.specs.Table.{AreTrue, Checked, Tried, answers_with, passes_in}
-use Rattle.answer_findings.specs.Truth.{AreHonestBeside}
+use Rattle.answer_findings.specs.Table.{AreTrue, Checked, Tried, answers_with, passes_in}
+pub use Rattle.answer_findings.specs.Truth.{AreHonestBeside}
 use Rattle.resolution_tree.specs.Tree.{TreeZone, Secure, Unsigned, LeftOpen, Leads, SaysItself, is_bound, refers_to}
 use Rattle.resolution_tree.specs.Orderly.{IsOrderlyZone}
 use Rattle.resolution_step.specs.KnownDs.{known_ds, knows}

@@ -9,9 +9,7 @@ ghost use Rattle.resolution_step.specs.Truth.{TellsCutTruly};
 use crate::canonical::canonical_name;
 use crate::known::bound;
 use crate::telling::Step;
-use answer_findings::{Finding, Found, find};
-use answer_judge::{Case, Verdict};
-use answer_judge_table::CheckedSignature;
+use answer_findings::{Case, CheckedSignature, Finding, Found, Verdict, find};
 use messages::names::Name;
 use std::alloc::{AllocError, Global};
 

@@ -5,7 +5,7 @@ ghost use Rattle.resolution_step.specs.Told.{bound_told, told};
 
 use crate::canonical::canonical_name;
 use crate::telling::Step;
-use answer_judge::DataList;
+use answer_findings::DataList;
 use denial_data::Ds;
 use messages::names::Name;
 use numbers::algorithm::{DigestAlgorithm, SecurityAlgorithm};

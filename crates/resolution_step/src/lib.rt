@@ -13,3 +13,4 @@ pub mod telling;
 pub use crate::cuts::cut_step;
 pub use crate::steps::step;
 pub use crate::telling::Step;
+pub use answer_findings::{Ask, Case, CheckedSignature, Lead, Refusal, Verdict};

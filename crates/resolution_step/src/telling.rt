@@ -1,7 +1,5 @@
 //! What a message tells.
-use answer_findings::Lead;
-use answer_judge::{Refusal, Verdict};
-use answer_judge_table::Ask;
+use answer_findings::{Ask, Lead, Refusal, Verdict};
 use denial_data::Ds;
 use messages::names::Name;
 

@@ -12,8 +12,8 @@ use Rattle.denial_laws.proofs.NameFacts.{above_trans, strictly_at}
 use Rattle.messages.specs.Message.{Asked}
 use Rattle.resolution_tree.specs.Tree.{Said, Secure, Unsigned, LeftOpen, Leads, leads_on}
 use Rattle.answer_judge_keys.specs.Judging.{Handing}
-use Rattle.resolution_step.specs.Told.{Told, IsCutTold, IsTold, at_cut, told}
-use Rattle.resolution_step.specs.declared.telling.Step.{Step}
+use Rattle.resolution_evidence.specs.Told.{Told, IsCutTold, IsTold, at_cut, told}
+use Rattle.resolution_evidence.specs.Step.{Step}
 use Rattle.resolution_evidence.specs.Given.{Given, IsOf}
 use Rattle.resolution_evidence.specs.Walking.{Onward, GoesDown, EndsIn, Stops, IsOnward, ByQuestion, ByName, IsOwnStep, IsNameStep, Tells, Ends, Goes, Follows, AtOnce, Led, ds_at, is_asked_of, onward, renamed}
 use Rattle.resolution_walk.specs.Ended.{IsWay, IsTurn, IsEnding, IsFollowed, IsWalked, ends_in, leads_to, onward_of, said_of}

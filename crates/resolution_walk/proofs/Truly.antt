@@ -4,7 +4,7 @@ use Rattle.std.specs.Prelude.{IfSome}
 use Rattle.std.specs.declared.alloc.AllocError.{AllocError}
 use Rattle.messages.specs.Message.{Asked}
 use Rattle.resolution_tree.specs.Tree.{Said, Resolves}
-use Rattle.resolution_step.specs.KnownDs.{knows}
+use Rattle.resolution_evidence.specs.KnownDs.{knows}
 use Rattle.resolution_evidence.specs.Given.{Given}
 use Rattle.resolution_evidence.specs.Truth.{IsOfTree, SignedZone, tree_of, zone_of}
 use Rattle.resolution_evidence.proofs.Truly.{follows_so}

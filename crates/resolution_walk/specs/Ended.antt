@@ -5,7 +5,7 @@ use Rattle.definitions.specs.Name.{Name}
 use Rattle.denial_laws.specs.Leading.{To}
 use Rattle.messages.specs.Message.{Asked}
 use Rattle.answer_judge_rules.specs.Rules.{verdict_of}
-use Rattle.answer_findings.specs.Seen.{lead_seen}
+use Rattle.resolution_evidence.specs.Seen.{lead_seen}
 use Rattle.resolution_tree.specs.Tree.{Said, Secure, Unsigned, LeftOpen, Leads}
 use Rattle.resolution_evidence.specs.Given.{Given}
 use Rattle.resolution_evidence.specs.Walking.{Onward, GoesDown, EndsIn, Stops, IsOnward, Tells, Follows}

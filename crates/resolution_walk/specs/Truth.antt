@@ -2,7 +2,7 @@
 use Rattle.std.specs.Prelude.{List, IfSome}
 use Rattle.messages.specs.Message.{Asked}
 use Rattle.resolution_tree.specs.Tree.{Resolves}
-use Rattle.resolution_step.specs.KnownDs.{knows}
+use Rattle.resolution_evidence.specs.KnownDs.{knows}
 use Rattle.resolution_evidence.specs.Given.{Given}
 use Rattle.resolution_evidence.specs.Truth.{IsOfTree, SignedZone, tree_of, zone_of}
 use Rattle.resolution_walk.specs.Ended.{said_of}

@@ -1,10 +1,8 @@
 //! Where a walk ends.
-use answer_findings::Lead;
-use answer_judge::{Refusal, Verdict};
-use answer_judge_table::Ask;
 use denial_data::Ds;
 use messages::names::Name;
 use names_rdata::rtype::Rtype;
+use resolution_evidence::{Ask, Lead, Refusal, Verdict};
 
 /// A message that is wanted: of which zone, and the answer to which question.
 #[derive(Debug, Drop)]

@@ -5,12 +5,12 @@ ghost use Rattle.std.specs.Option.{option_map};
 ghost use Rattle.resolution_evidence.specs.Given.{is_answer, message_of};
 ghost use Rattle.resolution_walk.specs.Wanted.{lacks};
 
-use answer_judge_table::CheckedSignature;
 use denial_data::Ds;
 use denial_fields::unix_time::UnixTime;
 use messages::names::{Name, ToName};
 use messages::question::Question;
 use names_rdata::rtype::Rtype;
+use resolution_evidence::CheckedSignature;
 use std::marker::Model;
 
 /// A message of a zone, and the question that it answers. The caller says which zone's servers gave

@@ -14,3 +14,4 @@ pub mod walk;
 pub use crate::ending::{Ending, Walk, Wanted};
 pub use crate::evidence::{Evidence, Message};
 pub use crate::walk::{Limits, resolve};
+pub use resolution_evidence::{Ask, CheckedSignature, Refusal, Verdict};

@@ -2,7 +2,7 @@
 ghost use Rattle.std.specs.Prelude.{◌≡◌, ◌&&◌, ◌==◌, IfOk, IfSome, false, true};
 ghost use Rattle.definitions.specs.Name.{at_or_above, same, strictly_above};
 ghost use Rattle.messages.specs.Questions.{asked_of};
-ghost use Rattle.resolution_step.specs.Told.{at_cut, told};
+ghost use Rattle.resolution_evidence.specs.Told.{at_cut, told};
 ghost use Rattle.resolution_evidence.specs.Given.{IsOf};
 ghost use Rattle.resolution_evidence.specs.Walking.{ds_at, onward};
 ghost use Rattle.resolution_walk.specs.Ended.{IsTurn, onward_of};
@@ -11,12 +11,11 @@ ghost use Rattle.resolution_walk.specs.Wanted.{IsBetween, IsParent, TurnWants, W
 use crate::ending::Turn;
 use crate::evidence::Evidence;
 use crate::place::{case_of, name_step, turned, wanting};
-use answer_judge::Case;
 use denial_data::Ds;
 use messages::names::{Name, ToName, copy_name, is_above};
 use messages::question::Question;
 use names_rdata::rtype::Rtype;
-use resolution_step::Step;
+use resolution_evidence::{Case, Step};
 use std::alloc::{AllocError, Global};
 
 /// Where answers for DS lead, at the names below the zone down to a name, the topmost first; none

@@ -3,7 +3,7 @@ ghost use Rattle.std.specs.Prelude.{◌≡◌, IfNone, IfOk, IfSome, Some, true}
 ghost use Rattle.messages.specs.Questions.{asked_of};
 ghost use Rattle.answer_judge_rules.specs.Rules.{verdict_of};
 ghost use Rattle.resolution_tree.specs.Tree.{LeftOpen, Secure};
-ghost use Rattle.resolution_step.specs.Told.{IsCutTold, IsTold, told};
+ghost use Rattle.resolution_evidence.specs.Told.{IsCutTold, IsTold, told};
 ghost use Rattle.resolution_evidence.specs.Given.{IsOf, message_of};
 ghost use Rattle.resolution_evidence.specs.Walking.{EndsIn, Stops, onward};
 ghost use Rattle.resolution_walk.specs.Ended.{onward_of};
@@ -11,12 +11,11 @@ ghost use Rattle.resolution_walk.specs.Wanted.{WantsLacking, WantsNothing, is_la
 
 use crate::ending::{Ending, Turn, Wanted};
 use crate::evidence::Evidence;
-use answer_judge::{Case, Refusal, Verdict};
 use denial_data::Ds;
 use messages::names::{Name, copy_name};
 use messages::question::Question;
 use names_rdata::rtype::Rtype;
-use resolution_step::{Step, cut_step, step};
+use resolution_evidence::{Case, Refusal, Step, Verdict, cut_step, step};
 use std::alloc::{AllocError, Global};
 
 /// What the zone's answer to a question tells of it.

@@ -1,7 +1,7 @@
 //! Where the messages of a zone lead.
 ghost use Rattle.std.specs.Prelude.{◌≡◌, IfOk, IfSome};
 ghost use Rattle.messages.specs.Questions.{asked_of};
-ghost use Rattle.resolution_step.specs.Told.{told};
+ghost use Rattle.resolution_evidence.specs.Told.{told};
 ghost use Rattle.resolution_evidence.specs.Given.{IsOf};
 ghost use Rattle.resolution_walk.specs.Ended.{IsTurn};
 ghost use Rattle.resolution_walk.specs.Wanted.{TurnWants};
@@ -10,11 +10,10 @@ use crate::ending::Turn;
 use crate::evidence::Evidence;
 use crate::names_between::at_names;
 use crate::place::{case_of, own_step, turned, untold, wanting};
-use answer_judge::{Case, Refusal};
 use denial_data::Ds;
 use messages::names::Name;
 use messages::question::Question;
-use resolution_step::Step;
+use resolution_evidence::{Case, Refusal, Step};
 use std::alloc::{AllocError, Global};
 
 /// Where the messages of a zone lead with a question: by the answer to it, and where that tells

@@ -11,11 +11,11 @@ ghost use Rattle.resolution_walk.specs.Wanted.{EndsHere, EndsWanting, IsLed, Tur
 use crate::ending::{Ending, Turn, Walk};
 use crate::evidence::Evidence;
 use crate::turns::in_zone;
-use answer_findings::Lead;
 use denial_data::Ds;
 use messages::names::{Name, ToName, copy_name, is_at_or_above};
 use messages::question::Question;
 use names_rdata::rtype::Rtype;
+use resolution_evidence::Lead;
 use std::alloc::{AllocError, Global};
 
 /// How far a walk goes.

@@ -6,3 +6,8 @@ pub mod Moments
 pub mod Requests
 pub mod Responding
 pub mod Unheld
+pub use Rattle.answer_publisher.specs.World
+pub use Rattle.answer_publisher.specs.Inputs
+pub use Rattle.server_signatures.specs.Table
+pub use Rattle.answer_publisher.specs.Composed
+pub use Rattle.server_signatures.specs.Outcomes

@@ -11,3 +11,4 @@ mod unheld;
 
 pub use crate::moment::{DEFAULT_BACKDATE, backdated};
 pub use crate::requests::{Response, ServerTerms, respond};
+pub use server_signatures::{MadeSignature, SigningInput};

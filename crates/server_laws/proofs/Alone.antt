@@ -17,10 +17,10 @@ use Rattle.messages.proofs.MessageWritten.{StandsAt, data_behind, end_of}
 use Rattle.answer_shared.specs.Alike.{IsLike}
 use Rattle.answer_shared.specs.GroupView.{GroupView, IsRrsigData, fields_of, view_of}
 use Rattle.answer_shared.specs.Served.{Group}
-use Rattle.answer_publisher.specs.Composed.{IsWritten, joined, rrsig_of}
-use Rattle.answer_publisher.proofs.WritesData.{reads_plain}
-use Rattle.answer_publisher.proofs.WritesGroups.{IsFormed}
-use Rattle.answer_publisher.proofs.WritesRecords.{ReadsAs, ReadsRecord, first_stands, rest_stands}
+use Rattle.server_answers.specs.Composed.{IsWritten, joined, rrsig_of}
+use Rattle.server_answers.proofs.WritesData.{reads_plain}
+use Rattle.server_answers.proofs.WritesGroups.{IsFormed}
+use Rattle.server_answers.proofs.WritesRecords.{ReadsAs, ReadsRecord, first_stands, rest_stands}
 
 -- data of a signature that read as one wherever they stand in a message that is not too long
 abbrev pub ReadsSignature : List ℕ → Fields × List ℕ → Type 0

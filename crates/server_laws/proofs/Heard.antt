@@ -26,20 +26,20 @@ use Rattle.answer_judge_keys.specs.Judging.{Answer, Handing, Refuses, Says, is_j
 use Rattle.answer_judge_keys.specs.declared.verdict.Refusal.{Refusal}
 use Rattle.answer_judge_keys.specs.declared.verdict.Refusal.TheVariants as r
 use Rattle.answer_judge_facts.specs.Judged.{AnswersAs, judged, judged_bytes}
-use Rattle.answer_judge.proofs.GivenAnswers.{answers_given}
+use Rattle.answer_alike.proofs.GivenAnswers.{answers_given}
 use Rattle.answer_alike.specs.SeenAlike.{SeenAlike}
 use Rattle.answer_alike.proofs.JudgedAlike.{answers_alike, keys_alike}
-use Rattle.answer_publisher.specs.Composed.{IsAnswer, IsWritten, joined}
-use Rattle.answer_publisher.specs.World.{AnswersKeysQuestion, AnswersQuestion, World, present_keys}
-use Rattle.answer_publisher.proofs.WritesAnswer.{all_behind, all_presented}
-use Rattle.answer_publisher.proofs.WritesData.{of_chain}
-use Rattle.answer_publisher.proofs.WritesGroups.{IsFormed, all_hold, all_records, count_of}
-use Rattle.answer_publisher.proofs.WritesZone.{keys_formed}
+use Rattle.server_answers.specs.Composed.{IsAnswer, IsWritten, joined}
+use Rattle.server_answers.specs.World.{AnswersKeysQuestion, AnswersQuestion, World, present_keys}
+use Rattle.server_answers.proofs.WritesAnswer.{all_behind, all_presented}
+use Rattle.server_answers.proofs.WritesData.{of_chain}
+use Rattle.server_answers.proofs.WritesGroups.{IsFormed, all_hold, all_records, count_of}
+use Rattle.server_answers.proofs.WritesZone.{keys_formed}
 use Rattle.server_queries.specs.Queries.{Queried}
 use Rattle.server_responses.specs.Responses.{AnswersQuery, is_dnssec_ok, response_of}
-use Rattle.server_signatures.specs.Outcomes.{signed_by}
-use Rattle.server_signatures.specs.Table.{sign_by, verify_by}
-use Rattle.server_signatures.proofs.Signing.{own_entries}
+use Rattle.server_answers.specs.Outcomes.{signed_by}
+use Rattle.server_answers.specs.Table.{sign_by, verify_by}
+use Rattle.server_answers.proofs.Signing.{own_entries}
 use Rattle.server_answers.specs.Responding.{IsMessage, Serving, is_for_keys}
 use Rattle.server_laws.specs.Heard.{ClientsAreTold, IsJudgedAs, IsWhole, IsZone, ResponsesJudgedAlike, is_truncated}
 use Rattle.server_laws.proofs.Alone.{NoSignature, StandsAlone, groups_alone}

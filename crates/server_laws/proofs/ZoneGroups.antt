@@ -18,10 +18,10 @@ use Rattle.answer_shared.proofs.ZoneCutNames.{cut_name}
 use Rattle.answer_shared.proofs.ZoneFaultless.{no_fault_from}
 use Rattle.answer_shared.proofs.ZoneNaming.{all_filter, chain_named, either, first_name, lower_name, owner_name}
 use Rattle.answer_shared.proofs.ZoneRising.{published_from}
-use Rattle.answer_judge.proofs.GivenLists.{contained_has}
-use Rattle.answer_publisher.proofs.WritesData.{of_chain}
-use Rattle.answer_publisher.proofs.WritesGroups.{IsFormed}
-use Rattle.answer_publisher.proofs.WritesZone.{Named, answer_formed}
+use Rattle.answer_alike.proofs.GivenLists.{contained_has}
+use Rattle.server_answers.proofs.WritesData.{of_chain}
+use Rattle.server_answers.proofs.WritesGroups.{IsFormed}
+use Rattle.server_answers.proofs.WritesZone.{Named, answer_formed}
 use Rattle.server_laws.proofs.Alone.{NoSignature}
 
 all_has : {A : Type 0} (P : A → Type 0) (xs : List A) → ((x : A) → Has xs x → P x) → AllByRecursion P xs

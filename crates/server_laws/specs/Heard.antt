@@ -14,8 +14,8 @@ use Rattle.answer_shared.specs.Accepted.{IsAccepted}
 use Rattle.answer_shared.specs.Accepting.{sorted_records, zone_of}
 use Rattle.answer_judge_keys.specs.Judging.{Answer, Handing, Says}
 use Rattle.answer_judge_facts.specs.Judged.{AnswersAs, judged}
-use Rattle.answer_judge.specs.Meeting.{WasGiven}
-use Rattle.answer_publisher.specs.World.{World}
+use Rattle.answer_alike.specs.Meeting.{WasGiven}
+use Rattle.server_answers.specs.World.{World}
 use Rattle.server_queries.specs.Headers.{has_flag}
 use Rattle.server_queries.specs.Queries.{Queried}
 use Rattle.server_responses.specs.Responses.{is_dnssec_ok}

@@ -4,8 +4,8 @@ use Rattle.std.specs.List.{AllByRecursion, flat_map}
 use Rattle.std.proofs.lemmas.Grind.{flat_map-append}
 use Rattle.std.proofs.lemmas.List.{append-nil, map-append}
 use Rattle.messages.proofs.Lists.{take_next}
-use Rattle.answer_judge_table.proofs.AsksGrow.{all_more}
-use Rattle.answer_publisher.specs.Inputs.{Input}
+use Rattle.answer_judge_octets.proofs.AsksGrow.{all_more}
+use Rattle.server_answers.specs.Inputs.{Input}
 use Rattle.server_zone_octets.specs.Entries.{FitsMade, asked, entries_of, made_octets}
 
 pub entries_more : (inputs : List Input) (i : ℕ) (t : Input) (a b : List ℕ) → i < length inputs → t ≡ get_or inputs i t → a ≡ entries_of (take i inputs) → b ≡ a ++ made_octets (asked t) → b ≡ entries_of (take (i + 1) inputs)

@@ -4,11 +4,11 @@ use Rattle.std.specs.Int.{w16, to_be_bytes}
 use Rattle.names_rdata.specs.Composing.{with_length}
 use Rattle.definitions.specs.Dnskey.{Dnskey, dnskey_data, dnskey_of_data}
 use Rattle.answer_shared.proofs.KeyData.{key_read_back}
-use Rattle.answer_publisher.specs.Inputs.{input}
+use Rattle.server_answers.specs.Inputs.{input}
 use Rattle.answer_judge_octets.specs.EntryLaws.{key_back, once_long, once_short}
 use Rattle.answer_judge_octets.specs.Written.{IsLong, IsShort, Splits, with_long_length}
 use Rattle.answer_judge_octets.proofs.EntriesSplit.{IsKey}
-use Rattle.server_signatures.specs.Table.{Made, made}
+use Rattle.server_answers.specs.Table.{Made, made}
 use Rattle.server_zone_octets.specs.Entries.{FitsMade, made_octets}
 
 pub short_key : (m : Made) → FitsMade m → IsShort (dnskey_data m.input.key)

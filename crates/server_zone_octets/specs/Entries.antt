@@ -4,9 +4,9 @@ use Rattle.std.specs.Int.{w16, from_be_bytes}
 use Rattle.std.specs.List.{flat_map}
 use Rattle.names_rdata.specs.Composing.{with_length}
 use Rattle.definitions.specs.Dnskey.{Dnskey, dnskey_data}
-use Rattle.answer_publisher.specs.Inputs.{Input}
+use Rattle.server_answers.specs.Inputs.{Input}
 use Rattle.answer_judge_octets.specs.Written.{IsLong, IsShort, with_long_length}
-use Rattle.server_signatures.specs.Table.{Made, made}
+use Rattle.server_answers.specs.Table.{Made, made}
 
 -- The key's data and the signature behind their lengths in two octets, between them what the
 -- signature is made over behind its length in four.

@@ -2,7 +2,7 @@
 use Rattle.std.specs.Prelude.{◌≡◌, ◌⊎◌, ℕ, ◌*◌, ◌==◌, true, false, List, map, Option, Some, None, if◌then◌else◌}
 use Rattle.std.specs.List.{AllByRecursion}
 use Rattle.answer_judge_octets.specs.Written.{IsList}
-use Rattle.answer_publisher.specs.World.{World}
+use Rattle.server_answers.specs.World.{World}
 use Rattle.answer_publisher_keys.specs.Bindings.{ZoneKeys}
 use Rattle.server_answers.specs.Moments.{backdated}
 use Rattle.server_answers.specs.Requests.{IsOrWasNoted, Responds}
@@ -11,7 +11,7 @@ use Rattle.server_answers.specs.declared.requests.Response.{Response}
 use Rattle.server_answers.specs.declared.requests.Response.TheVariants as response
 use Rattle.server_responses.specs.declared.transport.Transport.{Transport}
 use Rattle.server_responses.specs.declared.transport.Transport.TheVariants as transport
-use Rattle.server_signatures.specs.Table.{Made}
+use Rattle.server_answers.specs.Table.{Made}
 use Rattle.server_zone_octets.specs.Entries.{FitsMade, asked, entries_of, made_octets}
 use Rattle.server_zone_octets.specs.Telling.{IsHandedOut, IsUnknown, Told, is_known, only, telling}
 use Rattle.server_zone_octets.specs.declared.code.ZoneCode.{ZoneCode}

@@ -3,7 +3,7 @@ ghost use Rattle.std.specs.Prelude.{◌≡◌, ◌++◌, ◌⊎◌, List, map, I
 ghost use Rattle.std.specs.List.{AllByRecursion};
 ghost use Rattle.std.specs.Option.{option_map};
 ghost use Rattle.answer_judge_octets.specs.Written.{IsList, Splits};
-ghost use Rattle.server_signatures.specs.Table.{Made};
+ghost use Rattle.server_answers.specs.Table.{Made};
 ghost use Rattle.server_zone_octets.specs.Entries.{FitsMade, asked, entries_of, made_octets};
 ghost use Rattle.server_zone_octets.specs.Entries.{modulus_len, room_for};
 ghost use Rattle.server_zone_octets.specs.declared.code.ZoneCode.TheVariants as c;
@@ -11,7 +11,7 @@ ghost use Rattle.server_zone_octets.specs.declared.code.ZoneCode.TheVariants as 
 use crate::code::ZoneCode;
 use crate::parts::{put_long, put_short, split_long, split_short};
 use answer_shared::dnskey::{Dnskey, ZoneKey, key_of_data};
-use server_signatures::{MadeSignature, SigningInput};
+use server_answers::{MadeSignature, SigningInput};
 use std::alloc::{AllocError, Global};
 
 /// The signatures that octets spell, all of them.

@@ -1,6 +1,6 @@
 //! A request that is answered.
 ghost use Rattle.std.specs.Prelude.{◌≡◌};
-ghost use Rattle.answer_publisher.specs.World.{world_of};
+ghost use Rattle.server_answers.specs.World.{world_of};
 ghost use Rattle.server_zone_octets.specs.Requests.{AnswersRequest, IsToldResponse, TellsResponse};
 ghost use Rattle.server_zone_octets.specs.Requests.{transport_of};
 ghost use Rattle.server_zone_octets.specs.Telling.{told_seen};

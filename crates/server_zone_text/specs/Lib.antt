@@ -1,1 +1,2 @@
 pub mod Texts
+pub use Rattle.denialbench_print.specs.Names

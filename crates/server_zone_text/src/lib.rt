@@ -57,3 +57,5 @@ fn push_name<N: Named>(out: &mut String, fault: &N) -> Result<(), AllocError>
     out.push_str("refused ")?;
     out.push_str(fault.name())
 }
+
+pub use denialbench_print::named::Named;

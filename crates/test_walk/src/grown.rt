@@ -2,12 +2,11 @@
 
 use crate::signatures::Signatures;
 use crate::store::{Replay, Store};
-use answer_judge_table::Ask;
 use denial_data::Ds;
 use denial_fields::unix_time::UnixTime;
 use messages::names::Name;
 use messages::question::Question;
-use resolution_walk::{Ending, Evidence, Limits, Walk, Wanted, resolve};
+use resolution_walk::{Ask, Ending, Evidence, Limits, Walk, Wanted, resolve};
 use std::alloc::Global;
 
 /// How often a walk goes on with what it asked for.

@@ -1,9 +1,8 @@
 //! What a walk says, in print.
 
-use answer_judge::{Refusal, Verdict};
 use messages::names::Name;
 use names_rdata::rtype::Rtype;
-use resolution_walk::{Ending, Walk, Wanted};
+use resolution_walk::{Ending, Refusal, Verdict, Walk, Wanted};
 use std::alloc::Global;
 use test_lines::{joined, text};
 

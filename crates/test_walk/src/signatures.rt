@@ -1,9 +1,9 @@
 //! Signatures that pass.
 
 use crate::words::put_part;
-use answer_judge_table::{Ask, CheckedSignature};
 use denial_data::Dnskey;
 use names_rdata::data::ComposeRecordData;
+use resolution_walk::{Ask, CheckedSignature};
 use std::alloc::Global;
 use std::collections::HashSet;
 use test_lines::octets_of;

@@ -2,7 +2,7 @@ use Rattle.std.proofs.Common.{refl, inl, ap, ◌∙◌}
 use Rattle.definitions.specs.Limits.{pointer_limit}
 use Rattle.answer_extended_errors.specs.Codes.{code_of}
 use Rattle.answer_extended_errors.specs.Extended.{extended_error_of}
-use Rattle.answer_judge_table.specs.Table.{answers_with, passes_in}
+use Rattle.answer_findings.specs.Table.{answers_with, passes_in}
 use Rattle.answer_judge_octets.proofs.errors.error_by.Goals as goal
 
 pub returns : goal.returns

@@ -1,7 +1,7 @@
 use Rattle.std.proofs.Common.{map, ap, subst, ◌∙◌, arith}
 use Rattle.std.specs.List.{AllByRecursion}
 use Rattle.std.proofs.lemmas.List.{take_all}
-use Rattle.answer_judge_table.specs.Asking.{unchecked}
+use Rattle.answer_findings.specs.Asking.{unchecked}
 use Rattle.answer_judge_octets.specs.Replying.{entries_of}
 use Rattle.answer_judge_octets.specs.Written.{FitsChecked}
 use Rattle.answer_judge_octets.proofs.EntriesGrow.{entries_fit_more, entries_more}

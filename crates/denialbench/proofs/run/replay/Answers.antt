@@ -2,9 +2,9 @@ use Rattle.std.proofs.Common.{List, ap, map, subst, string_bytes, ◌∙◌, ◌
 use Rattle.std.specs.List.{flat_map}
 use Rattle.std.proofs.lemmas.Result.{IfOk-weaker}
 use Rattle.messages.specs.HandedRr.{handed_of}
-use Rattle.answer_laws.specs.Simulations.{IsSimulation}
+use Rattle.answer.specs.Simulations.{IsSimulation}
 use Rattle.answer_events.specs.declared.event.Event.{Event}
-use Rattle.answer_outcomes.specs.declared.outcome.Outcome.{Outcome}
+use Rattle.answer.specs.Outcome.{Outcome}
 use Rattle.denialbench_session.specs.Readings.{zone_view}
 use Rattle.denialbench_print.specs.Printed.{outcome_text}
 use Rattle.denialbench.specs.Responses.{bench}

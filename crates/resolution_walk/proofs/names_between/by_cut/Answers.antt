@@ -1,5 +1,5 @@
 use Rattle.messages.specs.Questions.{asked_of}
-use Rattle.resolution_step.specs.Told.{told}
+use Rattle.resolution_evidence.specs.Told.{told}
 use Rattle.resolution_walk.proofs.Onward.{turned_at}
 use Rattle.resolution_walk.proofs.Wanting.{any_wants_there}
 use Rattle.resolution_walk.proofs.names_between.by_cut.Goals as goal

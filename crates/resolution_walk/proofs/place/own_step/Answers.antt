@@ -1,4 +1,4 @@
-use Rattle.resolution_step.specs.Told.{told}
+use Rattle.resolution_evidence.specs.Told.{told}
 use Rattle.resolution_walk.proofs.Onward.{own_told}
 use Rattle.resolution_walk.proofs.place.own_step.Goals as goal
 

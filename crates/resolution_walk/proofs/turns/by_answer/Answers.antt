@@ -1,5 +1,5 @@
 use Rattle.messages.specs.Questions.{asked_of}
-use Rattle.resolution_step.specs.Told.{told}
+use Rattle.resolution_evidence.specs.Told.{told}
 use Rattle.resolution_walk.proofs.Onward.{turned_own}
 use Rattle.resolution_walk.proofs.Wanting.{any_wants}
 use Rattle.resolution_walk.proofs.turns.by_answer.Goals as goal

@@ -2,7 +2,7 @@ use Rattle.std.proofs.Common.{◌<◌, List, length, inr, refl, rules, sym, ◌�
 use Rattle.std.specs.Prelude.{None}
 use Rattle.answer_judge_octets.specs.Written.{IsList, Splits}
 use Rattle.answer_judge_octets.proofs.ListsRead.{not_spelled}
-use Rattle.server_signatures.specs.Table.{Made}
+use Rattle.server_answers.specs.Table.{Made}
 use Rattle.server_zone_octets.specs.Entries.{FitsMade, made_octets}
 use Rattle.server_zone_octets.proofs.EntriesMade.{once_made, some_made}
 use Rattle.server_zone_octets.proofs.entries.read_made.Goals as goal
