@@ -14,11 +14,11 @@ use Rattle.answer_shared.specs.EqualTags.{has_equal_tags}
 use Rattle.answer_shared.specs.FactsCase.{low_facts}
 use Rattle.answer_shared.proofs.FactsCase.{caseless}
 use Rattle.answer_judge_rules.specs.Hashes.{hash_among}
-use Rattle.answer_judge_keys.specs.Judging.{Answer, Handing, Refuses, Says, is_judged, key_at, keys_in, may_ask, message_refusal, same_question}
+use Rattle.answer_judge_keys.specs.Judging.{Answer, JudgeInput, Refuses, Says, is_judged, key_at, keys_in, may_ask, message_refusal, same_question}
 use Rattle.answer_judge_keys.specs.Trusted.{is_trusted, is_usable}
 use Rattle.answer_judge_keys.specs.declared.verdict.Refusal.{Refusal}
 use Rattle.answer_judge_keys.specs.declared.verdict.Refusal.TheVariants as r
-use Rattle.answer_judge_facts.specs.Judged.{are_mixed, are_over, by_facts, facts_in, is_chained, is_unhashed, judged, judged_answer, judged_bytes, judged_facts, judged_messages, keys_of, trusting}
+use Rattle.answer_judge_facts.specs.Judged.{are_mixed, are_over, by_facts, facts_in, ds_authenticates_keys, is_unhashed, judged, judged_answer, judged_bytes, judged_facts, judged_messages, keys_of, trusting}
 use Rattle.answer_judge_facts.specs.Times.{are_unlike}
 use Rattle.answer_judge_facts.specs.Verified.{is_verified}
 use Rattle.answer_judge.proofs.GivenNext.{canonical_octets}
@@ -58,21 +58,21 @@ same_asked x y z name rtype class = λ i. labels_eq (name i) (low z.name) && eqb
 -- ---- facts
 
 -- the case of the names in links means nothing
-judged_low : (a : Answers) (h : Handing) (f : Facts) → judged_facts a h f ≡ judged_facts a h (low_facts f)
+judged_low : (a : Answers) (h : JudgeInput) (f : Facts) → judged_facts a h f ≡ judged_facts a h (low_facts f)
 judged_low a h f =
     ap (λ v. if are_mixed f.hash_links then Refuses r.MixedNsec3Parameters else if are_over h.limit f.hash_links then Refuses r.IterationsOverLimit else if is_unhashed a h f then Refuses r.HashFailed else by_facts v)
     (sym (caseless h.apex (hash_among a.hash f.hash_links) f h.asked.name h.asked.rtype).links)
 
-judged_same : (a : Answers) (h : Handing) (f g : Facts) → low_facts f ≡ low_facts g → judged_facts a h f ≡ judged_facts a h g
+judged_same : (a : Answers) (h : JudgeInput) (f g : Facts) → low_facts f ≡ low_facts g → judged_facts a h f ≡ judged_facts a h g
 judged_same a h f g e = judged_low a h f ∙ ap (judged_facts a h) e ∙ sym (judged_low a h g)
 
 -- ---- answers
 
-module _ (a : Answers) (k : ℕ) (h : Handing) (m n : List ℕ) (seen : SeenAlike k h.asked.rtype m n) where
-  abbrev one_handing : Handing
+module _ (a : Answers) (k : ℕ) (h : JudgeInput) (m n : List ℕ) (seen : SeenAlike k h.asked.rtype m n) where
+  abbrev one_handing : JudgeInput
   one_handing = record h { answer_bytes = m }
 
-  abbrev other_handing : Handing
+  abbrev other_handing : JudgeInput
   other_handing = record h { answer_bytes = n }
 
   answer_asked : may_ask one_handing seen.one.asked ≡ may_ask other_handing seen.other.asked
@@ -98,7 +98,7 @@ module _ (a : Answers) (k : ℕ) (h : Handing) (m n : List ℕ) (seen : SeenAlik
 
   chained_answer : (x : Message) → judged_messages a k one_handing x seen.one ≡ judged_messages a k other_handing x seen.other
   chained_answer x =
-      ap (λ v. elim (is_chained a k h x) as (λ _. Answer) [ true ↦ v | false ↦ Refuses r.NoTrustedKey ]) (answer_judged (filter is_usable (keys_of h x)))
+      ap (λ v. elim (ds_authenticates_keys a k h x) as (λ _. Answer) [ true ↦ v | false ↦ Refuses r.NoTrustedKey ]) (answer_judged (filter is_usable (keys_of h x)))
 
   answer_bytes_judged : judged_bytes a k one_handing ≡ judged_bytes a k other_handing
   answer_bytes_judged =
@@ -114,11 +114,11 @@ answers_alike a k h m n seen = answers_judged a k h m n seen
 
 -- ---- DNSKEY answers
 
-module _ (a : Answers) (k : ℕ) (h : Handing) (m n : List ℕ) (seen : SeenAlike k 48 m n) where
-  abbrev these_keys : Handing
+module _ (a : Answers) (k : ℕ) (h : JudgeInput) (m n : List ℕ) (seen : SeenAlike k 48 m n) where
+  abbrev these_keys : JudgeInput
   these_keys = record h { dnskey_bytes = m }
 
-  abbrev those_keys : Handing
+  abbrev those_keys : JudgeInput
   those_keys = record h { dnskey_bytes = n }
 
   abbrev key_when : Bool → List ℕ → Option Dnskey
@@ -156,7 +156,7 @@ module _ (a : Answers) (k : ℕ) (h : Handing) (m n : List ℕ) (seen : SeenAlik
       ∙ (λ i. refused_of (Ok seen.one) (message k h.answer_bytes) (λ x y. keys_refused (keys_asked i) (same_keys i) y))
       ∙ ap (λ o. refused_of o (message k h.answer_bytes) (λ x y. keys_refused (same_question x.asked (asked_for_keys h.apex)) (keys_in n h.apex x.records) y)) (sym seen.reads_other)
 
-  keys_chained : is_chained a k these_keys seen.one ≡ is_chained a k those_keys seen.other
+  keys_chained : ds_authenticates_keys a k these_keys seen.one ≡ ds_authenticates_keys a k those_keys seen.other
   keys_chained =
       let ks = keys_in m h.apex seen.one.records in
       verified_alike k m n 48 seen.one.records seen.other.records seen.records_are (trusting a h (filter (is_trusted a h.apex h.ds) ks)) h.apex 48 (sorted_data (map dnskey_data ks))

@@ -5,7 +5,7 @@ use Rattle.definitions.specs.Name.{low}
 use Rattle.messages.specs.Message.{Message, Spelled, message}
 use Rattle.answer_shared.specs.Alike.{IsLike}
 use Rattle.answer_scheme.specs.Answers.{Answers}
-use Rattle.answer_judge_keys.specs.Judging.{Handing}
+use Rattle.answer_judge_keys.specs.Judging.{JudgeInput}
 use Rattle.answer_judge_facts.specs.Judged.{judged}
 
 -- types of records that a judge uses of a message that is to tell it of a type: signatures, records of chains, and that type
@@ -29,8 +29,8 @@ pub record SeenAlike (k t : ℕ) (m n : List ℕ) : Type 0 where
 
 -- one answer in the place of another
 abbrev pub AnswersJudgedAlike : Type 0
-AnswersJudgedAlike = (a : Answers) (k : ℕ) (h : Handing) (m n : List ℕ) → SeenAlike k h.asked.rtype m n → judged a k (record h { answer_bytes = m }) ≡ judged a k (record h { answer_bytes = n })
+AnswersJudgedAlike = (a : Answers) (k : ℕ) (h : JudgeInput) (m n : List ℕ) → SeenAlike k h.asked.rtype m n → judged a k (record h { answer_bytes = m }) ≡ judged a k (record h { answer_bytes = n })
 
 -- one DNSKEY answer in the place of another
 abbrev pub KeysJudgedAlike : Type 0
-KeysJudgedAlike = (a : Answers) (k : ℕ) (h : Handing) (m n : List ℕ) → SeenAlike k 48 m n → judged a k (record h { dnskey_bytes = m }) ≡ judged a k (record h { dnskey_bytes = n })
+KeysJudgedAlike = (a : Answers) (k : ℕ) (h : JudgeInput) (m n : List ℕ) → SeenAlike k 48 m n → judged a k (record h { dnskey_bytes = m }) ≡ judged a k (record h { dnskey_bytes = n })

@@ -4,7 +4,7 @@ use Rattle.std.specs.Prelude.{Option, Some, None, Result, Ok, Err}
 use Rattle.messages.specs.Message.{Message, Spelled, message}
 use Rattle.messages.specs.declared.error.MessageError.{MessageError}
 use Rattle.answer_scheme.specs.Answers.{Answers}
-use Rattle.answer_judge_keys.specs.Judging.{Handing, signatures_in}
+use Rattle.answer_judge_keys.specs.Judging.{JudgeInput, signatures_in}
 use Rattle.answer_judge_keys.specs.Trusted.{is_signature}
 use Rattle.answer_judge_keys.specs.declared.verdict.Refusal.{Refusal}
 use Rattle.answer_judge_keys.specs.declared.verdict.Refusal.TheVariants as r
@@ -14,7 +14,7 @@ use Rattle.answer_extended_errors.specs.declared.error.ExtendedError.TheVariants
 
 -- ---- refusals that say all themselves
 
-pub plain_is : (a : Answers) (k : ℕ) (h : Handing) (refusal : Refusal) → (refusal ≡ r.NoTrustedKey → ⊥) → (refusal ≡ r.NotProven → ⊥) → plain_error refusal ≡ extended_error_of a k h refusal
+pub plain_is : (a : Answers) (k : ℕ) (h : JudgeInput) (refusal : Refusal) → (refusal ≡ r.NoTrustedKey → ⊥) → (refusal ≡ r.NotProven → ⊥) → plain_error refusal ≡ extended_error_of a k h refusal
 plain_is a k h r.QuestionNotAllowed n p = refl
 plain_is a k h r.BadDnskeyMessage n p = refl
 plain_is a k h r.BadAnswerMessage n p = refl
@@ -56,7 +56,7 @@ signatures_read k m rs some = signatures_are k m ∙ ap counted (sym some)
 
 -- ---- no trusted key
 
-module _ (a : Answers) (k : ℕ) (h : Handing) where
+module _ (a : Answers) (k : ℕ) (h : JudgeInput) where
   pub keys_unread : None ≡ records_in k h.dnskey_bytes → e.DnssecBogus ≡ untrusted a k h
   keys_unread none = ap (λ (o : Option (List Spelled)). elim o as (λ _. ExtendedError) [ None ↦ e.DnssecBogus | Some rs ↦ untrusted_keys a k h.apex h.ds h.dnskey_bytes rs h.now ]) none
 

@@ -7,7 +7,7 @@ use Rattle.definitions.specs.Serial.{serial_le}
 use Rattle.definitions.specs.Signing.{Fields, in_time}
 use Rattle.messages.specs.Message.{Asked, Spelled, if_true, message, rrsig_at}
 use Rattle.answer_scheme.specs.Answers.{Answers}
-use Rattle.answer_judge_keys.specs.Judging.{Handing, keys_in}
+use Rattle.answer_judge_keys.specs.Judging.{JudgeInput, keys_in}
 use Rattle.answer_judge_keys.specs.Trusted.{is_signature, is_trusted, is_usable}
 use Rattle.answer_judge_keys.specs.declared.verdict.Refusal.{Refusal}
 use Rattle.answer_judge_keys.specs.declared.verdict.Refusal.TheVariants as r
@@ -69,7 +69,7 @@ untrusted_keys a k apex ds m rs now =
     else elim (untimely now (signatures_of k m apex (keys_sought apex keys).is rs)) [ Some error ↦ error | None ↦ e.DnssecBogus ]
 
 -- octets that are no message bring no key
-abbrev pub untrusted : Answers → ℕ → Handing → ExtendedError
+abbrev pub untrusted : Answers → ℕ → JudgeInput → ExtendedError
 untrusted a k h = elim (records_in k h.dnskey_bytes) [ None ↦ e.DnssecBogus | Some rs ↦ untrusted_keys a k h.apex h.ds h.dnskey_bytes rs h.now ]
 
 -- ---- nothing proven
@@ -107,10 +107,10 @@ abbrev pub unproven_under : Trusting → ℕ → List ℕ → List Spelled → A
 unproven_under w k m rs q = resting_on w k m rs (rests_on k m w.apex rs q)
 
 -- under the usable keys of the DNSKEY answer
-abbrev pub unproven_beside : Answers → ℕ → Handing → List Spelled → List Spelled → ExtendedError
+abbrev pub unproven_beside : Answers → ℕ → JudgeInput → List Spelled → List Spelled → ExtendedError
 unproven_beside a k h keys rs = unproven_under (trusting a h (filter is_usable (keys_in h.dnskey_bytes h.apex keys))) k h.answer_bytes rs h.asked
 
-abbrev pub unproven : Answers → ℕ → Handing → ExtendedError
+abbrev pub unproven : Answers → ℕ → JudgeInput → ExtendedError
 unproven a k h = elim (records_in k h.dnskey_bytes) [
   | None ↦ e.DnssecBogus
   | Some keys ↦ elim (records_in k h.answer_bytes) [ None ↦ e.DnssecBogus | Some rs ↦ unproven_beside a k h keys rs ]
@@ -137,7 +137,7 @@ plain_error r.HashFailed = e.Other
 plain_error r.Memory = e.Other
 
 -- the error of a refusal of what was handed in
-abbrev pub extended_error_of : Answers → ℕ → Handing → Refusal → ExtendedError
+abbrev pub extended_error_of : Answers → ℕ → JudgeInput → Refusal → ExtendedError
 extended_error_of a k h r.NoTrustedKey = untrusted a k h
 extended_error_of a k h r.NotProven = unproven a k h
 extended_error_of a k h refusal = plain_error refusal

@@ -16,8 +16,8 @@ use crate::error::ExtendedError;
 use crate::times::{signatures_over, untimely};
 use answer_judge_facts::facts::{read_chain_groups, sorted_chain};
 use answer_judge_facts::groups::{Group, read_group, verify_groups};
+use answer_judge_keys::check_run::CheckRun;
 use answer_judge_keys::trust::Trust;
-use answer_judge_keys::verifier::Verifier;
 use answer_scheme::checks::Checks;
 use messages::ViewRecord;
 use messages::names::cow_name;
@@ -30,36 +30,36 @@ pub(crate) fn unproven_under<C: Checks>(
     records: &[ViewRecord],
     question: &Question,
     trust: &Trust,
-    verifier: &mut Verifier<C>,
+    check_run: &mut CheckRun<C>,
 ) -> Result<ExtendedError, AllocError>
     requires index { Ranks trust.now.keys.now trust.now.ranked.now }
-    requires room { verifier.old.count + length records.now < 2 ^ 32 }
-    ensures exact { EachAgreeing (C.answers verifier.old.checks.now)
-        (C.agrees verifier.new.checks.now) (λ a. let w = held_by a trust.now in
+    requires room { check_run.old.count + length records.now < 2 ^ 32 }
+    ensures exact { EachAgreeing (C.answers check_run.old.checks.now)
+        (C.agrees check_run.new.checks.now) (λ a. let w = held_by a trust.now in
         let rs = map spelled records.now in
         let error = unproven_under w pointer_limit message.now rs (asked_of question.now) in
         IfOk result (λ e. e ≡ error)) }
-    ensures agrees { (test : SignatureTest) → C.agrees verifier.new.checks.now test
-        → C.agrees verifier.old.checks.now test }
-    ensures counted { C.verified verifier.new.checks.now + verifier.old.count
-        ≡ C.verified verifier.old.checks.now + verifier.new.count }
+    ensures agrees { (test : SignatureTest) → C.agrees check_run.new.checks.now test
+        → C.agrees check_run.old.checks.now test }
+    ensures counted { C.verified check_run.new.checks.now + check_run.old.count
+        ≡ C.verified check_run.old.checks.now + check_run.new.count }
     ensures bound { let rs = map spelled records.now in
-        verifier.new.count ≤ verifier.old.count + length (filter is_signature rs) }
-    ensures hashed { C.hashed verifier.new.checks.now ≡ C.hashed verifier.old.checks.now }
-    ensures same { C.answers verifier.new.checks.now ≡ C.answers verifier.old.checks.now }
-    ensures same_checks { verifier.new.checks.ghost_name ≡ verifier.old.checks.ghost_name }
+        check_run.new.count ≤ check_run.old.count + length (filter is_signature rs) }
+    ensures hashed { C.hashed check_run.new.checks.now ≡ C.hashed check_run.old.checks.now }
+    ensures same { C.answers check_run.new.checks.now ≡ C.answers check_run.old.checks.now }
+    ensures same_checks { check_run.new.checks.ghost_name ≡ check_run.old.checks.ghost_name }
 {
-    let alloc = verifier.alloc;
+    let alloc = check_run.alloc;
     let owner = cow_name(alloc, &question.name)?;
     let group = read_group(alloc, message, records, owner, question.rtype)?;
     if group.items.is_empty() {
         let chained = sorted_chain(alloc, records)?;
         let mut chain = read_chain_groups(alloc, trust.apex, message, &chained)?;
-        return error_of_groups(message, records, trust, &mut chain, verifier);
+        return error_of_groups(message, records, trust, &mut chain, check_run);
     }
     let mut asked = Vec::with_capacity(alloc, 1)?;
     asked.push(group)?;
-    error_of_groups(message, records, trust, &mut asked, verifier)
+    error_of_groups(message, records, trust, &mut asked, check_run)
 }
 
 /// The error where some RRsets, on which an answer rests, prove no verdict.
@@ -68,33 +68,33 @@ fn error_of_groups<C: Checks>(
     records: &[ViewRecord],
     trust: &Trust,
     groups: &mut [Group],
-    verifier: &mut Verifier<C>,
+    check_run: &mut CheckRun<C>,
 ) -> Result<ExtendedError, AllocError>
     requires index { Ranks trust.now.keys.now trust.now.ranked.now }
-    requires room { verifier.old.count + length records.now < 2 ^ 32 }
+    requires room { check_run.old.count + length records.now < 2 ^ 32 }
     requires ranked { AreRanked groups.old }
-    ensures exact { EachAgreeing (C.answers verifier.old.checks.now)
-        (C.agrees verifier.new.checks.now) (λ a. let w = held_by a trust.now in
+    ensures exact { EachAgreeing (C.answers check_run.old.checks.now)
+        (C.agrees check_run.new.checks.now) (λ a. let w = held_by a trust.now in
         let error = groups_error w message.now groups.old (map spelled records.now) in
         IfOk result (λ e. e ≡ error)) }
-    ensures agrees { (test : SignatureTest) → C.agrees verifier.new.checks.now test
-        → C.agrees verifier.old.checks.now test }
-    ensures counted { C.verified verifier.new.checks.now + verifier.old.count
-        ≡ C.verified verifier.old.checks.now + verifier.new.count }
+    ensures agrees { (test : SignatureTest) → C.agrees check_run.new.checks.now test
+        → C.agrees check_run.old.checks.now test }
+    ensures counted { C.verified check_run.new.checks.now + check_run.old.count
+        ≡ C.verified check_run.old.checks.now + check_run.new.count }
     ensures bound { let rs = map spelled records.now in
-        verifier.new.count ≤ verifier.old.count + length (filter is_signature rs) }
-    ensures hashed { C.hashed verifier.new.checks.now ≡ C.hashed verifier.old.checks.now }
-    ensures same { C.answers verifier.new.checks.now ≡ C.answers verifier.old.checks.now }
-    ensures same_checks { verifier.new.checks.ghost_name ≡ verifier.old.checks.ghost_name }
+        check_run.new.count ≤ check_run.old.count + length (filter is_signature rs) }
+    ensures hashed { C.hashed check_run.new.checks.now ≡ C.hashed check_run.old.checks.now }
+    ensures same { C.answers check_run.new.checks.now ≡ C.answers check_run.old.checks.now }
+    ensures same_checks { check_run.new.checks.ghost_name ≡ check_run.old.checks.ghost_name }
 {
     if groups.is_empty() {
         return Ok(ExtendedError::NsecMissing);
     }
-    let signatures = signatures_over(verifier.alloc, trust.apex, message, records, groups)?;
+    let signatures = signatures_over(check_run.alloc, trust.apex, message, records, groups)?;
     if let Some(error) = untimely(&signatures, trust.moment) {
         return Ok(error);
     }
-    verify_groups(message, records, trust, groups, verifier)?;
+    verify_groups(message, records, trust, groups, check_run)?;
     if is_one_verified(groups) {
         return Ok(ExtendedError::NsecMissing);
     }

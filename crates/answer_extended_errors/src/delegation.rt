@@ -8,8 +8,8 @@ ghost use Rattle.answer_extended_errors.specs.Extended.{is_made, untrusted_keys}
 use crate::error::ExtendedError;
 use crate::times::{signatures_over, untimely};
 use answer_judge_facts::groups::read_group;
+use answer_judge_keys::check_run::CheckRun;
 use answer_judge_keys::keys::{read_keys, trusted_keys};
-use answer_judge_keys::verifier::Verifier;
 use answer_scheme::checks::Checks;
 use answer_scheme::error::SchemeError;
 use denial_data::Ds;
@@ -25,20 +25,20 @@ pub(crate) fn untrusted_keys<C: Checks>(
     message: &[u8],
     records: &[ViewRecord],
     moment: u32,
-    verifier: &mut Verifier<C>,
+    check_run: &mut CheckRun<C>,
 ) -> Result<ExtendedError, AllocError>
-    ensures exact { let a = C.answers verifier.old.checks.now in
+    ensures exact { let a = C.answers check_run.old.checks.now in
         let m = message.now in let rs = map spelled records.now in
         let error = untrusted_keys a pointer_limit apex.now ds.now m rs moment in
         IfOk result (λ e. e ≡ error) }
-    ensures rest { verifier.new ≡ record verifier.old { octets = verifier.new.octets } }
+    ensures rest { check_run.new ≡ record check_run.old { octets = check_run.new.octets } }
 {
-    let alloc = verifier.alloc;
-    if !is_any_made(alloc, ds, &*verifier.checks)? {
+    let alloc = check_run.alloc;
+    if !is_any_made(alloc, ds, &*check_run.checks)? {
         return Ok(ExtendedError::UnsupportedDsDigestType);
     }
     let keys = read_keys(alloc, apex, message, records)?;
-    if trusted_keys(apex, ds, &keys, verifier)?.is_empty() {
+    if trusted_keys(apex, ds, &keys, check_run)?.is_empty() {
         return Ok(ExtendedError::DnskeyMissing);
     }
     let mut groups = Vec::with_capacity(alloc, 1)?;

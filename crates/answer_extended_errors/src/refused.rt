@@ -11,9 +11,9 @@ use crate::answer::unproven_under;
 use crate::delegation::untrusted_keys;
 use crate::error::ExtendedError;
 use answer_judge::{Case, Refusal};
+use answer_judge_keys::check_run::CheckRun;
 use answer_judge_keys::keys::{ranked_keys, read_keys, usable_keys};
 use answer_judge_keys::trust::Trust;
-use answer_judge_keys::verifier::Verifier;
 use answer_scheme::checks::Checks;
 use messages::names::ZoneName;
 use messages::{ViewRecord, read_message_into};
@@ -39,10 +39,10 @@ pub fn extended_error<C: Checks>(
     ensures same { C.answers checks.new ≡ C.answers checks.old }
 {
     let mut octets = Vec::new(alloc);
-    let mut verifier = Verifier::new(alloc, checks, &mut octets);
+    let mut check_run = CheckRun::new(alloc, checks, &mut octets);
     match refusal {
-        Refusal::NoTrustedKey => untrusted(case, &mut verifier),
-        Refusal::NotProven => unproven(case, &mut verifier),
+        Refusal::NoTrustedKey => untrusted(case, &mut check_run),
+        Refusal::NotProven => unproven(case, &mut check_run),
         plain => Ok(plain_error(plain)),
     }
 }
@@ -50,34 +50,37 @@ pub fn extended_error<C: Checks>(
 /// The error where no key that a DS record names signs the keys of the DNSKEY answer.
 fn untrusted<C: Checks>(
     case: &Case,
-    verifier: &mut Verifier<C>,
+    check_run: &mut CheckRun<C>,
 ) -> Result<ExtendedError, AllocError>
-    ensures exact { let a = C.answers verifier.old.checks.now in
+    ensures exact { let a = C.answers check_run.old.checks.now in
         IfOk result (λ e. e ≡ untrusted a pointer_limit case.now) }
-    ensures rest { verifier.new ≡ record verifier.old { octets = verifier.new.octets } }
+    ensures rest { check_run.new ≡ record check_run.old { octets = check_run.new.octets } }
 {
-    let Some(records) = records_of(verifier.alloc, case.dnskey)? else {
+    let Some(records) = records_of(check_run.alloc, case.dnskey)? else {
         return Ok(ExtendedError::DnssecBogus);
     };
     let moment = case.moment.timestamp();
-    untrusted_keys(case.apex, case.ds, case.dnskey, &records, moment, verifier)
+    untrusted_keys(case.apex, case.ds, case.dnskey, &records, moment, check_run)
 }
 
 /// The error where what verifies of the answer proves no verdict.
-fn unproven<C: Checks>(case: &Case, verifier: &mut Verifier<C>) -> Result<ExtendedError, AllocError>
-    requires { verifier.old.count ≡ 0 }
-    ensures exact { EachAgreeing (C.answers verifier.old.checks.now)
-        (C.agrees verifier.new.checks.now)
+fn unproven<C: Checks>(
+    case: &Case,
+    check_run: &mut CheckRun<C>,
+) -> Result<ExtendedError, AllocError>
+    requires { check_run.old.count ≡ 0 }
+    ensures exact { EachAgreeing (C.answers check_run.old.checks.now)
+        (C.agrees check_run.new.checks.now)
         (λ a. IfOk result (λ e. e ≡ unproven a pointer_limit case.now)) }
-    ensures agrees { (test : SignatureTest) → C.agrees verifier.new.checks.now test
-        → C.agrees verifier.old.checks.now test }
-    ensures bound { C.verified verifier.new.checks.now ≤ C.verified verifier.old.checks.now
+    ensures agrees { (test : SignatureTest) → C.agrees check_run.new.checks.now test
+        → C.agrees check_run.old.checks.now test }
+    ensures bound { C.verified check_run.new.checks.now ≤ C.verified check_run.old.checks.now
         + signatures_in pointer_limit case.now.answer_bytes }
-    ensures hashed { C.hashed verifier.new.checks.now ≡ C.hashed verifier.old.checks.now }
-    ensures same { C.answers verifier.new.checks.now ≡ C.answers verifier.old.checks.now }
-    ensures same_checks { verifier.new.checks.ghost_name ≡ verifier.old.checks.ghost_name }
+    ensures hashed { C.hashed check_run.new.checks.now ≡ C.hashed check_run.old.checks.now }
+    ensures same { C.answers check_run.new.checks.now ≡ C.answers check_run.old.checks.now }
+    ensures same_checks { check_run.new.checks.ghost_name ≡ check_run.old.checks.ghost_name }
 {
-    let alloc = verifier.alloc;
+    let alloc = check_run.alloc;
     let Some(key_records) = records_of(alloc, case.dnskey)? else {
         return Ok(ExtendedError::DnssecBogus);
     };
@@ -93,7 +96,7 @@ fn unproven<C: Checks>(case: &Case, verifier: &mut Verifier<C>) -> Result<Extend
         ranked: &by_tag,
         moment: case.moment.timestamp(),
     };
-    unproven_under(case.answer, &records, case.question, &trust, verifier)
+    unproven_under(case.answer, &records, case.question, &trust, check_run)
 }
 
 /// The error of a refusal that says all itself.

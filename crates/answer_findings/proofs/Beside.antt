@@ -8,7 +8,7 @@ use Rattle.definitions.specs.Name.{Name, at_or_above, strictly_above}
 use Rattle.denial_laws.proofs.NameFacts.{strictly_at}
 use Rattle.definitions.proofs.ZoneNames.{above_itself}
 use Rattle.messages.specs.Message.{Asked, Spelled}
-use Rattle.answer_judge_keys.specs.Judging.{Answer, Handing}
+use Rattle.answer_judge_keys.specs.Judging.{Answer, JudgeInput}
 use Rattle.answer_findings.specs.declared.hints.Hint.TheVariants as hint
 use Rattle.answer_findings.specs.Found.{IsBeside}
 use Rattle.answer_findings.specs.Hints.{answer_records, has_cname_hint, hints_at, owner_hint, stands_at}
@@ -26,7 +26,7 @@ finds_one p (r ∷ rs) o h = go (p r) refl h (λ k. finds_one p rs o k)
     go false e h rest = rest h
 
 -- where a hint's owner stands
-dname_above : (k : ℕ) (h : Handing) (o : Name) → owner_hint k h hint.Dname ≡ Some o → (at_or_above h.apex o ≡ true) × (strictly_above o h.asked.name ≡ true)
+dname_above : (k : ℕ) (h : JudgeInput) (o : Name) → owner_hint k h hint.Dname ≡ Some o → (at_or_above h.apex o ≡ true) × (strictly_above o h.asked.name ≡ true)
 dname_above k h o e =
     let r = finds_one (hints_at h hint.Dname) (answer_records k h) o e in
     let stands = (and_parts (r.0.class == 1) (stands_at h hint.Dname r.0) r.1).1 in
@@ -34,7 +34,7 @@ dname_above k h o e =
     let inside = and_parts (r.0.rtype == 39) (at_or_above h.apex r.0.owner) placed.0 in
     (subst (λ n. at_or_above h.apex n ≡ true) r.2 inside.1, subst (λ n. strictly_above n h.asked.name ≡ true) r.2 placed.1)
 
-pub cut_above : (k : ℕ) (h : Handing) (o : Name) → owner_hint k h hint.Cut ≡ Some o → (strictly_above h.apex o ≡ true) × (at_or_above o h.asked.name ≡ true)
+pub cut_above : (k : ℕ) (h : JudgeInput) (o : Name) → owner_hint k h hint.Cut ≡ Some o → (strictly_above h.apex o ≡ true) × (at_or_above o h.asked.name ≡ true)
 cut_above k h o e =
     let r = finds_one (hints_at h hint.Cut) (answer_records k h) o e in
     let stands = (and_parts (r.0.class == 1) (stands_at h hint.Cut r.0) r.1).1 in
@@ -45,18 +45,18 @@ cut_above k h o e =
 -- ---- questions
 
 -- the question by which an alias is sought: for a DNAME above the name, or for its CNAME
-pub record SeeksDname (h : Handing) (asked : Asked) : Type 0 where
+pub record SeeksDname (h : JudgeInput) (asked : Asked) : Type 0 where
   pub owner : Name
   pub inside : at_or_above h.apex owner ≡ true
   pub above : strictly_above owner h.asked.name ≡ true
   pub is : asking h owner 39 ≡ asked
 
-pub record SeeksCname (h : Handing) (asked : Asked) : Type 0 where
+pub record SeeksCname (h : JudgeInput) (asked : Asked) : Type 0 where
   pub inside : at_or_above h.apex h.asked.name ≡ true
   pub other : (h.asked.rtype == 5) ≡ false
   pub is : asking h h.asked.name 5 ≡ asked
 
-pub seeks_alias : (k : ℕ) (h : Handing) (asked : Asked) → alias_hint k h ≡ Some asked → SeeksDname h asked ⊎ SeeksCname h asked
+pub seeks_alias : (k : ℕ) (h : JudgeInput) (asked : Asked) → alias_hint k h ≡ Some asked → SeeksDname h asked ⊎ SeeksCname h asked
 seeks_alias k h asked e = go (owner_hint k h hint.Dname) refl e
   where
     cname : (b : Bool) → (at_or_above h.apex h.asked.name && not (h.asked.rtype == 5) && has_cname_hint k h) ≡ b
@@ -79,19 +79,19 @@ seeks_alias k h asked e = go (owner_hint k h hint.Dname) refl e
         inl (record { owner = o; inside = at.0; above = at.1; is = is })
     go None f e = inr (cname (at_or_above h.apex h.asked.name && not (h.asked.rtype == 5) && has_cname_hint k h) refl e)
 
-pub dname_beside : (h : Handing) (owner : Name) → at_or_above h.apex owner ≡ true → strictly_above owner h.asked.name ≡ true → IsBeside h (asking h owner 39)
+pub dname_beside : (h : JudgeInput) (owner : Name) → at_or_above h.apex owner ≡ true → strictly_above owner h.asked.name ≡ true → IsBeside h (asking h owner 39)
 dname_beside h owner inside above = record { above = strictly_at owner h.asked.name above; inside = inside; class = refl; rtype = inr (inr (inl refl)) }
 
-pub cname_beside : (h : Handing) → at_or_above h.apex h.asked.name ≡ true → IsBeside h (asking h h.asked.name 5)
+pub cname_beside : (h : JudgeInput) → at_or_above h.apex h.asked.name ≡ true → IsBeside h (asking h h.asked.name 5)
 cname_beside h inside = record { above = above_itself h.asked.name; inside = inside; class = refl; rtype = inr (inl refl) }
 
-hint_beside : (k : ℕ) (h : Handing) (asked : Asked) → alias_hint k h ≡ Some asked → IsBeside h asked
+hint_beside : (k : ℕ) (h : JudgeInput) (asked : Asked) → alias_hint k h ≡ Some asked → IsBeside h asked
 hint_beside k h asked e = elim (seeks_alias k h asked e) [
   | inl s ↦ subst (IsBeside h) s.is (dname_beside h s.owner s.inside s.above)
   | inr s ↦ subst (IsBeside h) s.is (cname_beside h s.inside)
 ]
 
-pub alias_beside : (k : ℕ) (h : Handing) (own : Answer) (asked : Asked) → alias_question k h own ≡ Some asked → IsBeside h asked
+pub alias_beside : (k : ℕ) (h : JudgeInput) (own : Answer) (asked : Asked) → alias_question k h own ≡ Some asked → IsBeside h asked
 alias_beside k h own asked e = go (is_unproven own) e
   where
     go : (b : Bool) → (if b then alias_hint k h else None) ≡ Some asked → IsBeside h asked
@@ -99,35 +99,35 @@ alias_beside k h own asked e = go (is_unproven own) e
     go false e = absurd cc
 
 -- a question at the cut that the answer suggests
-pub record SeeksCut (k : ℕ) (h : Handing) (t : ℕ) (asked : Asked) : Type 0 where
+pub record SeeksCut (k : ℕ) (h : JudgeInput) (t : ℕ) (asked : Asked) : Type 0 where
   pub cut : Name
   pub hint : owner_hint k h hint.Cut ≡ Some cut
   pub is : asking h cut t ≡ asked
 
-pub seeks_cut : (k : ℕ) (h : Handing) (t : ℕ) (asked : Asked) → cut_question k h t ≡ Some asked → SeeksCut k h t asked
+pub seeks_cut : (k : ℕ) (h : JudgeInput) (t : ℕ) (asked : Asked) → cut_question k h t ≡ Some asked → SeeksCut k h t asked
 seeks_cut k h t asked e = go (owner_hint k h hint.Cut) refl e
   where
     go : (o : Option Name) → owner_hint k h hint.Cut ≡ o → option_map (λ c. asking h c t) o ≡ Some asked → SeeksCut k h t asked
     go None f e = absurd cc
     go (Some c) f e = let is : asking h c t ≡ asked = cc in record { cut = c; hint = f; is = is }
 
-pub cut_ns_beside : (k : ℕ) (h : Handing) (c : Name) → owner_hint k h hint.Cut ≡ Some c → IsBeside h (asking h c 2)
+pub cut_ns_beside : (k : ℕ) (h : JudgeInput) (c : Name) → owner_hint k h hint.Cut ≡ Some c → IsBeside h (asking h c 2)
 cut_ns_beside k h c e = let at = cut_above k h c e in record { above = at.1; inside = strictly_at h.apex c at.0; class = refl; rtype = inl refl }
 
-pub cut_ds_beside : (k : ℕ) (h : Handing) (c : Name) → owner_hint k h hint.Cut ≡ Some c → IsBeside h (asking h c 43)
+pub cut_ds_beside : (k : ℕ) (h : JudgeInput) (c : Name) → owner_hint k h hint.Cut ≡ Some c → IsBeside h (asking h c 43)
 cut_ds_beside k h c e = let at = cut_above k h c e in record { above = at.1; inside = strictly_at h.apex c at.0; class = refl; rtype = inr (inr (inr refl)) }
 
-pub first_beside : (k : ℕ) (h : Handing) (asked : Asked) → first_question k h ≡ Some asked → IsBeside h asked
+pub first_beside : (k : ℕ) (h : JudgeInput) (asked : Asked) → first_question k h ≡ Some asked → IsBeside h asked
 first_beside k h asked e = go (alias_hint k h) refl e
   where
     go : (o : Option Asked) → alias_hint k h ≡ o → (elim o as (λ _. Option Asked) [ Some a ↦ Some a | None ↦ cut_question k h 43 ]) ≡ Some asked → IsBeside h asked
     go (Some a) f e = hint_beside k h asked (f ∙ e)
     go None f e = let s = seeks_cut k h 43 asked e in subst (IsBeside h) s.is (cut_ds_beside k h s.cut s.hint)
 
-pub name_ns_beside : (h : Handing) → strictly_above h.apex h.asked.name ≡ true → IsBeside h (asking h h.asked.name 2)
+pub name_ns_beside : (h : JudgeInput) → strictly_above h.apex h.asked.name ≡ true → IsBeside h (asking h h.asked.name 2)
 name_ns_beside h below = record { above = above_itself h.asked.name; inside = strictly_at h.apex h.asked.name below; class = refl; rtype = inl refl }
 
-pub ns_beside : (k : ℕ) (h : Handing) (own : Answer) (asked : Asked) → ns_question k h own ≡ Some asked → IsBeside h asked
+pub ns_beside : (k : ℕ) (h : JudgeInput) (own : Answer) (asked : Asked) → ns_question k h own ≡ Some asked → IsBeside h asked
 ns_beside k h own asked e = go (says_delegated own) (seeks_delegation h own) refl e
   where
     go : (b c : Bool) → seeks_delegation h own ≡ c → (if b then cut_question k h 2 else if c then Some (asking h h.asked.name 2) else None) ≡ Some asked → IsBeside h asked
@@ -138,7 +138,7 @@ ns_beside k h own asked e = go (says_delegated own) (seeks_delegation h own) ref
         subst (IsBeside h) is (name_ns_beside h below)
     go false false f e = absurd cc
 
-pub ds_beside : (k : ℕ) (h : Handing) (own : Answer) (leads : Bool) (asked : Asked) → ds_question k h own leads ≡ Some asked → IsBeside h asked
+pub ds_beside : (k : ℕ) (h : JudgeInput) (own : Answer) (leads : Bool) (asked : Asked) → ds_question k h own leads ≡ Some asked → IsBeside h asked
 ds_beside k h own leads asked e = go (says_delegated own || (is_unproven own && not leads)) e
   where
     go : (b : Bool) → (if b then cut_question k h 43 else None) ≡ Some asked → IsBeside h asked

@@ -5,7 +5,7 @@ use Rattle.std.specs.Option.{is_some, option_map}
 use Rattle.std.specs.declared.alloc.AllocError.{AllocError}
 use Rattle.definitions.specs.Limits.{pointer_limit}
 use Rattle.messages.specs.Message.{Asked}
-use Rattle.answer_judge_keys.specs.Judging.{Answer, Handing, answer_of}
+use Rattle.answer_judge_keys.specs.Judging.{Answer, JudgeInput, answer_of}
 use Rattle.answer_judge_keys.specs.declared.verdict.Judgement.{Judgement}
 use Rattle.answer_judge_keys.specs.declared.verdict.Refused.{Refused}
 use Rattle.answer_judge_table.specs.Outcomes.{IsJudgedBy, IsOutcome}
@@ -25,33 +25,33 @@ use Rattle.answer_findings.proofs.Beside.{alias_beside, ds_beside, first_beside,
 use Rattle.answer_findings.proofs.Truly.{found_so}
 
 -- what is found is so of the zone
-pub found_truly : (table : List Checked) (h : Handing) (found : Found) → IsFound table h found → FindsTruly table h found
+pub found_truly : (table : List Checked) (h : JudgeInput) (found : Found) → IsFound table h found → FindsTruly table h found
 found_truly table h (f.Finds finding lasting verifications hashes) is = λ passes versions t x. found_so table h passes t versions x is.judgements is.are (seen finding) is.says
 found_truly table h (f.Refused refusal verifications hashes) is = tt
 found_truly table h (f.Asks asks) is = tt
 
 -- what judgements come to is what is found
-pub comes_to : (table : List Checked) (h : Handing) (js : Judgements) (found : Found) → AreJudgements table h js → ComesTo h js found → IsFound table h found
+pub comes_to : (table : List Checked) (h : JudgeInput) (js : Judgements) (found : Found) → AreJudgements table h js → ComesTo h js found → IsFound table h found
 comes_to table h js (f.Finds finding lasting verifications hashes) are to = record { judgements = js; are = are; says = sym to.0; lasts = to.1; verified = to.2; hashed = to.3 }
 comes_to table h js (f.Refused refusal verifications hashes) are to = record { judgements = js; are = are; says = sym to.0; lasts = refl; verified = to.1; hashed = to.2 }
 comes_to table h js (f.Asks asks) are to = absurd to
 
 -- where memory sufficed
-pub found_in : (table : List Checked) (h : Handing) (js : Judgements) (r : Result Found AllocError) → AreJudgements table h js → IfOk r (ComesTo h js) → IfOk r (IsFound table h)
+pub found_in : (table : List Checked) (h : JudgeInput) (js : Judgements) (r : Result Found AllocError) → AreJudgements table h js → IfOk r (ComesTo h js) → IfOk r (IsFound table h)
 found_in table h js (Ok found) are to = comes_to table h js found are to
 found_in table h js (Err e) are to = tt
 
-pub truly_in : (table : List Checked) (h : Handing) (r : Result Found AllocError) → IfOk r (IsFound table h) → IfOk r (FindsTruly table h)
+pub truly_in : (table : List Checked) (h : JudgeInput) (r : Result Found AllocError) → IfOk r (IsFound table h) → IfOk r (FindsTruly table h)
 truly_in table h (Ok found) is = found_truly table h found is
 truly_in table h (Err e) is = tt
 
 -- ---- judgements
 
 -- a judgement that the table sufficed for
-pub judged_in : (table : List Checked) (h : Handing) (o : Outcome) (own : Result Judgement Refused) → o ≡ outcome.Judged own → IsOutcome table h o → IsJudgedBy table h own
+pub judged_in : (table : List Checked) (h : JudgeInput) (o : Outcome) (own : Result Judgement Refused) → o ≡ outcome.Judged own → IsOutcome table h o → IsJudgedBy table h own
 judged_in table h o own e is = subst (IsOutcome table h) e is
 
-pub made_in : (table : List Checked) (h : Handing) (wanted : Option Asked) (o : Result (Option Made) (Vec Tried)) (made : Option Made) → o ≡ Ok made
+pub made_in : (table : List Checked) (h : JudgeInput) (wanted : Option Asked) (o : Result (Option Made) (Vec Tried)) (made : Option Made) → o ≡ Ok made
     → MatchResult o (IsMadeOf table h wanted) (λ asks. AreAskedFor table h asks.items) → IsMadeOf table h wanted made
 made_in table h wanted o made e is = subst (λ r. MatchResult r (IsMadeOf table h wanted) (λ asks. AreAskedFor table h asks.items)) e is
 
@@ -60,7 +60,7 @@ leads_alike None found e = ap (λ (o : Option Seen). is_some o) e
 leads_alike (Some f) found e = ap (λ (o : Option Seen). is_some o) e
 
 -- all judgements of a search
-pub are_judgements : (table : List Checked) (h : Handing) (js : Judgements) (lead : Option Finding) (leads : Bool) → IsJudgedBy table h js.own
+pub are_judgements : (table : List Checked) (h : JudgeInput) (js : Judgements) (lead : Option Finding) (leads : Bool) → IsJudgedBy table h js.own
     → IsMadeOf table h (alias_question pointer_limit h (answer_of js.own)) js.alias → option_map seen lead ≡ lead_found h js.alias → leads ≡ is_some lead
     → IsMadeOf table h (ns_question pointer_limit h (answer_of js.own)) js.ns → IsMadeOf table h (ds_question pointer_limit h (answer_of js.own) leads) js.ds → AreJudgements table h js
 are_judgements table h js lead leads own alias e f ns ds =
@@ -70,7 +70,7 @@ are_judgements table h js lead leads own alias e f ns ds =
 -- ---- questions beside the case's own
 
 -- What comes of a judgement for a question that is wanted, where each that may be wanted stands beside the case's.
-sought : (table : List Checked) (h : Handing) (wanted : Option Asked) → ((asked : Asked) → wanted ≡ Some asked → IsBeside h asked)
+sought : (table : List Checked) (h : JudgeInput) (wanted : Option Asked) → ((asked : Asked) → wanted ≡ Some asked → IsBeside h asked)
     → (r : Result (Result (Option Made) (Vec Tried)) AllocError)
     → IfOk r (λ o. MatchResult o (IsMadeOf table h wanted) (λ asks. AreAskedAside table h wanted asks.items))
     → IfOk r (λ o. MatchResult o (IsMadeOf table h wanted) (λ asks. AreAskedFor table h asks.items))
@@ -78,7 +78,7 @@ sought table h wanted beside (Ok (Ok made)) is = is
 sought table h wanted beside (Ok (Err asks)) is = inr (is.asked, beside is.asked is.is, is.are_asked)
 sought table h wanted beside (Err e) is = tt
 
-module _ (table : List Checked) (h : Handing) (r : Result (Result (Option Made) (Vec Tried)) AllocError) where
+module _ (table : List Checked) (h : JudgeInput) (r : Result (Result (Option Made) (Vec Tried)) AllocError) where
   abbrev pub Asides : Option Asked → Type 0
   Asides wanted = IfOk r (λ o. MatchResult o (IsMadeOf table h wanted) (λ asks. AreAskedAside table h wanted asks.items))
 

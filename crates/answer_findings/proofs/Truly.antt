@@ -14,7 +14,7 @@ use Rattle.messages.specs.Message.{Asked}
 use Rattle.answer_judge_facts.specs.Honest.{IsSaidByOne, SaysOneOf}
 use Rattle.answer_judge_facts.specs.Versions.{Version, zone_in}
 use Rattle.answer_judge_table.proofs.GivenLists.{has_contained}
-use Rattle.answer_judge_keys.specs.Judging.{Answer, Says, Refuses, Handing, answer_of}
+use Rattle.answer_judge_keys.specs.Judging.{Answer, Says, Refuses, JudgeInput, answer_of}
 use Rattle.answer_judge_keys.specs.declared.verdict.Judgement.{Judgement}
 use Rattle.answer_judge_keys.specs.declared.verdict.Refused.{Refused}
 use Rattle.answer_judge_keys.specs.declared.verdict.Refusal.{Refusal}
@@ -66,7 +66,7 @@ apex_undelegated z name apex d = strictly_unlike (apex_of z) (low name) (and_par
 one_version : (versions : List Version) (v w : Version) → versions ≡ v ∷ [] → Contains versions w → w ≡ v
 one_version versions v w e c = elim (has_contained (v ∷ []) w (subst (λ vs. Contains vs w) e c)) [ inl is ↦ is | inr none ↦ absurd none ]
 
-module _ (table : List Checked) (h : Handing) (passes : Tried → Bool) (truly : AreTrue (passes_in table) passes) (versions : List Version) (x : AreHonestBeside (answers_with passes) pointer_limit h versions) where
+module _ (table : List Checked) (h : JudgeInput) (passes : Tried → Bool) (truly : AreTrue (passes_in table) passes) (versions : List Version) (x : AreHonestBeside (answers_with passes) pointer_limit h versions) where
   abbrev zone : Version → Zone
   zone v = zone_in h.apex v
 

@@ -4,7 +4,7 @@ use Rattle.std.specs.Option.{is_some}
 use Rattle.definitions.specs.Limits.{pointer_limit}
 use Rattle.definitions.specs.Name.{at_or_above}
 use Rattle.messages.specs.Message.{Asked}
-use Rattle.answer_judge_keys.specs.Judging.{Handing, answer_of}
+use Rattle.answer_judge_keys.specs.Judging.{JudgeInput, answer_of}
 use Rattle.answer_judge_keys.specs.declared.verdict.Lasting.{Lasting}
 use Rattle.answer_judge_keys.specs.declared.verdict.Refusal.{Refusal}
 use Rattle.answer_judge_table.specs.Asking.{AreAsked}
@@ -18,14 +18,14 @@ use Rattle.answer_findings.specs.Lasts.{lasting_by, lasting_found, lastings_of}
 use Rattle.answer_findings.specs.Seen.{Seen, found_by, hashed_by, lead_found, seen, verified_by}
 
 -- judgements of a case's messages: of the case itself, and of the questions that are sought
-pub record AreJudgements (table : List Checked) (h : Handing) (js : Judgements) : Type 0 where
+pub record AreJudgements (table : List Checked) (h : JudgeInput) (js : Judgements) : Type 0 where
   pub own : IsJudgedBy table h js.own
   pub alias : IsMadeOf table h (alias_question pointer_limit h (answer_of js.own)) js.alias
   pub ns : IsMadeOf table h (ns_question pointer_limit h (answer_of js.own)) js.ns
   pub ds : IsMadeOf table h (ds_question pointer_limit h (answer_of js.own) (is_some (lead_found h js.alias))) js.ds
 
 -- what they come to, how long that lasts, and how often was verified and hashed for all of them
-pub record IsFoundBy (table : List Checked) (h : Handing) (said : Result Seen Refusal) (lasting : Option Lasting) (verifications hashes : ℕ) : Type 0 where
+pub record IsFoundBy (table : List Checked) (h : JudgeInput) (said : Result Seen Refusal) (lasting : Option Lasting) (verifications hashes : ℕ) : Type 0 where
   pub judgements : Judgements
   pub are : AreJudgements table h judgements
   pub says : said ≡ found_by h judgements
@@ -34,24 +34,24 @@ pub record IsFoundBy (table : List Checked) (h : Handing) (said : Result Seen Re
   pub hashed : hashes ≡ hashed_by judgements
 
 -- what some judgements come to, how long that lasts, and their counts
-abbrev pub ComesTo : Handing → Judgements → Found → Type 0
+abbrev pub ComesTo : JudgeInput → Judgements → Found → Type 0
 ComesTo h js (f.Finds finding lasting verifications hashes) = (found_by h js ≡ Ok (seen finding)) × (lasting ≡ lasting_by (lastings_of js) (seen finding)) × (verifications ≡ verified_by js) × (hashes ≡ hashed_by js)
 ComesTo h js (f.Refused refusal verifications hashes) = (found_by h js ≡ Err refusal) × (verifications ≡ verified_by js) × (hashes ≡ hashed_by js)
 ComesTo h js (f.Asks asks) = ⊥
 
 -- a question of the case's class at its name or above it, up to the apex, for NS, CNAME, DNAME or DS
-pub record IsBeside (h : Handing) (asked : Asked) : Type 0 where
+pub record IsBeside (h : JudgeInput) (asked : Asked) : Type 0 where
   pub above : at_or_above asked.name h.asked.name ≡ true
   pub inside : at_or_above h.apex asked.name ≡ true
   pub class : asked.class ≡ h.asked.class
   pub rtype : (asked.rtype ≡ 2) ⊎ ((asked.rtype ≡ 5) ⊎ ((asked.rtype ≡ 39) ⊎ (asked.rtype ≡ 43)))
 
 -- signatures that are asked for, for the case itself or a question beside it
-abbrev pub AreAskedFor : List Checked → Handing → List Tried → Type 0
+abbrev pub AreAskedFor : List Checked → JudgeInput → List Tried → Type 0
 AreAskedFor table h asks = AreAsked table h asks ⊎ ((asked : Asked) × IsBeside h asked × AreAsked table (aside h asked) asks)
 
 -- what comes of a search
-abbrev pub IsFound : List Checked → Handing → Found → Type 0
+abbrev pub IsFound : List Checked → JudgeInput → Found → Type 0
 IsFound table h (f.Finds finding lasting verifications hashes) = IsFoundBy table h (Ok (seen finding)) lasting verifications hashes
 IsFound table h (f.Refused refusal verifications hashes) = IsFoundBy table h (Err refusal) None verifications hashes
 IsFound table h (f.Asks asks) = AreAskedFor table h asks.items

@@ -7,7 +7,7 @@ use Rattle.denial_laws.specs.Leading as leading
 use Rattle.messages.specs.Message.{Asked}
 use Rattle.messages.specs.NameOctets.{name_of_octets}
 use Rattle.answer_judge_rules.specs.Rules.{verdict_of}
-use Rattle.answer_judge_keys.specs.Judging.{Answer, Says, Refuses, Handing, answer_of, hashes_of, verifications_of}
+use Rattle.answer_judge_keys.specs.Judging.{Answer, Says, Refuses, JudgeInput, answer_of, hashes_of, verifications_of}
 use Rattle.answer_judge_keys.specs.declared.verdict.Refusal.{Refusal}
 use Rattle.answer_findings.specs.declared.finding.Finding.{Finding}
 use Rattle.answer_findings.specs.declared.finding.Finding.TheVariants as f
@@ -49,7 +49,7 @@ one_name (d ∷ []) = name_of_octets d
 one_name (d ∷ e ∷ ds) = None
 
 -- where a name's own CNAME leads it, or a DNAME above it, by the question that they answer
-abbrev pub own_lead : Handing → Asked → Name → Option Seen
+abbrev pub own_lead : JudgeInput → Asked → Name → Option Seen
 own_lead h asked target =
     if asked.rtype == 5 then Some (SeesAlias target)
     else if strictly_above asked.name h.asked.name then Some (SeesDname asked.name (exchanged h.asked.name asked.name target))
@@ -63,13 +63,13 @@ abbrev pub named_lead : (Name → Option Seen) → Option Name → Option Seen
 named_lead lead None = None
 named_lead lead (Some target) = lead target
 
-abbrev pub lead_said : Handing → Asked → Answer → Option Seen
+abbrev pub lead_said : JudgeInput → Asked → Answer → Option Seen
 lead_said h asked (Says (Records ds)) = named_lead (own_lead h asked) (one_name ds)
 lead_said h asked (Says (StarRecords ds)) = named_lead (star_lead asked) (one_name ds)
 lead_said h asked _ = None
 
 -- where a name leads that a judgement shows to be an alias, if it does
-abbrev pub lead_found : Handing → Option Made → Option Seen
+abbrev pub lead_found : JudgeInput → Option Made → Option Seen
 lead_found h None = None
 lead_found h (Some m) = lead_said h (question_of m) (answer_of m.said)
 
@@ -100,7 +100,7 @@ delegates_said (Says v) = Some (is_delegated v)
 delegates_said (Refuses e) = None
 
 -- whether a name that has no DS record is delegated, where that is proven; the apex is not
-abbrev pub delegates_found : Handing → Option Made → Option Bool
+abbrev pub delegates_found : JudgeInput → Option Made → Option Bool
 delegates_found h ns = if same h.asked.name h.apex then Some false else elim ns [ None ↦ None | Some m ↦ delegates_said (answer_of m.said) ]
 
 abbrev pub no_ds_found : Option Bool → Seen
@@ -110,7 +110,7 @@ no_ds_found (Some d) = SeesNoDs d
 -- ---- all of it
 
 -- The verdict is what it is, with the cut of a name that is delegated, and whether a name without DS is delegated.
-abbrev pub verdict_found : Handing → Option Made → Option Made → Verdict → Seen
+abbrev pub verdict_found : JudgeInput → Option Made → Option Made → Verdict → Seen
 verdict_found h ns ds v =
     if is_delegated v then SeesDelegated (cut_found ns ds)
     else if is_no_type v && (h.asked.rtype == 43) then no_ds_found (delegates_found h ns)
@@ -129,12 +129,12 @@ first_found (Some s) other = Some s
 abbrev pub refusal_found : Option Seen → Option Made → Refusal → Result Seen Refusal
 refusal_found lead ds e = if is_not_proven e then found_or e (first_found lead (referral_found ds)) else Err e
 
-abbrev pub answer_found : Handing → Judgements → Answer → Result Seen Refusal
+abbrev pub answer_found : JudgeInput → Judgements → Answer → Result Seen Refusal
 answer_found h js (Says v) = Ok (verdict_found h js.ns js.ds v)
 answer_found h js (Refuses e) = refusal_found (lead_found h js.alias) js.ds e
 
 -- what judgements come to
-abbrev pub found_by : Handing → Judgements → Result Seen Refusal
+abbrev pub found_by : JudgeInput → Judgements → Result Seen Refusal
 found_by h js = answer_found h js (answer_of js.own)
 
 -- ---- counts

@@ -9,7 +9,7 @@ use Rattle.messages.specs.Message.{Asked}
 use Rattle.answer_scheme.specs.Answers.{Answers}
 use Rattle.answer_judge_facts.specs.Honest.{AreHonest, IsSaidByOne}
 use Rattle.answer_judge_facts.specs.Versions.{Version, zone_in}
-use Rattle.answer_judge_keys.specs.Judging.{Handing}
+use Rattle.answer_judge_keys.specs.Judging.{JudgeInput}
 use Rattle.answer_judge_table.specs.Table.{AreTrue, Checked, Tried, answers_with, passes_in}
 use Rattle.answer_findings.specs.declared.finding.Found.{Found}
 use Rattle.answer_findings.specs.declared.finding.Found.TheVariants as f
@@ -19,20 +19,20 @@ use Rattle.answer_findings.specs.Laws.{HasRecords}
 use Rattle.answer_findings.specs.Seen.{Seen, SeesVerdict, SeesDelegated, SeesNoDs, SeesAlias, SeesStarAlias, SeesDname, SeesReferral, seen}
 
 -- Nothing is forged in the messages, whichever of these questions they are judged for: the case's own, and those beside it.
-pub record AreHonestBeside (a : Answers) (k : ℕ) (h : Handing) (versions : List Version) : Type 0 where
+pub record AreHonestBeside (a : Answers) (k : ℕ) (h : JudgeInput) (versions : List Version) : Type 0 where
   pub itself : AreHonest a k h versions
   pub beside : (asked : Asked) → IsBeside h asked → AreHonest a k (aside h asked) versions
 
 -- In a version of the zone this is the verdict on the CNAME of the question's name, its own or that of the wildcard that stands
 -- for it, and the name leads to the target.
-pub record IsAliasInOne (h : Handing) (versions : List Version) (said : Verdict) (target : Name) : Type 0 where
+pub record IsAliasInOne (h : JudgeInput) (versions : List Version) (said : Verdict) (target : Name) : Type 0 where
   pub version : Version
   pub there : Contains versions version
   pub says : verdict (zone_in h.apex version) (optout_of version.mode) h.asked.name 5 ≡ said
   pub leads : LeadsTo (zone_in h.apex version) (optout_of version.mode) h.asked.name h.asked.rtype (To target)
 
 -- A version of the zone has a DNAME record at the owner, which is above the name, and redirects the name.
-pub record IsRedirectedInOne (h : Handing) (versions : List Version) (owner : Name) (lead : Lead) : Type 0 where
+pub record IsRedirectedInOne (h : JudgeInput) (versions : List Version) (owner : Name) (lead : Lead) : Type 0 where
   pub version : Version
   pub there : Contains versions version
   pub target : Name
@@ -42,7 +42,7 @@ pub record IsRedirectedInOne (h : Handing) (versions : List Version) (owner : Na
   pub leads : LeadsTo (zone_in h.apex version) (optout_of version.mode) h.asked.name h.asked.rtype lead
 
 -- A version of the zone has these DS records at the cut, which is at or above the name, and below the apex.
-pub record HasDsInOne (h : Handing) (versions : List Version) (c : Name) (ds : List (List ℕ)) : Type 0 where
+pub record HasDsInOne (h : JudgeInput) (versions : List Version) (c : Name) (ds : List (List ℕ)) : Type 0 where
   pub version : Version
   pub there : Contains versions version
   pub has : HasRecords (zone_in h.apex version) c 43 ds
@@ -50,16 +50,16 @@ pub record HasDsInOne (h : Handing) (versions : List Version) (c : Name) (ds : L
   pub above : at_or_above c h.asked.name ≡ true
 
 -- of a zone that doesn't change the cut is the topmost delegation at or above the name
-abbrev pub CutsAt : Handing → List Version → Option Name → Type 0
+abbrev pub CutsAt : JudgeInput → List Version → Option Name → Type 0
 CutsAt h versions None = Unit {0}
 CutsAt h versions (Some c) = (v : Version) → versions ≡ v ∷ [] → cut (zone_in h.apex v) (low h.asked.name) ≡ Some (low c)
 
 -- a zone that doesn't change delegates the name exactly then
-abbrev pub Delegates : Handing → List Version → Bool → Type 0
+abbrev pub Delegates : JudgeInput → List Version → Bool → Type 0
 Delegates h versions d = (v : Version) → versions ≡ v ∷ [] → (d ≡ true) ↔ (is_delegation (zone_in h.apex v) (low h.asked.name) ≡ true)
 
 -- what is found is so of a version of the zone
-abbrev pub IsSo : Handing → List Version → Seen → Type 0
+abbrev pub IsSo : JudgeInput → List Version → Seen → Type 0
 IsSo h versions (SeesVerdict v) = IsSaidByOne h versions v
 IsSo h versions (SeesDelegated c) = IsSaidByOne h versions Delegated × CutsAt h versions c
 IsSo h versions (SeesNoDs d) = IsSaidByOne h versions NoType × Delegates h versions d
@@ -69,11 +69,11 @@ IsSo h versions (SeesDname owner lead) = IsRedirectedInOne h versions owner lead
 IsSo h versions (SeesReferral c ds) = HasDsInOne h versions c ds
 
 -- Whatever signatures truly pass, those that pass in the table among them, of honest messages nothing is found but what is so.
-abbrev pub IsTruly : List Checked → Handing → Seen → Type 0
+abbrev pub IsTruly : List Checked → JudgeInput → Seen → Type 0
 IsTruly table h said =
     (passes : Tried → Bool) (versions : List Version)
     → AreTrue (passes_in table) passes → AreHonestBeside (answers_with passes) pointer_limit h versions → IsSo h versions said
 
-abbrev pub FindsTruly : List Checked → Handing → Found → Type 0
+abbrev pub FindsTruly : List Checked → JudgeInput → Found → Type 0
 FindsTruly table h (f.Finds finding lasting verifications hashes) = IsTruly table h (seen finding)
 FindsTruly table h _ = Unit {0}

@@ -7,7 +7,7 @@ use Rattle.definitions.specs.Signing.{Fields, ascending, signed_octets}
 use Rattle.messages.specs.Message.{AreOctets, Message, Spelled}
 use Rattle.messages.proofs.Lists.{all_at}
 use Rattle.answer_scheme.specs.Answers.{Answers}
-use Rattle.answer_judge_keys.specs.Judging.{Handing, keys_in}
+use Rattle.answer_judge_keys.specs.Judging.{JudgeInput, keys_in}
 use Rattle.answer_judge_facts.specs.Sought.{Sought}
 use Rattle.answer_judge_facts.specs.Verified.{datum_of}
 use Rattle.answer_judge_facts.specs.Honest.{NothingForged, WasSigned, sought_of_answer, sought_of_keys}
@@ -22,7 +22,7 @@ pub record IsSorted (ds : List (List ℕ)) : Type 0 where
   pub data_are : AllByRecursion IsDatum ds
   pub rising : ascending ds ≡ Rattle.std.specs.Prelude.true
 
-module _ (a : Answers) (k : ℕ) (h : Handing) (published : List Dnskey) (Signed : List ℕ → Type 0) where
+module _ (a : Answers) (k : ℕ) (h : JudgeInput) (published : List Dnskey) (Signed : List ℕ → Type 0) where
   of_sought : (sought : List Spelled → Sought) (m : List ℕ) → ((read : Message) (r : Spelled) (f : Fields) → AllByRecursion ReadsRecord read.records → IsSorted ((sought read.records).datas r.owner f.covered))
       → AreOctets m → NothingForgedAtAll a k h.now published Signed m → NothingForged a k h published Signed sought m
   of_sought sought m sorted octets unforged read r f signature key reads used inside usable some passes =

@@ -18,7 +18,7 @@ use Rattle.answer_shared.proofs.FactsCase.{links_lowered}
 use Rattle.answer_shared.proofs.Servable.{allowed_answers_decide, asked_inside}
 use Rattle.answer_scheme.specs.Answers.{Answers}
 use Rattle.answer_judge_facts.specs.Judged.{AnswersAs, are_mixed, are_over, by_facts, decided_by, facts_in, is_unhashed, judged, judged_facts, judged_proof, trusting}
-use Rattle.answer_judge_keys.specs.Judging.{Answer, Handing, Refuses, Says}
+use Rattle.answer_judge_keys.specs.Judging.{Answer, JudgeInput, Refuses, Says}
 use Rattle.answer_judge.specs.Meeting.{AnswersGiven, WasGiven}
 use Rattle.answer_judge.specs.OwnFacts.{TellsZone}
 use Rattle.answer_judge_keys.specs.declared.verdict.Refusal.TheVariants as r
@@ -42,7 +42,7 @@ by_tests mixed over unhashed v =
     else by_facts v
 
 -- the tests see neither links of names nor the case of the names in them
-judged_lowered : (a : Answers) (h : Handing) (f : Facts) → judged_facts a h (low_facts f) ≡ judged_facts a h f
+judged_lowered : (a : Answers) (h : JudgeInput) (f : Facts) → judged_facts a h (low_facts f) ≡ judged_facts a h f
 judged_lowered a h f = ap (by_tests (are_mixed f.hash_links) (are_over h.limit f.hash_links) (is_unhashed a h f)) (links_lowered h.apex (hash_among a.hash f.hash_links) f h.asked.name h.asked.rtype)
 
 -- the links of a zone's chain are of one kind
@@ -57,7 +57,7 @@ own_hashed z hash (Nsec3 iterations salt optout) qs = mapped_say z hash iteratio
 -- ---- what was given
 
 -- what was given tells the zone's answer, under the usable keys of the DNSKEY answer
-abbrev tells_zone : (a : Answers) (k : ℕ) (h : Handing) (mode : Mode) (rs : List HandedRr) (short : h.limit < 65536) (given : WasGiven a k h mode rs) → TellsZone (trusting a h (usable_keys a k h mode rs given)) k mode rs h.asked h.answer_bytes
+abbrev tells_zone : (a : Answers) (k : ℕ) (h : JudgeInput) (mode : Mode) (rs : List HandedRr) (short : h.limit < 65536) (given : WasGiven a k h mode rs) → TellsZone (trusting a h (usable_keys a k h mode rs given)) k mode rs h.asked h.answer_bytes
 tells_zone a k h mode rs short given = record {
   limit = h.limit;
   at = given.answer_at;
@@ -75,7 +75,7 @@ tells_zone a k h mode rs short given = record {
   hold = given.answer_holds;
 }
 
-module _ (a : Answers) (k : ℕ) (h : Handing) (mode : Mode) (rs : List HandedRr) (short : h.limit < 65536) (given : WasGiven a k h mode rs) where
+module _ (a : Answers) (k : ℕ) (h : JudgeInput) (mode : Mode) (rs : List HandedRr) (short : h.limit < 65536) (given : WasGiven a k h mode rs) where
   abbrev z : Zone
   z = zone_of h.apex rs
 
@@ -129,5 +129,5 @@ module _ (a : Answers) (k : ℕ) (h : Handing) (mode : Mode) (rs : List HandedRr
       ∙ sym (judged_lowered a h f) ∙ ap (judged_facts a h) told ∙ own_judged
 
 -- an answer that is exact says the zone's verdict; limits are numbers of 16 bits
-pub answers_given : (a : Answers) (k : ℕ) (h : Handing) (answer : Answer) → h.limit < 65536 → AnswersAs answer (judged a k h) → AnswersGiven a k h answer
+pub answers_given : (a : Answers) (k : ℕ) (h : JudgeInput) (answer : Answer) → h.limit < 65536 → AnswersAs answer (judged a k h) → AnswersGiven a k h answer
 answers_given a k h answer short exact mode rs given = ⊎_elim (λ memory. inl memory) (λ said. inr (said ∙ judged_as_zone a k h mode rs short given)) exact

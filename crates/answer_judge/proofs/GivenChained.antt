@@ -13,10 +13,10 @@ use Rattle.definitions.specs.Zone.{sorted_data}
 use Rattle.definitions.specs.ZoneChain.{Mode}
 use Rattle.messages.specs.HandedRr.{HandedRr}
 use Rattle.answer_scheme.specs.Answers.{Answers}
-use Rattle.answer_judge_keys.specs.Trusted.{digests_to, is_trusted, is_usable, names_key}
+use Rattle.answer_judge_keys.specs.Trusted.{digests_to, is_trusted, is_usable, matches_key}
 use Rattle.answer_shared.specs.Told.{TellsGroups, AreRecords, AreSignatures, TellsKeys, IsRecord, IsSignature, fields_for}
-use Rattle.answer_judge_facts.specs.Judged.{is_chained, keys_of, trusting}
-use Rattle.answer_judge_keys.specs.Judging.{Handing, key_at, keys_in}
+use Rattle.answer_judge_facts.specs.Judged.{ds_authenticates_keys, keys_of, trusting}
+use Rattle.answer_judge_keys.specs.Judging.{JudgeInput, key_at, keys_in}
 use Rattle.answer_shared.specs.EqualTags.{has_equal_tags}
 use Rattle.answer_judge.specs.Meeting.{HasDs, WasGiven}
 use Rattle.messages.specs.Message.{Spelled, data_of}
@@ -119,10 +119,10 @@ pub trusted_given : (a : Answers) (apex : Name) (ds : List Ds) (k : Dnskey) → 
 trusted_given a apex ds k usable has =
     let d : Ds = record { tag = key_tag k; algorithm = k.algorithm; digest_type = has.digest_type; digest = has.digest } in
     let digests : digests_to a apex k d ≡ true = ap (λ (o : Option (List ℕ)). elim o [ None ↦ false | Some octets ↦ bytes_eq octets has.digest ]) has.made ∙ bytes_itself has.digest in
-    let named : names_key a apex k d ≡ true = and_from _ _ (and_from _ _ (eq-eqb (key_tag k) (key_tag k) refl) (eq-eqb k.algorithm k.algorithm refl)) digests in
-    and_from (is_usable k) (list_any (names_key a apex k) ds) usable (any_from (names_key a apex k) ds d (has_contained ds d has.held) named)
+    let named : matches_key a apex k d ≡ true = and_from _ _ (and_from _ _ (eq-eqb (key_tag k) (key_tag k) refl) (eq-eqb k.algorithm k.algorithm refl)) digests in
+    and_from (is_usable k) (list_any (matches_key a apex k) ds) usable (any_from (matches_key a apex k) ds d (has_contained ds d has.held) named)
 
-pub chained_given : (a : Answers) (k : ℕ) (h : Handing) (mode : Mode) (rs : List HandedRr) → (given : WasGiven a k h mode rs) → is_chained a k h given.keys_told.read ≡ true
+pub chained_given : (a : Answers) (k : ℕ) (h : JudgeInput) (mode : Mode) (rs : List HandedRr) → (given : WasGiven a k h mode rs) → ds_authenticates_keys a k h given.keys_told.read ≡ true
 chained_given a k h mode rs given =
     let gives = given.keys_told in
     let ttl : ℕ = given.keys_ttl in

@@ -16,7 +16,7 @@ use Rattle.answer_judge_keys.specs.declared.verdict.Refusal.{Refusal}
 use Rattle.answer_judge_keys.specs.declared.verdict.Refusal.TheVariants as r
 use Rattle.messages.specs.declared.error.MessageError.{MessageError}
 use Rattle.answer_judge_facts.specs.Judged.{judged, judged_answer, judged_messages, keys_of}
-use Rattle.answer_judge_keys.specs.Judging.{Answer, Handing, Refuses, Says, first_refusal, is_judged, may_ask, message_refusal, same_question}
+use Rattle.answer_judge_keys.specs.Judging.{Answer, JudgeInput, Refuses, Says, first_refusal, is_judged, may_ask, message_refusal, same_question}
 use Rattle.answer_shared.specs.EqualTags.{has_equal_tags}
 use Rattle.answer_judge.specs.Meeting.{HasDs, WasGiven}
 use Rattle.messages.specs.Message.{Asked, Message}
@@ -44,7 +44,7 @@ two_messages keys answer f = elim keys [
 abbrev refusal_by : Bool → Bool → Option Refusal
 refusal_by asked tags = if not asked then Some r.QuestionMismatch else if tags then Some r.EqualTags else None
 
-abbrev refusal_of : Handing → Message → Message → Option Refusal
+abbrev refusal_of : JudgeInput → Message → Message → Option Refusal
 refusal_of h keys answer = refusal_by (same_question keys.asked (question_of h.apex) && may_ask h answer.asked) (has_equal_tags (keys_of h keys))
 
 abbrev first_by : Bool → Bool → Option Refusal → Option Refusal
@@ -62,7 +62,7 @@ answers_by keys answer f = elim keys [
 abbrev chained_by : Bool → Answer → Answer
 chained_by chained later = elim chained [ true ↦ later | false ↦ Refuses r.NoTrustedKey ]
 
-module _ (a : Answers) (k : ℕ) (h : Handing) (mode : Mode) (rs : List HandedRr) (given : WasGiven a k h mode rs) where
+module _ (a : Answers) (k : ℕ) (h : JudgeInput) (mode : Mode) (rs : List HandedRr) (given : WasGiven a k h mode rs) where
   abbrev read_keys : List Dnskey
   read_keys = keys_of h given.keys_told.read
 

@@ -26,7 +26,7 @@ use Rattle.answer_judge_facts.specs.Honest.{IsHonest, Signing, WasSigned, sought
 use Rattle.answer_judge_facts.specs.Versions.{IsOfChain, IsRrsetOf, OfZone, OfChain, OfParameters, SignedRrset, Version, zone_in}
 use Rattle.answer_judge_keys.specs.Trusted.{labels_fit, may_expand}
 use Rattle.answer_judge_facts.specs.Judged.{trusting}
-use Rattle.answer_judge_keys.specs.Judging.{Handing}
+use Rattle.answer_judge_keys.specs.Judging.{JudgeInput}
 use Rattle.answer_judge_facts.specs.Sought.{answer_sought}
 use Rattle.answer_judge_facts.specs.Verified.{Trusting, datum_of, hash_link_at, hash_link_with, is_hash_alone, is_hash_link, is_link, is_verified, link_at, link_of, rrset_in, verified_by, verified_rrset}
 use Rattle.answer_judge.proofs.GivenNext.{canonical_nsec, canonical_nsec3}
@@ -131,7 +131,7 @@ pub record IsHashRecord (z : Zone) (hash : Name → List ℕ) (mode : Mode) (m :
 
 -- ---- what is found in an honest answer
 
-module _ (a : Answers) (k : ℕ) (h : Handing) (published : List Dnskey) (signings : List Signing) (read : Message)
+module _ (a : Answers) (k : ℕ) (h : JudgeInput) (published : List Dnskey) (signings : List Signing) (read : Message)
     (honest : IsHonest a k h published (WasSigned a h.apex published signings) (sought_of_answer k h) h.answer_bytes) (reads : message k h.answer_bytes ≡ Ok read) (keys : List Dnskey) (signers : (key : Dnskey) → Has keys key → IsSigner published key) where
   abbrev items : Name → ℕ → List (List ℕ)
   items owner u = rrset_in k h.answer_bytes read.records owner u
@@ -166,13 +166,13 @@ module _ (a : Answers) (k : ℕ) (h : Handing) (published : List Dnskey) (signin
       }
 
 -- What is used of an answer is of one version: each RRset that is sought, as its first signature verifies it.
-abbrev pub IsOfVersion : Answers → ℕ → Handing → Version → Message → List Dnskey → Type 0
+abbrev pub IsOfVersion : Answers → ℕ → JudgeInput → Version → Message → List Dnskey → Type 0
 IsOfVersion a k h v read keys =
     (owner : Name) (u : ℕ) → (sought_of_answer k h read.records).is owner u ≡ true → eqb u 48 ≡ false
     → (f : Fields) → verified_by (trusting a h keys) k h.answer_bytes read.records owner u (rrset_in k h.answer_bytes read.records owner u) ≡ Some f
     → IsOf h.apex (hash_in a.hash v.mode) v f owner (rrset_in k h.answer_bytes read.records owner u)
 
-module _ (a : Answers) (k : ℕ) (h : Handing) (v : Version) (known : IsKnown h.apex v) (read : Message) (keys : List Dnskey) (asked : is_added_type h.asked.rtype ≡ false) (is_of : IsOfVersion a k h v read keys) where
+module _ (a : Answers) (k : ℕ) (h : JudgeInput) (v : Version) (known : IsKnown h.apex v) (read : Message) (keys : List Dnskey) (asked : is_added_type h.asked.rtype ≡ false) (is_of : IsOfVersion a k h v read keys) where
   abbrev zone_here : Zone
   zone_here = zone_in h.apex v
 

@@ -19,7 +19,7 @@ use Rattle.answer_judge_facts.specs.Honest.{AnswersHonest, AreHonest, FewIterati
 use Rattle.answer_judge_facts.specs.Versions.{Version, zone_in}
 use Rattle.answer_judge_keys.specs.Trusted.{is_usable}
 use Rattle.answer_judge_facts.specs.Judged.{AnswersAs, judged, keys_of}
-use Rattle.answer_judge_keys.specs.Judging.{Answer, Handing, Refuses, Says}
+use Rattle.answer_judge_keys.specs.Judging.{Answer, JudgeInput, Refuses, Says}
 use Rattle.answer_judge_keys.specs.declared.verdict.Refusal.TheVariants as r
 use Rattle.answer_judge.proofs.GivenFacts.{FitsRecords}
 use Rattle.answer_judge.proofs.GivenHashing.{hashes_agree}
@@ -49,7 +49,7 @@ first_of [] h = absurd (h refl)
 first_of (x ∷ xs) h = (x, inl refl)
 
 -- that are settled: at one moment there is one, or the answer has one RRset
-settled_so : (k : ℕ) (h : Handing) (versions : List Version) (signings : List Signing) → ((s : Signing) → Has signings s → Has versions s.version) → Settled k h versions signings → AreOfOne h signings ⊎ HasOneRrset k h
+settled_so : (k : ℕ) (h : JudgeInput) (versions : List Version) (signings : List Signing) → ((s : Signing) → Has signings s → Has versions s.version) → Settled k h versions signings → AreOfOne h signings ⊎ HasOneRrset k h
 settled_so k h versions signings of settled = ⊎_elim
     (λ (single : length versions ≡ 1). inl (λ x y i j alike. only_one versions x.version y.version single (of x i) (of y j)))
     (λ (more : ((h.one_moment ≡ true) × OneAtATime signings) ⊎ HasOneRrset k h). ⊎_elim
@@ -63,7 +63,7 @@ fits_records : (hash : Hasher) (z : Zone) (mode : Mode) → FewIterations mode �
 fits_records hash z Nsec few chain = tt
 fits_records hash z (Nsec3 iterations salt optout) few chain = (few, chain.octets)
 
-module _ (a : Answers) (k : ℕ) (h : Handing) (versions : List Version) (x : AreHonest a k h versions) where
+module _ (a : Answers) (k : ℕ) (h : JudgeInput) (versions : List Version) (x : AreHonest a k h versions) where
   version_is : (v : Version) → Has versions v → IsVersion a h v
   version_is v i = all_at (IsVersion a h) versions v x.versions_are i
 
@@ -103,7 +103,7 @@ module _ (a : Answers) (k : ℕ) (h : Handing) (versions : List Version) (x : Ar
   says_truly (Refuses f) e = tt
 
 -- an answer that is exact, memory aside
-pub answers_honest : (a : Answers) (k : ℕ) (h : Handing) (answer : Answer) → AnswersAs answer (judged a k h) → AnswersHonest a k h answer
+pub answers_honest : (a : Answers) (k : ℕ) (h : JudgeInput) (answer : Answer) → AnswersAs answer (judged a k h) → AnswersHonest a k h answer
 answers_honest a k h answer exact versions x =
     ⊎_elim
     (λ (memory : answer ≡ Refuses r.Memory). subst (SaysOneOf h versions) (sym memory) tt)

@@ -19,9 +19,9 @@ use Rattle.answer_shared.proofs.KeyData.{key_read_back}
 use Rattle.answer_scheme.specs.Answers.{Answers}
 use Rattle.answer_judge_facts.specs.Honest.{IsHonest, NoStranger, Signing, WasSigned, sought_of_keys}
 use Rattle.answer_judge_facts.specs.Versions.{IsOfChain, IsRrsetOf, OfZone, OfChain, OfParameters, SignedRrset, Version, zone_in}
-use Rattle.answer_judge_keys.specs.Trusted.{is_trusted, is_usable, names_key}
-use Rattle.answer_judge_facts.specs.Judged.{is_chained, keys_of, trusting}
-use Rattle.answer_judge_keys.specs.Judging.{Handing, key_at, keys_in}
+use Rattle.answer_judge_keys.specs.Trusted.{is_trusted, is_usable, matches_key}
+use Rattle.answer_judge_facts.specs.Judged.{ds_authenticates_keys, keys_of, trusting}
+use Rattle.answer_judge_keys.specs.Judging.{JudgeInput, key_at, keys_in}
 use Rattle.answer_judge_keys.proofs.GivenKeys.{IsKeyData, data_of_key, key_data}
 use Rattle.answer_judge.proofs.GivenLists.{contained_has, has_contained}
 use Rattle.answer_judge_keys.proofs.GivenSorted.{data_has, sorted_from}
@@ -98,7 +98,7 @@ no_keys apex hash v known g (OfZone signed datas) e = not_added apex v known.ser
 no_keys apex hash v known g (OfChain is) e = chain_other (zone_in apex v) hash v.mode g is e
 no_keys apex hash v known g (OfParameters o e) f = false≢true (ap (λ n. eqb n 48) (sym e ∙ f))
 
-module _ (a : Answers) (k : ℕ) (h : Handing) (published : List Dnskey) (signings : List Signing) (known : (s : Signing) → Has signings s → IsKnown h.apex s.version) (read : Message)
+module _ (a : Answers) (k : ℕ) (h : JudgeInput) (published : List Dnskey) (signings : List Signing) (known : (s : Signing) → Has signings s → IsKnown h.apex s.version) (read : Message)
     (honest : IsHonest a k h published (WasSigned a h.apex published signings) (sought_of_keys h) h.dnskey_bytes) (reads : message k h.dnskey_bytes ≡ Ok read) (keys_known : NoStranger a k h published)
     (flags_are : AllByRecursion (λ (key : Dnskey). key.flags < 65536) published) where
   abbrev keys : List Dnskey
@@ -113,7 +113,7 @@ module _ (a : Answers) (k : ℕ) (h : Handing) (published : List Dnskey) (signin
       let p = passes_has (is_trusted a h.apex h.ds) keys key i in
       record {
         known = keys_known read key reads (contained_has keys key p.0) p.1;
-        usable = (and_parts (is_usable key) (list_any (names_key a h.apex key) h.ds) p.1).0;
+        usable = (and_parts (is_usable key) (list_any (matches_key a h.apex key) h.ds) p.1).0;
       }
 
   abbrev items : List (List ℕ)
@@ -133,7 +133,7 @@ module _ (a : Answers) (k : ℕ) (h : Handing) (published : List Dnskey) (signin
       let one : p.key ≡ key = some_is p.key key (sym p.reads ∙ key_read_back key (is_read_key h.dnskey_bytes h.apex read.records honest.octets_are records_are key i).small) in
       subst (Contains published) one (all_at (Contains published) present p.key of p.inside)
 
-  module _ (chained : is_chained a k h read ≡ true) where
+  module _ (chained : ds_authenticates_keys a k h read ≡ true) where
     abbrev x : Found (trusting a h trusted) k h.dnskey_bytes read.records h.apex 48 items
     x = found_verifying (trusting a h trusted) k h.dnskey_bytes read.records h.apex 48 items chained
 

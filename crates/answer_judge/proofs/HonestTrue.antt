@@ -13,7 +13,7 @@ use Rattle.answer_scheme.specs.Answers.{Answers}
 use Rattle.answer_shared.specs.Hashing.{hash_in}
 use Rattle.answer_judge_facts.specs.Versions.{Version, zone_in}
 use Rattle.answer_judge_facts.specs.Judged.{trusting}
-use Rattle.answer_judge_keys.specs.Judging.{Handing}
+use Rattle.answer_judge_keys.specs.Judging.{JudgeInput}
 use Rattle.answer_judge_facts.specs.Verified.{Trusting, hash_link_at, link_at, verified_facts}
 use Rattle.answer_judge_facts.proofs.KeptItems.{all_kept_of, none_kept_of}
 use Rattle.answer_judge.proofs.GivenFacts.{FitsRecords}
@@ -26,7 +26,7 @@ pub record AreTrueHere (apex : Name) (hash : Name → List ℕ) (v : Version) (q
   pub true_facts : AreTrue (zone_in apex v) hash v.mode q t f
   pub hashed : AreHashedBy v.mode f.hash_links
 
-module _ (a : Answers) (k : ℕ) (h : Handing) (rs : List Rattle.messages.specs.HandedRr.HandedRr) (read : Message) (keys : List Dnskey) (asked : is_added_type h.asked.rtype ≡ false) (octets : AreOctets h.answer_bytes) where
+module _ (a : Answers) (k : ℕ) (h : JudgeInput) (rs : List Rattle.messages.specs.HandedRr.HandedRr) (read : Message) (keys : List Dnskey) (asked : is_added_type h.asked.rtype ≡ false) (octets : AreOctets h.answer_bytes) where
   abbrev w : Trusting
   w = trusting a h keys
 

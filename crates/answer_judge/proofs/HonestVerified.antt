@@ -21,7 +21,7 @@ use Rattle.answer_scheme.specs.Answers.{Answers}
 use Rattle.answer_judge_keys.specs.Trusted.{fits_key, is_due, is_signature, is_usable, labels_fit, signs}
 use Rattle.answer_judge_facts.specs.Honest.{IsHonest, MayBeUsed, over}
 use Rattle.answer_judge_facts.specs.Judged.{trusting}
-use Rattle.answer_judge_keys.specs.Judging.{Handing}
+use Rattle.answer_judge_keys.specs.Judging.{JudgeInput}
 use Rattle.answer_judge_facts.specs.Sought.{Sought}
 use Rattle.answer_judge_facts.specs.Verified.{Trusting, is_verified, verified_by, verified_with, verifies_with}
 use Rattle.answer_judge.proofs.FirstSigns.{opened, read_of}
@@ -211,7 +211,7 @@ pub record IsOver (Signed : List ℕ → Type 0) (f : Fields) (owner : Name) (it
   pub there : Signed (signed_octets f owner 1 items)
 
 -- its owner is spelled as the signature's
-pub over_signed : (a : Answers) (k : ℕ) (h : Handing) (published : List Dnskey) (Signed : List ℕ → Type 0) (sought : List Spelled → Sought) (m : List ℕ) (read : Message) → IsHonest a k h published Signed sought m → message k m ≡ Ok read
+pub over_signed : (a : Answers) (k : ℕ) (h : JudgeInput) (published : List Dnskey) (Signed : List ℕ → Type 0) (sought : List Spelled → Sought) (m : List ℕ) (read : Message) → IsHonest a k h published Signed sought m → message k m ≡ Ok read
     → (keys : List Dnskey) → ((key : Dnskey) → Has keys key → IsSigner published key) → (owner : Name) (t : ℕ) (items : List (List ℕ)) → AllByRecursion IsDatum items
     → (x : Found (trusting a h keys) k m read.records owner t items) → (sought read.records).is x.spelled.owner x.by.fields.covered ≡ true → (sought read.records).datas x.spelled.owner x.by.fields.covered ≡ items
     → IsOver Signed x.by.fields x.spelled.owner items

@@ -13,7 +13,7 @@ use Rattle.answer_shared.specs.Hashing.{hash_in}
 use Rattle.answer_judge_facts.specs.Honest.{HasOneRrset, IsHonest, Signing, WasSigned, sought_of_answer}
 use Rattle.answer_judge_facts.specs.Versions.{Version}
 use Rattle.answer_judge_facts.specs.Judged.{trusting}
-use Rattle.answer_judge_keys.specs.Judging.{Handing}
+use Rattle.answer_judge_keys.specs.Judging.{JudgeInput}
 use Rattle.answer_judge_facts.specs.Times.{Times, are_unlike, proof_times, times_at, times_of}
 use Rattle.answer_judge_facts.specs.Verified.{Trusting, rrset_in, verified_by}
 use Rattle.answer_judge_facts.proofs.JudgeCase.{rrset_in-owner, signed_owner-owner}
@@ -24,10 +24,10 @@ use Rattle.answer_judge.proofs.HonestTold.{IsOf, IsOfSigning}
 use Rattle.answer_judge.proofs.HonestVerified.{IsSigner, first_verifying}
 
 -- what was signed and may be used together is of one version
-abbrev pub AreOfOne : Handing → List Signing → Type 0
+abbrev pub AreOfOne : JudgeInput → List Signing → Type 0
 AreOfOne h signings = (x y : Signing) → Has signings x → Has signings y → (h.one_moment ≡ true → x.times ≡ y.times) → x.version ≡ y.version
 
-module _ (a : Answers) (k : ℕ) (h : Handing) (published : List Dnskey) (signings : List Signing) (read : Message)
+module _ (a : Answers) (k : ℕ) (h : JudgeInput) (published : List Dnskey) (signings : List Signing) (read : Message)
     (honest : IsHonest a k h published (WasSigned a h.apex published signings) (sought_of_answer k h) h.answer_bytes) (reads : message k h.answer_bytes ≡ Ok read) (keys : List Dnskey) (signers : (key : Dnskey) → Has keys key → IsSigner published key)
     (asked : eqb h.asked.rtype 48 ≡ false) where
   abbrev w : Trusting

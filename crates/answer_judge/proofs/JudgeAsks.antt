@@ -10,13 +10,13 @@ use Rattle.answer_scheme.specs.Answers.{Answers, SignatureTest}
 use Rattle.answer_judge.specs.Stages.{trusting_named}
 use Rattle.answer_judge_facts.specs.Asked.{Implies, is_tried_among, is_tried_beyond, is_tried_in_bytes, is_tried_in_messages, is_tried_of_answer, is_tried_signature}
 use Rattle.answer_judge_keys.specs.Trusted.{is_usable}
-use Rattle.answer_judge_facts.specs.Judged.{is_chained, keys_of, trusting}
-use Rattle.answer_judge_keys.specs.Judging.{Handing, is_judged, keys_in, message_refusal}
+use Rattle.answer_judge_facts.specs.Judged.{ds_authenticates_keys, keys_of, trusting}
+use Rattle.answer_judge_keys.specs.Judging.{JudgeInput, is_judged, keys_in, message_refusal}
 use Rattle.answer_judge_keys.specs.declared.verdict.Refusal.TheVariants as r
 use Rattle.answer_judge_facts.specs.Sought.{answer_sought, keys_sought}
 
 -- both messages were read, and they bring no refusal
-module _ (a : Answers) (h : Handing) (keys answer : Message) (none : message_refusal pointer_limit h ≡ None) (d : message pointer_limit h.dnskey_bytes ≡ Ok keys) (z : message pointer_limit h.answer_bytes ≡ Ok answer) where
+module _ (a : Answers) (h : JudgeInput) (keys answer : Message) (none : message_refusal pointer_limit h ≡ None) (d : message pointer_limit h.dnskey_bytes ≡ Ok keys) (z : message pointer_limit h.answer_bytes ≡ Ok answer) where
   tried_beyond : (key : Dnskey) (octets signature : List ℕ) → is_tried_in_messages a pointer_limit h keys answer key octets signature ≡ true → is_tried_beyond a pointer_limit h key octets signature ≡ true
   tried_beyond key octets signature tried =
       (λ i. elim (none i) as (λ _. Bool) [ Some e ↦ false | None ↦ is_tried_in_bytes a pointer_limit h key octets signature ])
@@ -35,7 +35,7 @@ module _ (a : Answers) (h : Handing) (keys answer : Message) (none : message_ref
       (λ key octets signature tried. implies key octets signature (tried_beyond key octets signature (or_left _ _ tried)))
 
   -- and of the answer, where the keys are verified
-  pub answer_pass : (test : SignatureTest) (later : Answers) (rs : List Spelled) (usable : List Dnskey) → Implies (is_tried_beyond a pointer_limit h) test → later ≡ a → true ≡ is_chained a pointer_limit h keys → rs ≡ answer.records → usable ≡ filter is_usable (keys_of h keys)
+  pub answer_pass : (test : SignatureTest) (later : Answers) (rs : List Spelled) (usable : List Dnskey) → Implies (is_tried_beyond a pointer_limit h) test → later ≡ a → true ≡ ds_authenticates_keys a pointer_limit h keys → rs ≡ answer.records → usable ≡ filter is_usable (keys_of h keys)
       → Implies (is_tried_among (trusting later h usable) pointer_limit h.answer_bytes (answer_sought pointer_limit h.answer_bytes h.apex rs h.asked.name h.asked.rtype) [] rs) test
   answer_pass test later rs usable implies same chained e u =
       transport (λ i. Implies (is_tried_among (trusting (sym same i) h (sym u i)) pointer_limit h.answer_bytes (answer_sought pointer_limit h.answer_bytes h.apex (sym e i) h.asked.name h.asked.rtype) [] (sym e i)) test)
@@ -43,7 +43,7 @@ module _ (a : Answers) (h : Handing) (keys answer : Message) (none : message_ref
       (tried_beyond key octets signature (or_right _ _ ((λ i. sym chained i && is_tried_of_answer a pointer_limit h keys answer key octets signature) ∙ tried))))
 
 -- beside a DS set that isn't empty, of a question that is judged
-pub case_passes : (own was : Answers) (h : Handing) (test : SignatureTest) → was ≡ own → is_judged h ≡ true → nat_eq (length h.ds) 0 ≡ false → Implies (is_tried_signature own pointer_limit h) test → Implies (is_tried_beyond was pointer_limit h) test
+pub case_passes : (own was : Answers) (h : JudgeInput) (test : SignatureTest) → was ≡ own → is_judged h ≡ true → nat_eq (length h.ds) 0 ≡ false → Implies (is_tried_signature own pointer_limit h) test → Implies (is_tried_beyond was pointer_limit h) test
 case_passes own was h test same allowed some implies key octets signature tried =
     implies key octets signature
     ((λ i. elim (if not (allowed i) then Some r.QuestionNotAllowed else if some i then None else message_refusal pointer_limit h) as (λ _. Bool) [

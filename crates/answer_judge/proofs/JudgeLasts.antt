@@ -6,7 +6,7 @@ use Rattle.definitions.specs.Limits.{pointer_limit}
 use Rattle.messages.specs.Message.{Message, Spelled, message}
 use Rattle.answer_scheme.specs.Answers.{Answers, EachAgreeing, SignatureTest, with_test}
 use Rattle.answer_judge.specs.Stages.{trusting_named}
-use Rattle.answer_judge_keys.specs.Judging.{Handing, keys_in}
+use Rattle.answer_judge_keys.specs.Judging.{JudgeInput, keys_in}
 use Rattle.answer_judge_keys.specs.Trusted.{is_trusted, is_usable}
 use Rattle.answer_judge_keys.specs.declared.verdict.Lasting.{Lasting}
 use Rattle.answer_judge_facts.specs.Judged.{keys_of, trusting}
@@ -21,7 +21,7 @@ on_ok (Ok x) P h = h
 on_ok (Err e) P h = tt
 
 -- of both messages, whose keys are as they were read
-module _ (a : Answers) (h : Handing) (keys answer : Message) (rs : List Spelled) (ks : List Dnskey) (both : BothRead h keys answer rs ks) (usable : List Dnskey) (are : usable ≡ filter is_usable (keys_of h keys)) (zone : List Spelled) (read : zone ≡ answer.records) where
+module _ (a : Answers) (h : JudgeInput) (keys answer : Message) (rs : List Spelled) (ks : List Dnskey) (both : BothRead h keys answer rs ks) (usable : List Dnskey) (are : usable ≡ filter is_usable (keys_of h keys)) (zone : List Spelled) (read : zone ≡ answer.records) where
   all_keys : ks ≡ keys_of h keys
   all_keys = both.keys_are ∙ ap (keys_in h.dnskey_bytes h.apex) both.records_are
 
@@ -48,7 +48,7 @@ module _ (a : Answers) (h : Handing) (keys answer : Message) (rs : List Spelled)
       ])
 
 -- beside a DS set that isn't empty, what is said of both messages is said of the case
-pub lasts_beyond : (own was : Answers) (agrees : SignatureTest → Type 0) (h : Handing) (l : Option Lasting) → was ≡ own → nat_eq (length h.ds) 0 ≡ false
+pub lasts_beyond : (own was : Answers) (agrees : SignatureTest → Type 0) (h : JudgeInput) (l : Option Lasting) → was ≡ own → nat_eq (length h.ds) 0 ≡ false
     → EachAgreeing was agrees (λ a. l ≡ lasting_in_bytes a pointer_limit h) → EachAgreeing own agrees (λ a. l ≡ lasting_of a pointer_limit h)
 lasts_beyond own was agrees h l same some said test fits =
     said test (agreed_by own was test (agrees test) same fits)

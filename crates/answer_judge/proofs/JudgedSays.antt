@@ -12,20 +12,20 @@ use Rattle.answer_scheme.specs.Answers.{Answers}
 use Rattle.answer_judge_keys.specs.declared.verdict.Refusal.{Refusal}
 use Rattle.answer_judge_keys.specs.declared.verdict.Refusal.TheVariants as r
 use Rattle.answer_judge_keys.specs.Trusted.{is_usable}
-use Rattle.answer_judge_facts.specs.Judged.{are_mixed, has_unlike_times, are_over, by_facts, decided_by, facts_in, is_chained, is_unhashed, judged, judged_answer, judged_bytes, judged_facts, judged_messages, keys_of}
-use Rattle.answer_judge_keys.specs.Judging.{Answer, Handing, Refuses, Says, first_refusal, is_judged}
+use Rattle.answer_judge_facts.specs.Judged.{are_mixed, has_unlike_times, are_over, by_facts, decided_by, facts_in, ds_authenticates_keys, is_unhashed, judged, judged_answer, judged_bytes, judged_facts, judged_messages, keys_of}
+use Rattle.answer_judge_keys.specs.Judging.{Answer, JudgeInput, Refuses, Says, first_refusal, is_judged}
 
 -- the facts of the answer, under the usable keys
-abbrev pub facts_of : Answers → ℕ → Handing → Message → Message → Facts
+abbrev pub facts_of : Answers → ℕ → JudgeInput → Message → Message → Facts
 facts_of a k h keys answer = facts_in a k h (filter is_usable (keys_of h keys)) answer
 
-pub record IsSaid (a : Answers) (k : ℕ) (h : Handing) (v : Verdict) : Type 0 where
+pub record IsSaid (a : Answers) (k : ℕ) (h : JudgeInput) (v : Verdict) : Type 0 where
   pub keys : Message
   pub answer : Message
   pub keys_read : message k h.dnskey_bytes ≡ Ok keys
   pub answer_read : message k h.answer_bytes ≡ Ok answer
   pub asked : is_judged h ≡ true
-  pub chained : is_chained a k h keys ≡ true
+  pub chained : ds_authenticates_keys a k h keys ≡ true
   pub of_one_moment : (h.one_moment && has_unlike_times a k h (filter is_usable (keys_of h keys)) answer) ≡ false
   pub decided : decided_by a h (facts_of a k h keys answer) ≡ Some v
 
@@ -47,7 +47,7 @@ by_some : (o : Option Verdict) (v : Verdict) → by_facts o ≡ Says v → o ≡
 by_some None v h = absurd (not_refused r.NotProven v h)
 by_some (Some w) v h = ap Some (said_is w v h)
 
-facts_decide : (a : Answers) (h : Handing) (f : Facts) (v : Verdict) → judged_facts a h f ≡ Says v → decided_by a h f ≡ Some v
+facts_decide : (a : Answers) (h : JudgeInput) (f : Facts) (v : Verdict) → judged_facts a h f ≡ Says v → decided_by a h f ≡ Some v
 facts_decide a h f v e =
     let mixed = unless (are_mixed f.hash_links) r.MixedNsec3Parameters _ v e in
     let over = unless (are_over h.limit f.hash_links) r.IterationsOverLimit _ v mixed in
@@ -65,7 +65,7 @@ not_empty : (ds : List Ds) → (ds ≡ [] → ⊥) → nat_eq (length ds) 0 ≡ 
 not_empty [] h = absurd (h refl)
 not_empty (d ∷ ds) h = ne_eqb (length (d ∷ ds)) 0 (λ e. omega (arith, e))
 
-module _ (a : Answers) (k : ℕ) (h : Handing) (v : Verdict) (asked : is_judged h ≡ true) where
+module _ (a : Answers) (k : ℕ) (h : JudgeInput) (v : Verdict) (asked : is_judged h ≡ true) where
   chained_says : (b : Bool) (x : Answer) → elim b as (λ _. Answer) [ true ↦ x | false ↦ Refuses r.NoTrustedKey ] ≡ Says v → (b ≡ true) × (x ≡ Says v)
   chained_says true x e = (refl, e)
   chained_says false x e = absurd (not_refused r.NoTrustedKey v e)
@@ -73,7 +73,7 @@ module _ (a : Answers) (k : ℕ) (h : Handing) (v : Verdict) (asked : is_judged 
   messages_say : (keys answer : Message) → message k h.dnskey_bytes ≡ Ok keys → message k h.answer_bytes ≡ Ok answer → judged_messages a k h keys answer ≡ Says v → IsSaid a k h v
   messages_say keys answer i j e =
       let usable = filter is_usable (keys_of h keys) in
-      let c = chained_says (is_chained a k h keys) (judged_answer a k h usable answer) e in
+      let c = chained_says (ds_authenticates_keys a k h keys) (judged_answer a k h usable answer) e in
       let mixed : Bool = h.one_moment && has_unlike_times a k h usable answer in
       let facts : Facts = facts_of a k h keys answer in
       record {
@@ -97,7 +97,7 @@ module _ (a : Answers) (k : ℕ) (h : Handing) (v : Verdict) (asked : is_judged 
   bytes_say (Err f) i e = absurd (not_refused r.BadDnskeyMessage v e)
   bytes_say (Ok keys) i e = answer_says keys i (message k h.answer_bytes) refl e
 
-pub judged_says : (a : Answers) (k : ℕ) (h : Handing) (v : Verdict) → (h.ds ≡ [] → ⊥) → judged a k h ≡ Says v → IsSaid a k h v
+pub judged_says : (a : Answers) (k : ℕ) (h : JudgeInput) (v : Verdict) → (h.ds ≡ [] → ⊥) → judged a k h ≡ Says v → IsSaid a k h v
 judged_says a k h v some e =
     let first = not_first (first_refusal k h) _ v e in
     let asked = asked_first (is_judged h) _ first.0 in

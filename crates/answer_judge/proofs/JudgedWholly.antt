@@ -6,7 +6,7 @@ use Rattle.definitions.specs.Zone.{Unsigned}
 use Rattle.answer_scheme.specs.Answers.{Answers, EachAgreeing, SignatureTest, with_test}
 use Rattle.answer_judge_facts.specs.Counted.{Counts, hashes_in_bytes, tries_in_bytes}
 use Rattle.answer_judge_facts.specs.Judged.{AnswersAs, judged, judged_bytes}
-use Rattle.answer_judge_keys.specs.Judging.{Answer, Handing, Judges, Refuses, Says, is_judged, message_refusal}
+use Rattle.answer_judge_keys.specs.Judging.{Answer, JudgeInput, Judges, Refuses, Says, is_judged, message_refusal}
 use Rattle.answer_judge_keys.specs.declared.verdict.Refusal.{Refusal}
 use Rattle.answer_judge_keys.specs.declared.verdict.Refusal.TheVariants as r
 use Rattle.answer_judge_facts.proofs.JudgeAsked.{agreed_by}
@@ -16,7 +16,7 @@ use Rattle.answer_judge.proofs.GivenAnswers.{answers_given}
 use Rattle.answer_judge.proofs.HonestJudged.{answers_honest}
 use Rattle.answer_judge.proofs.Timely.{refuses_untimely}
 
-module _ (a : Answers) (h : Handing) (short : h.limit < 65536) where
+module _ (a : Answers) (h : JudgeInput) (short : h.limit < 65536) where
   -- the refusal in front of all others, or that of the messages
   abbrev first : Bool → Bool → Option Refusal
   first allowed empty = if not allowed then Some r.QuestionNotAllowed else if empty then None else message_refusal pointer_limit h
@@ -53,7 +53,7 @@ module _ (a : Answers) (h : Handing) (short : h.limit < 65536) where
 
 -- beside such a DS set, what is said of both messages under each test of signatures that agrees with what was answered is said of
 -- the case
-pub each_wholly : (own was : Answers) (agrees : SignatureTest → Type 0) (h : Handing) (answer : Answer) (verifications hashes : ℕ) → h.limit < 65536 → was ≡ own
+pub each_wholly : (own was : Answers) (agrees : SignatureTest → Type 0) (h : JudgeInput) (answer : Answer) (verifications hashes : ℕ) → h.limit < 65536 → was ≡ own
     → is_judged h ≡ true → nat_eq (length h.ds) 0 ≡ false → Judges pointer_limit h answer verifications hashes
     → EachAgreeing was agrees (λ a. SaysBeyond a pointer_limit h answer verifications hashes)
     → EachAgreeing own agrees (λ a. IsJudgement pointer_limit a h answer verifications hashes)

@@ -25,7 +25,7 @@ use Rattle.answer_judge_facts.specs.Verified.{Trusting, rrset_in}
 use Rattle.answer_judge_keys.proofs.GivenSorted.{sorted_twice}
 use Rattle.answer_judge_facts.proofs.JudgeCase.{rrset_in-owner, signed_octets-owner}
 use Rattle.answer_judge_facts.specs.Honest.{IsHonest, NothingForged, Signing, WasSigned, sought_of_answer}
-use Rattle.answer_judge_keys.specs.Judging.{Handing, keys_in}
+use Rattle.answer_judge_keys.specs.Judging.{JudgeInput, keys_in}
 use Rattle.answer_judge.specs.OwnFacts.{TellsZone}
 use Rattle.answer_judge.specs.OwnMessages.{OwnAnswersAreHonest, OwnKeysAreHonest, signing_of}
 use Rattle.answer_judge.proofs.GivenChained.{keys_data}
@@ -134,7 +134,7 @@ short_read g ds are is = subst (λ ds. AllByRecursion (λ (d : List ℕ). length
 abbrev told_groups : Trusting → Mode → List HandedRr → Asked → List Group
 told_groups w mode rs asked = answer_groups (served_of w.apex mode (hash_in w.answers.hash mode) (sorted_records rs)) asked.name asked.rtype
 
-module _ (w : Trusting) (k : ℕ) (mode : Mode) (rs : List HandedRr) (h : Handing) (published : List Dnskey) (signings : List Signing) (same_apex : h.apex ≡ w.apex) (octets : AreOctets h.answer_bytes) (asked_is : IsQuestion h.asked)
+module _ (w : Trusting) (k : ℕ) (mode : Mode) (rs : List HandedRr) (h : JudgeInput) (published : List Dnskey) (signings : List Signing) (same_apex : h.apex ≡ w.apex) (octets : AreOctets h.answer_bytes) (asked_is : IsQuestion h.asked)
     (t : TellsZone w k mode rs h.asked h.answer_bytes) (there : Contains signings (signing_of mode rs t.at t.life)) where
   abbrev hash : Name → List ℕ
   hash = hash_in w.answers.hash mode

@@ -19,12 +19,12 @@ use Rattle.answer_judge.proofs.GivenLists.{contained_has, has_contained}
 use Rattle.answer_judge.proofs.HonestMade.{signed_only}
 use Rattle.answer_judge_facts.specs.Honest.{IsHonest, WasSigned, over}
 use Rattle.answer_scheme.specs.Answers.{Answers}
-use Rattle.answer_judge_keys.specs.Judging.{Handing}
+use Rattle.answer_judge_keys.specs.Judging.{JudgeInput}
 use Rattle.answer_judge_facts.specs.Sought.{Sought}
 use Rattle.answer_judge.specs.Splices.{AreSigned, Binds, IsSpliced, PassesNowhere, PlainSchemeBinds, ToldIsSpliced, SplicesAreHonest, WasCarried}
 
 -- whatever was signed
-pub spliced_honest : (a : Answers) (k : ℕ) (h : Handing) (published : List Dnskey) (Signed : List ℕ → Type 0) (sought : List Spelled → Sought) (m : List ℕ)
+pub spliced_honest : (a : Answers) (k : ℕ) (h : JudgeInput) (published : List Dnskey) (Signed : List ℕ → Type 0) (sought : List Spelled → Sought) (m : List ℕ)
     → Binds a → AreOctets m → IsSpliced a k h.now published Signed m → IsHonest a k h published Signed sought m
 spliced_honest a k h published Signed sought m binds octets spliced = record {
   octets_are = octets;

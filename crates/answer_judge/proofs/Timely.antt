@@ -17,7 +17,7 @@ use Rattle.answer_scheme.specs.Answers.{Answers}
 use Rattle.answer_judge_keys.specs.Trusted.{is_signature, is_trusted, is_usable}
 use Rattle.answer_judge.specs.Timely.{RefusesUntimely, has_timely, holds_now}
 use Rattle.answer_judge_facts.specs.Judged.{AnswersAs, decided_by, judged, keys_of, trusting}
-use Rattle.answer_judge_keys.specs.Judging.{Answer, Handing, Refuses, Says}
+use Rattle.answer_judge_keys.specs.Judging.{Answer, JudgeInput, Refuses, Says}
 use Rattle.answer_judge_facts.specs.Verified.{Trusting, hash_link_at, is_hash_alone, is_hash_link, is_link, is_verified, link_at, rrset_in, verified_by, verified_facts, verified_hash_links, verified_links, verified_rrset}
 use Rattle.answer_judge_keys.specs.declared.verdict.Refusal.TheVariants as r
 use Rattle.answer_judge_facts.proofs.KeptItems.{none_kept_of, when}
@@ -25,7 +25,7 @@ use Rattle.answer_judge.proofs.HonestVerified.{Found, first_verifying, found_ver
 use Rattle.answer_judge.proofs.JudgedSays.{IsSaid, judged_says}
 
 -- what verifies an RRset holds
-module _ (a : Answers) (k : ℕ) (h : Handing) (m : List ℕ) (read : Message) (reads : message k m ≡ Ok read) (keys : List Dnskey) where
+module _ (a : Answers) (k : ℕ) (h : JudgeInput) (m : List ℕ) (read : Message) (reads : message k m ≡ Ok read) (keys : List Dnskey) where
   abbrev w : Trusting
   w = trusting a h keys
 
@@ -76,7 +76,7 @@ nothing_decides apex hash q t = go (at_or_above apex q)
     go true = refl
     go false = refl
 
-decides_timely : (a : Answers) (k : ℕ) (h : Handing) (m : List ℕ) (read : Message) (keys : List Dnskey) (v : Verdict) → message k m ≡ Ok read
+decides_timely : (a : Answers) (k : ℕ) (h : JudgeInput) (m : List ℕ) (read : Message) (keys : List Dnskey) (v : Verdict) → message k m ≡ Ok read
     → decided_by a h (verified_facts (trusting a h keys) k m read.records h.asked.name h.asked.rtype) ≡ Some v → has_timely k h.now m ≡ true
 decides_timely a k h m read keys v reads e = go (has_timely k h.now m) refl
   where
@@ -89,7 +89,7 @@ decides_timely a k h m read keys v reads e = go (has_timely k h.now m) refl
         let bad : Some v ≡ None = sym e ∙ none in
         cc
 
-says_timely : (a : Answers) (k : ℕ) (h : Handing) (v : Verdict) → (h.ds ≡ [] → ⊥) → judged a k h ≡ Says v → (has_timely k h.now h.dnskey_bytes && has_timely k h.now h.answer_bytes) ≡ true
+says_timely : (a : Answers) (k : ℕ) (h : JudgeInput) (v : Verdict) → (h.ds ≡ [] → ⊥) → judged a k h ≡ Says v → (has_timely k h.now h.dnskey_bytes && has_timely k h.now h.answer_bytes) ≡ true
 says_timely a k h v some e =
     let said : IsSaid a k h v = judged_says a k h v some e in
     let keys : List Dnskey = keys_of h said.keys in
@@ -97,12 +97,12 @@ says_timely a k h v some e =
     (verified_timely a k h h.dnskey_bytes said.keys said.keys_read (filter (is_trusted a h.apex h.ds) keys) h.apex 48 (sorted_data (map dnskey_data keys)) said.chained)
     (decides_timely a k h h.answer_bytes said.answer (filter is_usable keys) v said.answer_read said.decided)
 
-untimely_refused : (a : Answers) (k : ℕ) (h : Handing) (answer : Answer) → answer ≡ judged a k h → RefusesUntimely k h answer
+untimely_refused : (a : Answers) (k : ℕ) (h : JudgeInput) (answer : Answer) → answer ≡ judged a k h → RefusesUntimely k h answer
 untimely_refused a k h (Says v) e some none = absurd (false≢true (sym none ∙ says_timely a k h v some (sym e)))
 untimely_refused a k h (Refuses f) e some none = tt
 
 -- an answer that is exact, memory aside
-pub refuses_untimely : (a : Answers) (k : ℕ) (h : Handing) (answer : Answer) → AnswersAs answer (judged a k h) → RefusesUntimely k h answer
+pub refuses_untimely : (a : Answers) (k : ℕ) (h : JudgeInput) (answer : Answer) → AnswersAs answer (judged a k h) → RefusesUntimely k h answer
 refuses_untimely a k h answer exact =
     ⊎_elim
     (λ (memory : answer ≡ Refuses r.Memory). subst (RefusesUntimely k h) (sym memory) (λ some none. tt))

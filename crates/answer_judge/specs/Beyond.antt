@@ -3,9 +3,9 @@ use Rattle.std.specs.Prelude.{ℕ}
 use Rattle.answer_scheme.specs.Answers.{Answers}
 use Rattle.answer_judge_facts.specs.Counted.{Counts, hashes_beyond, tries_beyond}
 use Rattle.answer_judge_facts.specs.Judged.{AnswersAs, judged_beyond}
-use Rattle.answer_judge_keys.specs.Judging.{Answer, Handing}
+use Rattle.answer_judge_keys.specs.Judging.{Answer, JudgeInput}
 
 -- the definitions' answer, after as many verifications and hashes as they come to
-abbrev pub SaysBeyond : Answers → ℕ → Handing → Answer → ℕ → ℕ → Type 0
+abbrev pub SaysBeyond : Answers → ℕ → JudgeInput → Answer → ℕ → ℕ → Type 0
 SaysBeyond a k h answer verifications hashes =
     AnswersAs answer (judged_beyond a k h) × Counts answer verifications (tries_beyond a k h) × Counts answer hashes (hashes_beyond a k h)

@@ -5,11 +5,11 @@ use Rattle.definitions.specs.ZoneChain.{Nsec, Nsec3}
 use Rattle.messages.specs.HandedRr.{HandedRr}
 use Rattle.answer_scheme.specs.Answers.{Answers}
 use Rattle.answer_judge_facts.specs.Judged.{AnswersAs}
-use Rattle.answer_judge_keys.specs.Judging.{Answer, Handing, Says}
+use Rattle.answer_judge_keys.specs.Judging.{Answer, JudgeInput, Says}
 use Rattle.answer_judge.specs.Meeting.{IsJudgement, WasGiven}
 
 -- A judgement, and the counts of its verifications and hashes.
-pub record Decision (k : ℕ) (a : Answers) (h : Handing) : Type 0 where
+pub record Decision (k : ℕ) (a : Answers) (h : JudgeInput) : Type 0 where
   pub answer : Answer
   pub verifications : ℕ
   pub hashes : ℕ
@@ -18,7 +18,7 @@ pub record Decision (k : ℕ) (a : Answers) (h : Handing) : Type 0 where
 -- What the zone of these records gave for one question with either chain, without opt-out, is judged alike, memory aside.
 abbrev pub ChainsSayTheSame : Type 0
 ChainsSayTheSame =
-    (a b : Answers) (k : ℕ) (named hashed : Handing) (rs : List HandedRr) (iterations : ℕ) (salt : List ℕ)
+    (a b : Answers) (k : ℕ) (named hashed : JudgeInput) (rs : List HandedRr) (iterations : ℕ) (salt : List ℕ)
     → hashed.apex ≡ named.apex → hashed.asked ≡ named.asked
     → WasGiven a k named Nsec rs → WasGiven b k hashed (Nsec3 iterations salt false) rs
     → (x : Decision k a named) (y : Decision k b hashed)

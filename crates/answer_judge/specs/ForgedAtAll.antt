@@ -7,7 +7,7 @@ use Rattle.definitions.specs.Signing.{Fields, ascending, in_time, signed_octets}
 use Rattle.messages.specs.Message.{AreOctets, Message, Spelled, message, rrsig_at}
 use Rattle.answer_scheme.specs.Answers.{Answers}
 use Rattle.answer_judge_facts.specs.Honest.{NothingForged, Signing, WasSigned, sought_of_answer, sought_of_keys}
-use Rattle.answer_judge_keys.specs.Judging.{Handing}
+use Rattle.answer_judge_keys.specs.Judging.{JudgeInput}
 
 -- An RRset that may be signed, of at least one record, each once and ascending, whether or not it stands in the message
 -- (RFC 4034, 3.1.8.1 and 6.3), and the octets that its signature is made over.
@@ -28,6 +28,6 @@ NothingForgedAtAll a k now published Signed m =
 -- then nothing is forged in the DNSKEY answer, nor in the zone answer
 abbrev pub AtAllIsEnough : Type 0
 AtAllIsEnough =
-    (a : Answers) (k : ℕ) (h : Handing) (published keys : List Dnskey) (apex : Name) (signings : List Signing)
+    (a : Answers) (k : ℕ) (h : JudgeInput) (published keys : List Dnskey) (apex : Name) (signings : List Signing)
     → (AreOctets h.dnskey_bytes → NothingForgedAtAll a k h.now published (WasSigned a apex keys signings) h.dnskey_bytes → NothingForged a k h published (WasSigned a apex keys signings) (sought_of_keys h) h.dnskey_bytes)
     × (AreOctets h.answer_bytes → NothingForgedAtAll a k h.now published (WasSigned a apex keys signings) h.answer_bytes → NothingForged a k h published (WasSigned a apex keys signings) (sought_of_answer k h) h.answer_bytes)

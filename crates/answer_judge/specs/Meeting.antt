@@ -12,7 +12,7 @@ use Rattle.answer_scheme.specs.Answers.{Answers}
 use Rattle.answer_judge_keys.specs.Trusted.{is_usable}
 use Rattle.answer_shared.specs.Told.{TellsKeys, TellsAnswer}
 use Rattle.messages.specs.Handed.{IsHanded}
-use Rattle.answer_judge_keys.specs.Judging.{Answer, Says, Handing, Judges, answer_of, verifications_of, hashes_of}
+use Rattle.answer_judge_keys.specs.Judging.{Answer, Says, JudgeInput, Judges, answer_of, verifications_of, hashes_of}
 use Rattle.answer_shared.specs.Accepted.{IsAccepted}
 use Rattle.answer_shared.specs.Asking.{is_allowed}
 use Rattle.answer_shared.specs.EqualTags.{has_equal_tags}
@@ -53,13 +53,13 @@ abbrev pub zone_from : Name → Mode → ℕ → List HandedRr → AcceptedZone
 zone_from apex mode limit rs = record { apex = apex; mode = mode; limit = limit; records = sorted_records rs }
 
 -- how it is served
-abbrev pub served_from : Answers → Handing → Mode → List HandedRr → Served
+abbrev pub served_from : Answers → JudgeInput → Mode → List HandedRr → Served
 served_from a h mode rs = served a.hash (zone_from h.apex mode h.limit rs)
 
 -- What is handed in was given by the zone of these records and this chain: the DS set of the keys at the parent, a DNSKEY
 -- answer, which has of the zone's records a TTL alone, and a zone answer, of keys that meet, whose signatures hold. Other keys may
 -- be present that a judge may not use.
-pub record WasGiven (a : Answers) (k : ℕ) (h : Handing) (mode : Mode) (rs : List HandedRr) : Type 0 where
+pub record WasGiven (a : Answers) (k : ℕ) (h : JudgeInput) (mode : Mode) (rs : List HandedRr) : Type 0 where
   pub parents : List Dnskey
   pub present : List Dnskey
   pub keysigners : List Dnskey
@@ -88,7 +88,7 @@ pub record WasGiven (a : Answers) (k : ℕ) (h : Handing) (mode : Mode) (rs : Li
   pub answer_holds : holds answer_at life h.now ≡ true
 
 -- the answer is the zone's verdict
-abbrev pub AnswersGiven : Answers → ℕ → Handing → Answer → Type 0
+abbrev pub AnswersGiven : Answers → ℕ → JudgeInput → Answer → Type 0
 AnswersGiven a k h answer =
     (mode : Mode) (rs : List HandedRr) → WasGiven a k h mode rs
     → AnswersAs answer (Says (verdict (zone_of h.apex rs) (optout_of mode) h.asked.name h.asked.rtype))
@@ -96,7 +96,7 @@ AnswersGiven a k h answer =
 -- A judgement: what it keeps whatever is handed in, what it says of the two messages, the verdict of a zone that gave them,
 -- no other verdict of honest ones, and a refusal where no signature holds. The first argument is how many pointers may be
 -- followed in a name.
-pub record IsJudgement (k : ℕ) (a : Answers) (h : Handing) (answer : Answer) (verifications hashes : ℕ) : Type 0 where
+pub record IsJudgement (k : ℕ) (a : Answers) (h : JudgeInput) (answer : Answer) (verifications hashes : ℕ) : Type 0 where
   pub keeps : Judges k h answer verifications hashes
   pub exact : AnswersAs answer (judged a k h)
   pub counts : Counts answer verifications (verifications_due a k h)
@@ -106,5 +106,5 @@ pub record IsJudgement (k : ℕ) (a : Answers) (h : Handing) (answer : Answer) (
   pub timely : RefusesUntimely k h answer
 
 -- the code's answer is one
-abbrev pub JudgesSo : ℕ → Answers → Handing → Result Judgement Refused → Type 0
+abbrev pub JudgesSo : ℕ → Answers → JudgeInput → Result Judgement Refused → Type 0
 JudgesSo k a h result = IsJudgement k a h (answer_of result) (verifications_of result) (hashes_of result)

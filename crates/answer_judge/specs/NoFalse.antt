@@ -2,9 +2,9 @@
 use Rattle.std.specs.Prelude.{ℕ}
 use Rattle.answer_scheme.specs.Answers.{Answers}
 use Rattle.answer_judge_facts.specs.Honest.{AnswersHonest}
-use Rattle.answer_judge_keys.specs.Judging.{Answer, Handing}
+use Rattle.answer_judge_keys.specs.Judging.{Answer, JudgeInput}
 use Rattle.answer_judge_facts.specs.Judged.{AnswersAs, judged}
 
 -- Whatever is exact, memory aside, is this.
 abbrev pub NoFalseVerdict : Type 0
-NoFalseVerdict = (a : Answers) (k : ℕ) (h : Handing) (answer : Answer) → AnswersAs answer (judged a k h) → AnswersHonest a k h answer
+NoFalseVerdict = (a : Answers) (k : ℕ) (h : JudgeInput) (answer : Answer) → AnswersAs answer (judged a k h) → AnswersHonest a k h answer

@@ -9,7 +9,7 @@ use Rattle.messages.specs.Message.{AreOctets}
 use Rattle.messages.specs.WrittenLaws.{IsQuestion}
 use Rattle.answer_scheme.specs.Answers.{Answers}
 use Rattle.answer_shared.specs.Told.{TellsKeys}
-use Rattle.answer_judge_keys.specs.Judging.{Handing}
+use Rattle.answer_judge_keys.specs.Judging.{JudgeInput}
 use Rattle.answer_judge_facts.specs.Verified.{Trusting}
 use Rattle.answer_judge_facts.specs.Honest.{IsHonest, Signing, WasSigned, sought_of_answer, sought_of_keys}
 use Rattle.answer_judge.specs.OwnFacts.{TellsZone}
@@ -24,7 +24,7 @@ signing_of mode rs at life = record {
 -- octets that tell the DNSKEY answer of some published keys
 abbrev pub OwnKeysAreHonest : Type 0
 OwnKeysAreHonest =
-    (a : Answers) (k ttl : ℕ) (h : Handing) (present signers published : List Dnskey) (at life : ℕ) (signings : List Signing)
+    (a : Answers) (k ttl : ℕ) (h : JudgeInput) (present signers published : List Dnskey) (at life : ℕ) (signings : List Signing)
     → IsName h.apex → AreOctets h.dnskey_bytes → AllByRecursion (λ key. key.flags < 65536) present → AllByRecursion (Contains published) present
     → TellsKeys a.verifies k ttl h.apex present signers at life h.dnskey_bytes
     → IsHonest a k h published (WasSigned a h.apex published signings) (sought_of_keys h) h.dnskey_bytes
@@ -32,7 +32,7 @@ OwnKeysAreHonest =
 -- octets that tell an accepted zone's answer to an allowed question
 abbrev pub OwnAnswersAreHonest : Type 0
 OwnAnswersAreHonest =
-    (w : Trusting) (k : ℕ) (mode : Mode) (rs : List HandedRr) (h : Handing) (published : List Dnskey) (signings : List Signing)
+    (w : Trusting) (k : ℕ) (mode : Mode) (rs : List HandedRr) (h : JudgeInput) (published : List Dnskey) (signings : List Signing)
     → h.apex ≡ w.apex → AreOctets h.answer_bytes → IsQuestion h.asked → (t : TellsZone w k mode rs h.asked h.answer_bytes)
     → Contains signings (signing_of mode rs t.at t.life)
     → IsHonest w.answers k h published (WasSigned w.answers h.apex published signings) (sought_of_answer k h) h.answer_bytes

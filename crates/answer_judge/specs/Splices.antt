@@ -12,7 +12,7 @@ use Rattle.answer_shared.specs.Told.{Tells, octets_for}
 use Rattle.answer_scheme.specs.Answers.{Answers}
 use Rattle.answer_judge_facts.specs.Honest.{IsHonest, Signing, WasSigned}
 use Rattle.answer_judge_facts.specs.Sought.{Sought}
-use Rattle.answer_judge_keys.specs.Judging.{Handing}
+use Rattle.answer_judge_keys.specs.Judging.{JudgeInput}
 
 -- a signature passes over one string of octets alone, whatever the key
 abbrev pub Binds : Answers → Type 0
@@ -39,7 +39,7 @@ IsSpliced a k now published Signed m =
 
 abbrev pub SplicesAreHonest : Type 0
 SplicesAreHonest =
-    (a : Answers) (k : ℕ) (h : Handing) (published keys : List Dnskey) (apex : Name) (signings : List Signing) (sought : List Spelled → Sought) (m : List ℕ)
+    (a : Answers) (k : ℕ) (h : JudgeInput) (published keys : List Dnskey) (apex : Name) (signings : List Signing) (sought : List Spelled → Sought) (m : List ℕ)
     → Binds a → AreOctets m → IsSpliced a k h.now published (WasSigned a apex keys signings) m → IsHonest a k h published (WasSigned a apex keys signings) sought m
 
 -- a scheme whose signatures are the tag of the key and the octets themselves

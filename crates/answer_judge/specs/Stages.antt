@@ -7,28 +7,28 @@ use Rattle.answer_scheme.specs.Answers.{Answers}
 use Rattle.answer_judge_facts.specs.Counted.{tries}
 use Rattle.answer_judge_keys.specs.Trusted.{is_trusted}
 use Rattle.answer_judge_facts.specs.Judged.{trusting}
-use Rattle.answer_judge_keys.specs.Judging.{Handing}
+use Rattle.answer_judge_keys.specs.Judging.{JudgeInput}
 use Rattle.answer_judge_facts.specs.Sought.{keys_sought}
 use Rattle.answer_judge_facts.specs.Verified.{Trusting, is_verified}
 use Rattle.answer_judge_keys.specs.declared.verdict.Refusal.{Refusal}
 use Rattle.answer_judge_keys.specs.declared.verdict.Refusal.TheVariants as r
 
 -- the keys that DS records name
-abbrev pub trusting_named : Answers → Handing → List Dnskey → Trusting
+abbrev pub trusting_named : Answers → JudgeInput → List Dnskey → Trusting
 trusting_named a h keys = trusting a h (filter (is_trusted a h.apex h.ds) keys)
 
 -- one of them signs all keys (RFC 4035, 5.2)
-abbrev pub are_signed : Answers → ℕ → Handing → List Spelled → List Dnskey → Bool
+abbrev pub are_signed : Answers → ℕ → JudgeInput → List Spelled → List Dnskey → Bool
 are_signed a k h rs keys = is_verified (trusting_named a h keys) k h.dnskey_bytes rs h.apex 48 (sorted_data (map dnskey_data keys))
 
 -- how many signatures are tried to find that out
-abbrev pub tries_of_keys : Answers → ℕ → Handing → List Spelled → List Dnskey → ℕ
+abbrev pub tries_of_keys : Answers → ℕ → JudgeInput → List Spelled → List Dnskey → ℕ
 tries_of_keys a k h rs keys = tries (trusting_named a h keys) k h.dnskey_bytes (keys_sought h.apex keys) [] rs
 
 -- they are, after so many tries
-abbrev pub FindsSigned : Answers → ℕ → Handing → List Spelled → List Dnskey → ℕ → Type 0
+abbrev pub FindsSigned : Answers → ℕ → JudgeInput → List Spelled → List Dnskey → ℕ → Type 0
 FindsSigned a k h rs keys count = (are_signed a k h rs keys ≡ true) × (count ≡ tries_of_keys a k h rs keys)
 
 -- they are not, or memory ran out
-abbrev pub FindsUnsigned : Answers → ℕ → Handing → List Spelled → List Dnskey → ℕ → Refusal → Type 0
+abbrev pub FindsUnsigned : Answers → ℕ → JudgeInput → List Spelled → List Dnskey → ℕ → Refusal → Type 0
 FindsUnsigned a k h rs keys count e = (e ≡ r.Memory) ⊎ ((e ≡ r.NoTrustedKey) × (are_signed a k h rs keys ≡ false) × (count ≡ tries_of_keys a k h rs keys))

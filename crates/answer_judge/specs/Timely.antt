@@ -5,7 +5,7 @@ use Rattle.definitions.specs.Signing.{in_time}
 use Rattle.messages.specs.Message.{Spelled, message, rrsig_at}
 use Rattle.answer_scheme.specs.Answers.{Answers}
 use Rattle.answer_judge_keys.specs.Trusted.{is_signature}
-use Rattle.answer_judge_keys.specs.Judging.{Answer, Says, Refuses, Handing}
+use Rattle.answer_judge_keys.specs.Judging.{Answer, Says, Refuses, JudgeInput}
 use Rattle.answer_judge_facts.specs.Judged.{AnswersAs, judged}
 
 -- a signature that holds at a moment
@@ -22,9 +22,9 @@ IsRefused (Says v) = ⊥
 IsRefused (Refuses e) = Unit {0}
 
 -- beside a DS set that isn't empty a judge refuses where no signature of the one message holds, or none of the other
-abbrev pub RefusesUntimely : ℕ → Handing → Answer → Type 0
+abbrev pub RefusesUntimely : ℕ → JudgeInput → Answer → Type 0
 RefusesUntimely k h answer =
     (h.ds ≡ [] → ⊥) → (has_timely k h.now h.dnskey_bytes && has_timely k h.now h.answer_bytes) ≡ false → IsRefused answer
 
 abbrev pub UntimelyIsRefused : Type 0
-UntimelyIsRefused = (a : Answers) (k : ℕ) (h : Handing) (answer : Answer) → AnswersAs answer (judged a k h) → RefusesUntimely k h answer
+UntimelyIsRefused = (a : Answers) (k : ℕ) (h : JudgeInput) (answer : Answer) → AnswersAs answer (judged a k h) → RefusesUntimely k h answer

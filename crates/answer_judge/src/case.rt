@@ -46,9 +46,9 @@ pub struct Case<'a> {
 
 impl<'a> Model for Case<'a> {
     ghost use Rattle.messages.specs.Questions.{asked_of};
-    ghost use Rattle.answer_judge_keys.specs.Judging.{Handing, handed_for};
+    ghost use Rattle.answer_judge_keys.specs.Judging.{JudgeInput, handed_for};
 
-    ghost Value = { Handing };
+    ghost Value = { JudgeInput };
 
     ghost view = { λ c. handed_for c.apex.now c.ds.now c.dnskey.now c.answer.now
         (asked_of c.question.now) c.moment c.limit c.one_moment c.other_question };

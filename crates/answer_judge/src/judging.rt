@@ -24,9 +24,9 @@ mod trusting;
 
 use crate::case::Case;
 use crate::judging::deciding::judge_proof;
-use crate::judging::trusting::{read_proof, read_unlike_keys, signed_keys};
+use crate::judging::trusting::{keys_that_may_sign, read_proof, read_unlike_keys};
+use answer_judge_keys::check_run::CheckRun;
 use answer_judge_keys::verdict::{Judgement, Lasting, Refusal, Refused, Verdict};
-use answer_judge_keys::verifier::Verifier;
 use answer_scheme::checks::Checks;
 use answer_shared::question::asks_alias;
 pub use answer_shared::question::is_allowed;
@@ -151,19 +151,19 @@ impl<'a> Case<'a> {
             });
         }
         let mut octets = Vec::new(alloc);
-        let mut verifier = Verifier::new(alloc, checks, &mut octets);
+        let mut check_run = CheckRun::new(alloc, checks, &mut octets);
         let mut hashes = 0;
         let mut lasting = None;
-        match judge_messages(self, &mut verifier, &mut hashes, &mut lasting) {
+        match judge_messages(self, &mut check_run, &mut hashes, &mut lasting) {
             Ok(verdict) => Ok(Judgement {
                 verdict,
-                verifications: verifier.count,
+                verifications: check_run.count,
                 hashes,
                 lasting,
             }),
             Err(refusal) => Err(Refused {
                 refusal,
-                verifications: verifier.count,
+                verifications: check_run.count,
                 hashes,
             }),
         }
@@ -192,48 +192,48 @@ impl<'a> Case<'a> {
 /// How long it lasts is put into the place of what stands there.
 fn judge_messages<C: Checks>(
     case: &Case,
-    verifier: &mut Verifier<C>,
+    check_run: &mut CheckRun<C>,
     hashes: &mut u32,
     lasting: &mut Option<Lasting>,
 ) -> Result<Verdict, Refusal>
-    requires counts { verifier.old.count ≡ 0 }
+    requires counts { check_run.old.count ≡ 0 }
     requires none_hashed { hashes.old ≡ 0 }
     requires other { (case.now.asked.rtype == 47) ≡ false }
     requires other_too { (case.now.asked.rtype == 50) ≡ false }
-    ensures says { EachAgreeing (C.answers verifier.old.checks.now)
-        (C.agrees verifier.new.checks.now)
-        (λ a. SaysBeyond a pointer_limit case.now (said result) verifier.new.count hashes.new) }
-    ensures decided { let a = C.answers verifier.old.checks.now in
-        let agrees = C.agrees verifier.new.checks.now in
-        HashesDecidedBeyond a agrees case.now verifier.new.count hashes.new }
+    ensures says { EachAgreeing (C.answers check_run.old.checks.now)
+        (C.agrees check_run.new.checks.now)
+        (λ a. SaysBeyond a pointer_limit case.now (said result) check_run.new.count hashes.new) }
+    ensures decided { let a = C.answers check_run.old.checks.now in
+        let agrees = C.agrees check_run.new.checks.now in
+        HashesDecidedBeyond a agrees case.now check_run.new.count hashes.new }
     ensures verdict { OnOk result (message_refusal pointer_limit case.now ≡ None) }
-    ensures lasts { EachAgreeing (C.answers verifier.old.checks.now)
-        (C.agrees verifier.new.checks.now)
+    ensures lasts { EachAgreeing (C.answers check_run.old.checks.now)
+        (C.agrees check_run.new.checks.now)
         (λ a. OnOk result (lasting.new ≡ lasting_in_bytes a pointer_limit case.now)) }
     ensures refusal { IfErr result
         (λ e. RefusesFirst e (message_refusal pointer_limit case.now)) }
-    ensures bound { verifier.new.count ≤ verification_bound pointer_limit case.now }
-    ensures counted { C.verified verifier.new.checks.now
-        ≡ C.verified verifier.old.checks.now + verifier.new.count }
+    ensures bound { check_run.new.count ≤ verification_bound pointer_limit case.now }
+    ensures counted { C.verified check_run.new.checks.now
+        ≡ C.verified check_run.old.checks.now + check_run.new.count }
     ensures hash_bound { hashes.new ≤ hash_bound case.now }
-    ensures hashed { C.hashed verifier.new.checks.now
-        ≡ C.hashed verifier.old.checks.now + hashes.new }
-    ensures agrees { (test : SignatureTest) → C.agrees verifier.new.checks.now test
-        → C.agrees verifier.old.checks.now test }
-    ensures asked { let a = C.answers verifier.old.checks.now in
+    ensures hashed { C.hashed check_run.new.checks.now
+        ≡ C.hashed check_run.old.checks.now + hashes.new }
+    ensures agrees { (test : SignatureTest) → C.agrees check_run.new.checks.now test
+        → C.agrees check_run.old.checks.now test }
+    ensures asked { let a = C.answers check_run.old.checks.now in
         (test : SignatureTest) → Implies (is_tried_beyond a pointer_limit case.now) test
-        → C.asked_only verifier.old.checks.now test → C.asked_only verifier.new.checks.now test }
-    ensures same { C.answers verifier.new.checks.now ≡ C.answers verifier.old.checks.now }
-    ensures same_checks { verifier.new.checks.ghost_name ≡ verifier.old.checks.ghost_name }
+        → C.asked_only check_run.old.checks.now test → C.asked_only check_run.new.checks.now test }
+    ensures same { C.answers check_run.new.checks.now ≡ C.answers check_run.old.checks.now }
+    ensures same_checks { check_run.new.checks.ghost_name ≡ check_run.old.checks.ghost_name }
 {
-    let alloc = verifier.alloc;
+    let alloc = check_run.alloc;
     let messages = read_messages(alloc, case)?;
     let keys = read_unlike_keys(alloc, case, &messages.key_records)?;
     let mut seconds = 0;
-    let usable = signed_keys(case, &messages.key_records, keys, verifier, &mut seconds)?;
-    let proof = read_proof(&*case, &messages.answer_records, &usable, verifier)?;
+    let usable = keys_that_may_sign(case, &messages.key_records, keys, check_run, &mut seconds)?;
+    let proof = read_proof(&*case, &messages.answer_records, &usable, check_run)?;
     *lasting = Some(shortened(proof.lasting, seconds));
-    judge_proof(alloc, case, proof, verifier.checks, hashes)
+    judge_proof(alloc, case, proof, check_run.checks, hashes)
 }
 
 /// How long something lasts that lasts for no more than some seconds.

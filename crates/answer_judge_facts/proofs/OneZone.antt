@@ -1,7 +1,7 @@
 -- Of a zone that doesn't change its verdict is said, or none.
 use Rattle.std.proofs.Common.{◌≡◌, zero, suc, [], ◌∷◌, sym, ap, ◌∙◌, arith}
 use Rattle.std.specs.Prelude.{Contains}
-use Rattle.answer_judge_keys.specs.Judging.{Answer, Handing, Says, Refuses}
+use Rattle.answer_judge_keys.specs.Judging.{Answer, JudgeInput, Says, Refuses}
 use Rattle.answer_judge_facts.specs.Honest.{SaysAtMost, SaysOneOf, is_alias_in, verdict_of}
 use Rattle.answer_judge_facts.specs.OneZone.{HonestOfOneZone}
 use Rattle.answer_judge_facts.specs.Versions.{Version}
@@ -10,7 +10,7 @@ only : {A : Type 0} (x y : A) → Contains (x ∷ []) y → x ≡ y
 only x y (zero, l, e) = e
 only x y (suc n, l, e) = absurd (omega (arith, l))
 
-pub at_most : (h : Handing) (v : Version) (answer : Answer) → SaysOneOf h (v ∷ []) answer → SaysAtMost h v answer
+pub at_most : (h : JudgeInput) (v : Version) (answer : Answer) → SaysOneOf h (v ∷ []) answer → SaysAtMost h v answer
 at_most h v (Says w) s =
     let is : v ≡ s.version = only v s.version s.there in
     (sym s.verdict_is ∙ ap (verdict_of h) (sym is), ap (is_alias_in h) is ∙ s.no_alias)

@@ -17,10 +17,10 @@ use Rattle.messages.proofs.ZoneNames.{labels_eq-same, same_labels}
 use Rattle.answer_scheme.specs.Answers.{Answers}
 use Rattle.answer_scheme.specs.Moments.{second_of}
 use Rattle.answer_judge_keys.specs.Trusted.{fits_key, is_signature, is_trusted, is_usable, labels_fit, signs}
-use Rattle.answer_judge_keys.specs.Judging.{Answer, Handing, Refuses, Says, first_refusal}
+use Rattle.answer_judge_keys.specs.Judging.{Answer, JudgeInput, Refuses, Says, first_refusal}
 use Rattle.answer_judge_keys.specs.declared.verdict.Lasting.{Lasting}
 use Rattle.answer_judge_keys.specs.declared.verdict.Refusal.TheVariants as r
-use Rattle.answer_judge_facts.specs.Judged.{is_chained, judged, judged_answer, judged_bytes, judged_messages, judged_proof, keys_of, trusting}
+use Rattle.answer_judge_facts.specs.Judged.{ds_authenticates_keys, judged, judged_answer, judged_bytes, judged_messages, judged_proof, keys_of, trusting}
 use Rattle.answer_judge_facts.specs.Lasting.{answer_seconds, at_moment, held_for, idle_at, idle_for, key_seconds, lasting_in_bytes, lasting_in_messages, lasting_of, least_of, seconds_of, wait_at, VerdictsLast}
 use Rattle.answer_judge_facts.specs.Sought.{Sought, answer_sought, is_alone, keys_sought}
 use Rattle.answer_judge_facts.specs.Times.{Times, are_unlike, proof_times, times_at, times_of}
@@ -248,8 +248,8 @@ module _ (w : Trusting) (k : ℕ) (m : List ℕ) (d : ℕ) (octets : AreOctets m
 
 -- ---- a judgement
 
-module _ (a : Answers) (k : ℕ) (h : Handing) (d : ℕ) (small : h.now < 4294967296) (of_keys : AreOctets h.dnskey_bytes) (of_answer : AreOctets h.answer_bytes) where
-  abbrev moved : Handing
+module _ (a : Answers) (k : ℕ) (h : JudgeInput) (d : ℕ) (small : h.now < 4294967296) (of_keys : AreOctets h.dnskey_bytes) (of_answer : AreOctets h.answer_bytes) where
+  abbrev moved : JudgeInput
   moved = record h { now = later h.now d }
 
   messages_later : (keys answer : Message) → d ≤ (lasting_in_messages a k h keys answer).seconds → judged_messages a k moved keys answer ≡ judged_messages a k h keys answer
@@ -260,13 +260,13 @@ module _ (a : Answers) (k : ℕ) (h : Handing) (d : ℕ) (small : h.now < 429496
       let first = key_seconds named k h.dnskey_bytes keys.records ks in
       let second = answer_seconds usable k h.answer_bytes answer.records h.asked.name h.asked.rtype in
       let each : (x : ℕ) → Has (first ++ second) x → d ≤ x = λ x i. omega (arith, few, least_under 4294967295 (first ++ second) x i) in
-      let chained : is_chained a k moved keys ≡ is_chained a k h keys = keys_later named k h.dnskey_bytes d of_keys small keys.records ks (λ x i. each x (has_front first second x i)) in
+      let chained : ds_authenticates_keys a k moved keys ≡ ds_authenticates_keys a k h keys = keys_later named k h.dnskey_bytes d of_keys small keys.records ks (λ x i. each x (has_front first second x i)) in
       let within : (x : ℕ) → Has second x → d ≤ x = λ x i. each x (has_behind first second x i) in
       let facts = facts_next usable k h.answer_bytes d of_answer small answer.records h.asked.name h.asked.rtype within in
       let times = times_next usable k h.answer_bytes d of_answer small answer.records h.asked.name h.asked.rtype within in
       λ i. elim (chained i) as (λ _. Answer) [ true ↦ judged_proof a h (facts i) (times i) | false ↦ Refuses r.NoTrustedKey ]
 
-  abbrev judged_by : Handing → Result Message MessageError → Result Message MessageError → Answer
+  abbrev judged_by : JudgeInput → Result Message MessageError → Result Message MessageError → Answer
   judged_by g x y = elim x [
     | Err e ↦ Refuses r.BadDnskeyMessage
     | Ok keys ↦ elim y [ Err e ↦ Refuses r.BadAnswerMessage | Ok answer ↦ judged_messages a k g keys answer ]
@@ -285,7 +285,7 @@ module _ (a : Answers) (k : ℕ) (h : Handing) (d : ℕ) (small : h.now < 429496
       let same = some_is (lasting_in_messages a k h keys answer) l is in
       messages_later keys answer (subst (λ (l : Lasting). d ≤ l.seconds) (sym same) few)
 
-  abbrev said_by : Handing → Bool → Answer
+  abbrev said_by : JudgeInput → Bool → Answer
   said_by g empty = elim (first_refusal k h) [
     | Some e ↦ Refuses e
     | None ↦ if empty then Says Unsigned else judged_bytes a k g

@@ -16,7 +16,7 @@ use Rattle.answer_scheme.specs.Answers.{Answers}
 use Rattle.answer_shared.specs.Chainable.{HasChain}
 use Rattle.answer_shared.specs.Hashing.{hash_in}
 use Rattle.answer_judge_keys.specs.Trusted.{is_trusted, is_usable}
-use Rattle.answer_judge_keys.specs.Judging.{Answer, Says, Refuses, Handing, keys_in}
+use Rattle.answer_judge_keys.specs.Judging.{Answer, Says, Refuses, JudgeInput, keys_in}
 use Rattle.answer_judge_facts.specs.Sought.{Sought, answer_sought, keys_sought}
 use Rattle.answer_judge_facts.specs.Times.{Times, times_of}
 use Rattle.answer_judge_facts.specs.Versions.{Version, SignedRrset, IsRrsetOf, zone_in}
@@ -65,14 +65,14 @@ pub data WasSigned (a : Answers) (apex : Name) (published : List Dnskey) (signin
 -- ---- what is forged
 
 -- the RRset that a judge seeks in the DNSKEY answer, and those that it seeks in the zone answer
-abbrev pub sought_of_keys : Handing → List Spelled → Sought
+abbrev pub sought_of_keys : JudgeInput → List Spelled → Sought
 sought_of_keys h rs = keys_sought h.apex (keys_in h.dnskey_bytes h.apex rs)
 
-abbrev pub sought_of_answer : ℕ → Handing → List Spelled → Sought
+abbrev pub sought_of_answer : ℕ → JudgeInput → List Spelled → Sought
 sought_of_answer k h rs = answer_sought k h.answer_bytes h.apex rs h.asked.name h.asked.rtype
 
 -- A signature of a message that a judge may use: the apex's, in time, and of an RRset that is sought (RFC 4035, 5.3.1).
-pub record MayBeUsed (k : ℕ) (h : Handing) (sought : Sought) (m : List ℕ) (read : Message) (r : Spelled) (f : Fields) (signature : List ℕ) : Type 0 where
+pub record MayBeUsed (k : ℕ) (h : JudgeInput) (sought : Sought) (m : List ℕ) (read : Message) (r : Spelled) (f : Fields) (signature : List ℕ) : Type 0 where
   pub there : Contains read.records r
   pub rtype_is : r.rtype ≡ 46
   pub reads : rrsig_at k m r ≡ Some (f, signature)
@@ -87,7 +87,7 @@ over sought r f = signed_octets f r.owner 1 (sought.datas r.owner f.covered)
 -- Each signature that a judge may use, and that passes under a key of the zone which may sign, is over octets that were signed.
 -- Of others nothing is asked, and of none what else it may verify: so a scheme meets this whose signatures are shorter than
 -- what they are made over.
-abbrev pub NothingForged : Answers → ℕ → Handing → List Dnskey → (List ℕ → Type 0) → (List Spelled → Sought) → List ℕ → Type 0
+abbrev pub NothingForged : Answers → ℕ → JudgeInput → List Dnskey → (List ℕ → Type 0) → (List Spelled → Sought) → List ℕ → Type 0
 NothingForged a k h published Signed sought m =
     (read : Message) (r : Spelled) (f : Fields) (signature : List ℕ) (key : Dnskey)
     → message k m ≡ Ok read → MayBeUsed k h (sought read.records) m read r f signature
@@ -95,12 +95,12 @@ NothingForged a k h published Signed sought m =
     → a.verifies key (over (sought read.records) r f) signature ≡ true → Signed (over (sought read.records) r f)
 
 -- octets of a message, in which nothing is forged
-pub record IsHonest (a : Answers) (k : ℕ) (h : Handing) (published : List Dnskey) (Signed : List ℕ → Type 0) (sought : List Spelled → Sought) (m : List ℕ) : Type 0 where
+pub record IsHonest (a : Answers) (k : ℕ) (h : JudgeInput) (published : List Dnskey) (Signed : List ℕ → Type 0) (sought : List Spelled → Sought) (m : List ℕ) : Type 0 where
   pub octets_are : AreOctets m
   pub unforged : NothingForged a k h published Signed sought m
 
 -- Each key of the DNSKEY answer that the DS set trusts is published.
-abbrev pub NoStranger : Answers → ℕ → Handing → List Dnskey → Type 0
+abbrev pub NoStranger : Answers → ℕ → JudgeInput → List Dnskey → Type 0
 NoStranger a k h published =
     (read : Message) (key : Dnskey)
     → message k h.dnskey_bytes ≡ Ok read → Contains (keys_in h.dnskey_bytes h.apex read.records) key
@@ -115,7 +115,7 @@ FewIterations (Nsec3 iterations salt optout) = iterations < 65536
 
 -- A version of a zone in order: a chain can be made of its records, and the names of the chain share no hash with one another
 -- or with a name that the question concerns.
-pub record IsVersion (a : Answers) (h : Handing) (v : Version) : Type 0 where
+pub record IsVersion (a : Answers) (h : JudgeInput) (v : Version) : Type 0 where
   pub records_are : AllByRecursion IsHanded v.records
   pub in_order : IsServable (zone_in h.apex v)
   pub few : FewIterations v.mode
@@ -127,7 +127,7 @@ abbrev pub OneAtATime : List Signing → Type 0
 OneAtATime signings = (x y : Signing) → Contains signings x → Contains signings y → x.times ≡ y.times → x.version ≡ y.version
 
 -- The zone answer has one RRset that is sought, up to the case of its owner: what it proves rests on that alone.
-abbrev pub HasOneRrset : ℕ → Handing → Type 0
+abbrev pub HasOneRrset : ℕ → JudgeInput → Type 0
 HasOneRrset k h =
     (read : Message) (o p : Name) (t u : ℕ) → message k h.answer_bytes ≡ Ok read
     → (sought_of_answer k h read.records).is o t ≡ true → 0 < length ((sought_of_answer k h read.records).datas o t)
@@ -136,14 +136,14 @@ HasOneRrset k h =
 
 -- The zone never changed; or signatures must be of one moment, and at one moment there was one version; or the answer has one
 -- RRset that is sought, whatever its moment.
-abbrev pub Settled : ℕ → Handing → List Version → List Signing → Type 0
+abbrev pub Settled : ℕ → JudgeInput → List Version → List Signing → Type 0
 Settled k h versions signings = (length versions ≡ 1) ⊎ (((h.one_moment ≡ true) × OneAtATime signings) ⊎ HasOneRrset k h)
 
 -- ---- what is handed in
 
 -- What is handed in beside a DS set that isn't empty: two messages that are honest in the life of a zone that had these versions,
 -- one at least, whoever signs and serves it. Some keys were published in it, and its versions were signed at some moments.
-pub record AreHonest (a : Answers) (k : ℕ) (h : Handing) (versions : List Version) : Type 0 where
+pub record AreHonest (a : Answers) (k : ℕ) (h : JudgeInput) (versions : List Version) : Type 0 where
   pub published : List Dnskey
   pub signings : List Signing
   pub apex_is : IsName h.apex
@@ -161,39 +161,39 @@ pub record AreHonest (a : Answers) (k : ℕ) (h : Handing) (versions : List Vers
 -- ---- what is said of it
 
 -- the verdict of a version, and whether the name is an alias in it
-abbrev pub verdict_of : Handing → Version → Verdict
+abbrev pub verdict_of : JudgeInput → Version → Verdict
 verdict_of h v = verdict (zone_in h.apex v) (optout_of v.mode) h.asked.name h.asked.rtype
 
-abbrev pub is_alias_in : Handing → Version → Bool
+abbrev pub is_alias_in : JudgeInput → Version → Bool
 is_alias_in h v = is_aliased (zone_in h.apex v) (optout_of v.mode) h.asked.name h.asked.rtype
 
 -- a version has this verdict, and the name is no alias in it
-pub record IsSaidByOne (h : Handing) (versions : List Version) (w : Verdict) : Type 0 where
+pub record IsSaidByOne (h : JudgeInput) (versions : List Version) (w : Verdict) : Type 0 where
   pub version : Version
   pub there : Contains versions version
   pub verdict_is : verdict_of h version ≡ w
   pub no_alias : is_alias_in h version ≡ false
 
 -- no other verdict is said
-abbrev pub SaysOneOf : Handing → List Version → Answer → Type 0
+abbrev pub SaysOneOf : JudgeInput → List Version → Answer → Type 0
 SaysOneOf h versions (Says w) = IsSaidByOne h versions w
 SaysOneOf h versions (Refuses e) = Unit {0}
 
 -- Of honest messages a judge says the verdict of one version, or refuses: never one that a mixture of them brings.
-abbrev pub AnswersHonest : Answers → ℕ → Handing → Answer → Type 0
+abbrev pub AnswersHonest : Answers → ℕ → JudgeInput → Answer → Type 0
 AnswersHonest a k h answer = (versions : List Version) → AreHonest a k h versions → SaysOneOf h versions answer
 
 -- ---- a zone that doesn't change
 
 -- this verdict alone is said, and of no alias
-abbrev pub SaysAtMost : Handing → Version → Answer → Type 0
+abbrev pub SaysAtMost : JudgeInput → Version → Answer → Type 0
 SaysAtMost h v (Says w) = (w ≡ verdict_of h v) × (is_alias_in h v ≡ false)
 SaysAtMost h v (Refuses e) = Unit {0}
 
 -- all that was signed is of one version
-abbrev pub AreHonestOf : Answers → ℕ → Handing → Version → Type 0
+abbrev pub AreHonestOf : Answers → ℕ → JudgeInput → Version → Type 0
 AreHonestOf a k h v = AreHonest a k h (v ∷ [])
 
 -- of honest messages a judge says the zone's verdict, or refuses, whether or not signatures must be of one moment
-abbrev pub AnswersHonestOf : Answers → ℕ → Handing → Answer → Type 0
+abbrev pub AnswersHonestOf : Answers → ℕ → JudgeInput → Answer → Type 0
 AnswersHonestOf a k h answer = (v : Version) → AreHonestOf a k h v → SaysAtMost h v answer

@@ -13,7 +13,7 @@ use Rattle.messages.specs.Message.{AreOctets, Message, Spelled, message, rrsig_a
 use Rattle.answer_scheme.specs.Answers.{Answers}
 use Rattle.answer_scheme.specs.Moments.{second_of}
 use Rattle.answer_judge_keys.specs.Trusted.{is_signature, is_trusted, is_usable}
-use Rattle.answer_judge_keys.specs.Judging.{Handing}
+use Rattle.answer_judge_keys.specs.Judging.{JudgeInput}
 use Rattle.answer_judge_keys.specs.declared.verdict.Judgement.{Judgement}
 use Rattle.answer_judge_keys.specs.declared.verdict.Lasting.{Lasting}
 use Rattle.answer_judge_keys.specs.declared.verdict.Refused.{Refused}
@@ -105,7 +105,7 @@ abbrev pub answer_lasting : Trusting → ℕ → List ℕ → List Spelled → N
 answer_lasting w k m rs q t = record { ttl = least_of (answer_ttls w k m rs q t); seconds = least_of (answer_seconds w k m rs q t) }
 
 -- and of the keys that may sign it
-abbrev pub lasting_in_messages : Answers → ℕ → Handing → Message → Message → Lasting
+abbrev pub lasting_in_messages : Answers → ℕ → JudgeInput → Message → Message → Lasting
 lasting_in_messages a k h keys answer =
     let ks = keys_of h keys in
     let usable = trusting a h (filter is_usable ks) in
@@ -115,30 +115,30 @@ lasting_in_messages a k h keys answer =
           ++ answer_seconds usable k h.answer_bytes answer.records h.asked.name h.asked.rtype);
     }
 
-abbrev pub lasting_in_bytes : Answers → ℕ → Handing → Option Lasting
+abbrev pub lasting_in_bytes : Answers → ℕ → JudgeInput → Option Lasting
 lasting_in_bytes a k h = elim (message k h.dnskey_bytes) [
   | Err e ↦ None
   | Ok keys ↦ elim (message k h.answer_bytes) [ Err e ↦ None | Ok answer ↦ Some (lasting_in_messages a k h keys answer) ]
 ]
 
 -- beside an empty DS set nothing is verified, so nothing says how long that lasts
-abbrev pub lasting_of : Answers → ℕ → Handing → Option Lasting
+abbrev pub lasting_of : Answers → ℕ → JudgeInput → Option Lasting
 lasting_of a k h = if nat_eq (length h.ds) 0 then None else lasting_in_bytes a k h
 
 -- what is said of a judgement
-abbrev pub LastsSo : ℕ → Answers → Handing → Result Judgement Refused → Type 0
+abbrev pub LastsSo : ℕ → Answers → JudgeInput → Result Judgement Refused → Type 0
 LastsSo k a h (Ok j) = j.lasting ≡ lasting_of a k h
 LastsSo k a h (Err e) = Unit {0}
 
 -- what is handed in, at a moment in nanoseconds
-abbrev pub at_moment : ℕ → Handing → Handing
+abbrev pub at_moment : ℕ → JudgeInput → JudgeInput
 at_moment at h = record h { now = second_of at }
 
 -- At each moment from a judgement's up to the last second of its lasting, the same octets are judged alike, under the same answers
 -- of a scheme.
 abbrev pub VerdictsLast : Type 0
 VerdictsLast =
-    (a : Answers) (k : ℕ) (h : Handing) (at later : ℕ) (l : Lasting) → AreOctets h.dnskey_bytes → AreOctets h.answer_bytes
+    (a : Answers) (k : ℕ) (h : JudgeInput) (at later : ℕ) (l : Lasting) → AreOctets h.dnskey_bytes → AreOctets h.answer_bytes
     → lasting_of a k (at_moment at h) ≡ Some l → at ≤ later → later / 1000000000 ≤ at / 1000000000 + l.seconds
     → judged a k (at_moment later h) ≡ judged a k (at_moment at h)
 

@@ -21,10 +21,10 @@ ghost use Rattle.answer_judge_facts.specs.Ranked.{AreRanked, AskedLast, IsRun, a
 use crate::groups::{Group, is_chain_type, place_of, read_group, verify_groups};
 use crate::lasting::lasting_of;
 use crate::times::are_unlike;
+use answer_judge_keys::check_run::CheckRun;
 use answer_judge_keys::trust::Trust;
 use answer_judge_keys::verdict::{DataList, Lasting};
-use answer_judge_keys::verifier::Verifier;
-use answer_judge_rules::decide::{Facts, HashLink, Link, Rrset};
+use answer_judge_rules::decide::{Facts, HashLink, NsecLink, Rrset};
 use answer_scheme::checks::Checks;
 use answer_shared::owner::{hash_spelled, spells_hash};
 use messages::names::{Name, ToName, cow_name, is_at_or_above};
@@ -53,39 +53,39 @@ pub fn read_facts<'a, C: Checks>(
     trust: &Trust,
     name: &Name<Vec<u8>>,
     rtype: Rtype,
-    verifier: &mut Verifier<C>,
+    check_run: &mut CheckRun<C>,
 ) -> Result<Proof<'a>, AllocError>
     requires index { Ranks trust.now.keys.now trust.now.ranked.now }
-    requires room { verifier.old.count + length records.now < 2 ^ 32 }
+    requires room { check_run.old.count + length records.now < 2 ^ 32 }
     requires other { is_chain_type rtype ≡ false }
-    ensures proves { EachAgreeing (C.answers verifier.old.checks.now)
-        (C.agrees verifier.new.checks.now) (λ a. let w = held_by a trust.now in
+    ensures proves { EachAgreeing (C.answers check_run.old.checks.now)
+        (C.agrees check_run.new.checks.now) (λ a. let w = held_by a trust.now in
         let m = message.now in let rs = map spelled records.now in
         IfOk result (λ p. IsVerifiedProof w pointer_limit m rs name.now rtype p
-        verifier.old.count verifier.new.count)) }
-    ensures lasts { EachAgreeing (C.answers verifier.old.checks.now)
-        (C.agrees verifier.new.checks.now) (λ a. let w = held_by a trust.now in
+        check_run.old.count check_run.new.count)) }
+    ensures lasts { EachAgreeing (C.answers check_run.old.checks.now)
+        (C.agrees check_run.new.checks.now) (λ a. let w = held_by a trust.now in
         let m = message.now in let rs = map spelled records.now in
         IfOk result (λ p. p.lasting ≡ answer_lasting w pointer_limit m rs name.now rtype)) }
-    ensures agrees { (test : SignatureTest) → C.agrees verifier.new.checks.now test
-        → C.agrees verifier.old.checks.now test }
-    ensures asked { (test : SignatureTest) → let a = C.answers verifier.old.checks.now in
+    ensures agrees { (test : SignatureTest) → C.agrees check_run.new.checks.now test
+        → C.agrees check_run.old.checks.now test }
+    ensures asked { (test : SignatureTest) → let a = C.answers check_run.old.checks.now in
         let w = held_by a trust.now in let m = message.now in let rs = map spelled records.now in
         let sought = answer_sought pointer_limit m w.apex rs name.now rtype in
         Implies (is_tried_among w pointer_limit m sought [] rs) test
-        → C.asked_only verifier.old.checks.now test → C.asked_only verifier.new.checks.now test }
-    ensures counted { C.verified verifier.new.checks.now + verifier.old.count
-        ≡ C.verified verifier.old.checks.now + verifier.new.count }
+        → C.asked_only check_run.old.checks.now test → C.asked_only check_run.new.checks.now test }
+    ensures counted { C.verified check_run.new.checks.now + check_run.old.count
+        ≡ C.verified check_run.old.checks.now + check_run.new.count }
     ensures bound { let rs = map spelled records.now in
-        verifier.new.count ≤ verifier.old.count + length (filter is_signature rs) }
-    ensures hashed { C.hashed verifier.new.checks.now ≡ C.hashed verifier.old.checks.now }
-    ensures same { C.answers verifier.new.checks.now ≡ C.answers verifier.old.checks.now }
-    ensures same_checks { verifier.new.checks.ghost_name ≡ verifier.old.checks.ghost_name }
+        check_run.new.count ≤ check_run.old.count + length (filter is_signature rs) }
+    ensures hashed { C.hashed check_run.new.checks.now ≡ C.hashed check_run.old.checks.now }
+    ensures same { C.answers check_run.new.checks.now ≡ C.answers check_run.old.checks.now }
+    ensures same_checks { check_run.new.checks.ghost_name ≡ check_run.old.checks.ghost_name }
 {
-    let alloc = verifier.alloc;
+    let alloc = check_run.alloc;
     let chained = sorted_chain(alloc, records)?;
     let mut groups = sought_groups(alloc, trust.apex, message, records, &chained, name, rtype)?;
-    verify_groups(message, records, trust, &mut groups, verifier)?;
+    verify_groups(message, records, trust, &mut groups, check_run)?;
     let has_unlike_times = are_unlike(&groups);
     let lasting = lasting_of(message, records, &groups, trust.moment);
     let facts = facts_of_groups(alloc, trust.apex, message, records, groups)?;
@@ -389,7 +389,7 @@ fn read_links<'a>(
     message: &'a [u8],
     records: &[ViewRecord<'a>],
     groups: &[Group],
-) -> Result<Vec<Link<'a>>, AllocError>
+) -> Result<Vec<NsecLink<'a>>, AllocError>
     requires { AreRanked groups.now }
     ensures { IfOk result
         (λ ls. ls.items ≡ filter_map (link_by message.now groups.now) (map spelled records.now)) }
@@ -398,7 +398,7 @@ fn read_links<'a>(
     for record in records {
         if is_record_of(record, Rtype::NSEC) && is_verified(groups, &record.owner, Rtype::NSEC) {
             if let Some(data) = record.link(message) {
-                links.push(Link::new(*record.owner.name(), data))?;
+                links.push(NsecLink::new(*record.owner.name(), data))?;
             }
         }
     }

@@ -19,9 +19,9 @@ ghost use Rattle.definitions.specs.Name.{same};
 ghost use Rattle.definitions.specs.Zone.{sorted_data};
 ghost use Rattle.definitions.specs.Signing.{signed_octets};
 
+use answer_judge_keys::check_run::CheckRun;
 use answer_judge_keys::order::sort_data;
 use answer_judge_keys::trust::{GroupOwner, Signature, Trust};
-use answer_judge_keys::verifier::Verifier;
 use answer_scheme::checks::Checks;
 use messages::names::ToName;
 use messages::signed::compose_signed_octets;
@@ -168,37 +168,37 @@ pub fn verify_groups<C: Checks>(
     records: &[ViewRecord],
     trust: &Trust,
     groups: &mut [Group],
-    verifier: &mut Verifier<C>,
+    check_run: &mut CheckRun<C>,
 ) -> Result<(), AllocError>
     requires index { Ranks trust.now.keys.now trust.now.ranked.now }
-    requires room { verifier.old.count + length records.now < 2 ^ 32 }
+    requires room { check_run.old.count + length records.now < 2 ^ 32 }
     requires ranked { AreRanked groups.old }
-    ensures marked { EachAgreeing (C.answers verifier.old.checks.now)
-        (C.agrees verifier.new.checks.now) (λ a. let w = held_by a trust.now in
+    ensures marked { EachAgreeing (C.answers check_run.old.checks.now)
+        (C.agrees check_run.new.checks.now) (λ a. let w = held_by a trust.now in
         let rs = map spelled records.now in
         IfOk result (λ _. groups.new ≡ map (marked w message.now rs) groups.old)) }
-    ensures tried { EachAgreeing (C.answers verifier.old.checks.now)
-        (C.agrees verifier.new.checks.now) (λ a. let w = held_by a trust.now in
+    ensures tried { EachAgreeing (C.answers check_run.old.checks.now)
+        (C.agrees check_run.new.checks.now) (λ a. let w = held_by a trust.now in
         let tried = tries_in w message.now groups.old (map spelled records.now) in
-        IfOk result (λ _. verifier.new.count ≡ verifier.old.count + tried)) }
-    ensures agrees { (test : SignatureTest) → C.agrees verifier.new.checks.now test
-        → C.agrees verifier.old.checks.now test }
-    ensures asked { (test : SignatureTest) → let a = C.answers verifier.old.checks.now in
+        IfOk result (λ _. check_run.new.count ≡ check_run.old.count + tried)) }
+    ensures agrees { (test : SignatureTest) → C.agrees check_run.new.checks.now test
+        → C.agrees check_run.old.checks.now test }
+    ensures asked { (test : SignatureTest) → let a = C.answers check_run.old.checks.now in
         let m = message.now in let rs = map spelled records.now in
         PassesGroups test (held_by a trust.now) m groups.old rs
-        → C.asked_only verifier.old.checks.now test → C.asked_only verifier.new.checks.now test }
-    ensures counted { C.verified verifier.new.checks.now + verifier.old.count
-        ≡ C.verified verifier.old.checks.now + verifier.new.count }
+        → C.asked_only check_run.old.checks.now test → C.asked_only check_run.new.checks.now test }
+    ensures counted { C.verified check_run.new.checks.now + check_run.old.count
+        ≡ C.verified check_run.old.checks.now + check_run.new.count }
     ensures bound { let rs = map spelled records.now in
-        verifier.new.count ≤ verifier.old.count + length (filter is_signature rs) }
-    ensures few { verifier.new.count ≤ verifier.old.count + length records.now }
-    ensures hashed { C.hashed verifier.new.checks.now ≡ C.hashed verifier.old.checks.now }
-    ensures same { C.answers verifier.new.checks.now ≡ C.answers verifier.old.checks.now }
-    ensures same_checks { verifier.new.checks.ghost_name ≡ verifier.old.checks.ghost_name }
+        check_run.new.count ≤ check_run.old.count + length (filter is_signature rs) }
+    ensures few { check_run.new.count ≤ check_run.old.count + length records.now }
+    ensures hashed { C.hashed check_run.new.checks.now ≡ C.hashed check_run.old.checks.now }
+    ensures same { C.answers check_run.new.checks.now ≡ C.answers check_run.old.checks.now }
+    ensures same_checks { check_run.new.checks.ghost_name ≡ check_run.old.checks.ghost_name }
 {
     for record in records {
         if record.rtype == Rtype::RRSIG {
-            verify_record(message, record, trust, groups, verifier)?;
+            verify_record(message, record, trust, groups, check_run)?;
         }
     }
     Ok(())
@@ -211,31 +211,31 @@ fn verify_record<C: Checks>(
     view: &ViewRecord,
     trust: &Trust,
     groups: &mut [Group],
-    verifier: &mut Verifier<C>,
+    check_run: &mut CheckRun<C>,
 ) -> Result<(), AllocError>
     requires index { Ranks trust.now.keys.now trust.now.ranked.now }
-    requires room { verifier.old.count + 1 < 2 ^ 32 }
+    requires room { check_run.old.count + 1 < 2 ^ 32 }
     requires signature { is_signature (spelled view.now) ≡ true }
     requires ranked { AreRanked groups.old }
-    ensures marked { EachAgreeing (C.answers verifier.old.checks.now)
-        (C.agrees verifier.new.checks.now) (λ a. let w = held_by a trust.now in
+    ensures marked { EachAgreeing (C.answers check_run.old.checks.now)
+        (C.agrees check_run.new.checks.now) (λ a. let w = held_by a trust.now in
         let r = spelled view.now in
         IfOk result (λ _. groups.new ≡ map (marked w message.now (r ∷ [])) groups.old)) }
-    ensures tried { EachAgreeing (C.answers verifier.old.checks.now)
-        (C.agrees verifier.new.checks.now) (λ a. let w = held_by a trust.now in
+    ensures tried { EachAgreeing (C.answers check_run.old.checks.now)
+        (C.agrees check_run.new.checks.now) (λ a. let w = held_by a trust.now in
         let is_tried = is_tried_in w message.now groups.old (spelled view.now) in
-        IfOk result (λ _. verifier.new.count ≡ verifier.old.count + one_if is_tried)) }
-    ensures agrees { (test : SignatureTest) → C.agrees verifier.new.checks.now test
-        → C.agrees verifier.old.checks.now test }
-    ensures asked { (test : SignatureTest) → let a = C.answers verifier.old.checks.now in
+        IfOk result (λ _. check_run.new.count ≡ check_run.old.count + one_if is_tried)) }
+    ensures agrees { (test : SignatureTest) → C.agrees check_run.new.checks.now test
+        → C.agrees check_run.old.checks.now test }
+    ensures asked { (test : SignatureTest) → let a = C.answers check_run.old.checks.now in
         PassesRecord test (held_by a trust.now) message.now groups.old (spelled view.now)
-        → C.asked_only verifier.old.checks.now test → C.asked_only verifier.new.checks.now test }
-    ensures counted { C.verified verifier.new.checks.now + verifier.old.count
-        ≡ C.verified verifier.old.checks.now + verifier.new.count }
-    ensures bound { verifier.new.count ≤ verifier.old.count + 1 }
-    ensures hashed { C.hashed verifier.new.checks.now ≡ C.hashed verifier.old.checks.now }
-    ensures same { C.answers verifier.new.checks.now ≡ C.answers verifier.old.checks.now }
-    ensures same_checks { verifier.new.checks.ghost_name ≡ verifier.old.checks.ghost_name }
+        → C.asked_only check_run.old.checks.now test → C.asked_only check_run.new.checks.now test }
+    ensures counted { C.verified check_run.new.checks.now + check_run.old.count
+        ≡ C.verified check_run.old.checks.now + check_run.new.count }
+    ensures bound { check_run.new.count ≤ check_run.old.count + 1 }
+    ensures hashed { C.hashed check_run.new.checks.now ≡ C.hashed check_run.old.checks.now }
+    ensures same { C.answers check_run.new.checks.now ≡ C.answers check_run.old.checks.now }
+    ensures same_checks { check_run.new.checks.ghost_name ≡ check_run.old.checks.ghost_name }
 {
     if view.class != Class::IN {
         return Ok(());
@@ -253,7 +253,7 @@ fn verify_record<C: Checks>(
         return Ok(());
     };
     let group = &mut groups[place];
-    group.verified = verifies(&signature, trust, group, verifier)?;
+    group.verified = verifies(&signature, trust, group, check_run)?;
     Ok(())
 }
 
@@ -293,33 +293,33 @@ fn verifies<C: Checks>(
     signature: &Signature,
     trust: &Trust,
     group: &Group,
-    verifier: &mut Verifier<C>,
+    check_run: &mut CheckRun<C>,
 ) -> Result<Option<Signed>, AllocError>
     requires index { Ranks trust.now.keys.now trust.now.ranked.now }
-    requires room { verifier.old.count + 1 < 2 ^ 32 }
-    ensures signs { EachAgreeing (C.answers verifier.old.checks.now)
-        (C.agrees verifier.new.checks.now) (λ a. let w = held_by a trust.now in
+    requires room { check_run.old.count + 1 < 2 ^ 32 }
+    ensures signs { EachAgreeing (C.answers check_run.old.checks.now)
+        (C.agrees check_run.new.checks.now) (λ a. let w = held_by a trust.now in
         let f = fields_read signature.now in
         let is_signed = signs_group w group.now f signature.now.signature in
         IfOk result (λ o. o ≡ if_true is_signed (signed_of f))) }
-    ensures tried { EachAgreeing (C.answers verifier.old.checks.now)
-        (C.agrees verifier.new.checks.now) (λ a. let w = held_by a trust.now in
+    ensures tried { EachAgreeing (C.answers check_run.old.checks.now)
+        (C.agrees check_run.new.checks.now) (λ a. let w = held_by a trust.now in
         let f = fields_read signature.now in
         let is_tried = can_try w group.now.owner (data_in group.now) f in
-        IfOk result (λ _. verifier.new.count ≡ verifier.old.count + one_if is_tried)) }
-    ensures agrees { (test : SignatureTest) → C.agrees verifier.new.checks.now test
-        → C.agrees verifier.old.checks.now test }
-    ensures asked { (test : SignatureTest) → let a = C.answers verifier.old.checks.now in
+        IfOk result (λ _. check_run.new.count ≡ check_run.old.count + one_if is_tried)) }
+    ensures agrees { (test : SignatureTest) → C.agrees check_run.new.checks.now test
+        → C.agrees check_run.old.checks.now test }
+    ensures asked { (test : SignatureTest) → let a = C.answers check_run.old.checks.now in
         let w = held_by a trust.now in let f = fields_read signature.now in let g = group.now in
         (can_try w g.owner (data_in g) f ≡ true
         → PassesOver test w.keys f signature.now.signature g.owner (data_in g))
-        → C.asked_only verifier.old.checks.now test → C.asked_only verifier.new.checks.now test }
-    ensures counted { C.verified verifier.new.checks.now + verifier.old.count
-        ≡ C.verified verifier.old.checks.now + verifier.new.count }
-    ensures bound { verifier.new.count ≤ verifier.old.count + 1 }
-    ensures hashed { C.hashed verifier.new.checks.now ≡ C.hashed verifier.old.checks.now }
-    ensures same { C.answers verifier.new.checks.now ≡ C.answers verifier.old.checks.now }
-    ensures same_checks { verifier.new.checks.ghost_name ≡ verifier.old.checks.ghost_name }
+        → C.asked_only check_run.old.checks.now test → C.asked_only check_run.new.checks.now test }
+    ensures counted { C.verified check_run.new.checks.now + check_run.old.count
+        ≡ C.verified check_run.old.checks.now + check_run.new.count }
+    ensures bound { check_run.new.count ≤ check_run.old.count + 1 }
+    ensures hashed { C.hashed check_run.new.checks.now ≡ C.hashed check_run.old.checks.now }
+    ensures same { C.answers check_run.new.checks.now ≡ C.answers check_run.old.checks.now }
+    ensures same_checks { check_run.new.checks.ghost_name ≡ check_run.old.checks.ghost_name }
 {
     if group.items.is_empty() || !trust.is_due(signature, &group.owner) {
         return Ok(None);
@@ -327,11 +327,11 @@ fn verifies<C: Checks>(
     let Some(key) = trust.key(signature) else {
         return Ok(None);
     };
-    write_signed(verifier.alloc, signature, group, verifier.octets)?;
-    verifier.count += 1;
-    if verifier
+    write_signed(check_run.alloc, signature, group, check_run.octets)?;
+    check_run.count += 1;
+    if check_run
         .checks
-        .verify(key.dnskey(), verifier.octets, *signature.signature())
+        .verify(key.dnskey(), check_run.octets, *signature.signature())
     {
         return Ok(Some(signed_of(signature)));
     }

@@ -5,7 +5,7 @@
 pub mod facts;
 pub mod groups;
 pub mod honest;
+pub mod key_rrset;
 pub mod lasting;
 pub mod laws;
-pub mod signed_keys;
 pub mod times;

@@ -32,7 +32,7 @@ hashes_of (Ok j) = j.hashes
 hashes_of (Err e) = e.hashes
 
 -- what it is handed; the moment in whole seconds modulo 2^32
-pub record Handing : Type 0 where
+pub record JudgeInput : Type 0 where
   pub apex : Name
   pub ds : List Ds
   pub dnskey_bytes : List ℕ
@@ -46,7 +46,7 @@ pub record Handing : Type 0 where
   pub other_question : Bool
 
 -- at a moment in nanoseconds
-abbrev pub handed_for : Name → List Ds → List ℕ → List ℕ → Asked → ℕ → ℕ → Bool → Bool → Handing
+abbrev pub handed_for : Name → List Ds → List ℕ → List ℕ → Asked → ℕ → ℕ → Bool → Bool → JudgeInput
 handed_for apex ds dnskey_bytes answer_bytes asked at limit one_moment other_question = record {
   apex = apex;
   ds = ds;
@@ -60,7 +60,7 @@ handed_for apex ds dnskey_bytes answer_bytes asked at limit one_moment other_que
 }
 
 -- where the answer must be one to the question
-abbrev pub handed : Name → List Ds → List ℕ → List ℕ → Asked → ℕ → ℕ → Bool → Handing
+abbrev pub handed : Name → List Ds → List ℕ → List ℕ → Asked → ℕ → ℕ → Bool → JudgeInput
 handed apex ds dnskey_bytes answer_bytes asked at limit one_moment = handed_for apex ds dnskey_bytes answer_bytes asked at limit one_moment false
 
 -- ---- the first refusals
@@ -71,12 +71,12 @@ same_question a b = same a.name b.name && (a.rtype == b.rtype) && (a.class == b.
 
 -- What a zone answer may ask: the question, or another where that is wanted. What it proves is true whatever it asks; where it
 -- must ask the question, one that was replayed or mixed up with another is named as that.
-abbrev pub may_ask : Handing → Asked → Bool
+abbrev pub may_ask : JudgeInput → Asked → Bool
 may_ask h asked = h.other_question || same_question asked h.asked
 
 -- A question is judged that is allowed; where other questions are wanted, also one for the records of aliases. None is judged
 -- for a type that signing adds: records of the chain would pass for records of the zone, which has none of these types.
-abbrev pub is_judged : Handing → Bool
+abbrev pub is_judged : JudgeInput → Bool
 is_judged h = (h.other_question && asks_alias h.apex h.asked) || is_allowed h.apex h.asked
 
 -- the keys of a DNSKEY answer: at the apex, class IN, data that read as a key
@@ -87,7 +87,7 @@ abbrev pub keys_in : List ℕ → Name → List Spelled → List Dnskey
 keys_in m apex rs = filter_map (key_at m apex) rs
 
 -- what the messages themselves bring, beside a DS set that isn't empty
-abbrev pub message_refusal : ℕ → Handing → Option Refusal
+abbrev pub message_refusal : ℕ → JudgeInput → Option Refusal
 message_refusal k h = elim (message k h.dnskey_bytes) [
   | Err e ↦ Some r.BadDnskeyMessage
   | Ok keys ↦ elim (message k h.answer_bytes) [
@@ -100,7 +100,7 @@ message_refusal k h = elim (message k h.dnskey_bytes) [
 ]
 
 -- the first of the refusals that stand in what is handed in, in their order
-abbrev pub first_refusal : ℕ → Handing → Option Refusal
+abbrev pub first_refusal : ℕ → JudgeInput → Option Refusal
 first_refusal k h =
     if not (is_judged h) then Some r.QuestionNotAllowed
     else if nat_eq (length h.ds) 0 then None
@@ -137,7 +137,7 @@ pub record IsUnsignedOnly (answer : Answer) (verifications hashes : ℕ) : Type 
   pub none_verified : verifications ≡ 0
   pub none_hashed : hashes ≡ 0
 
-abbrev pub EmptyIsUnsigned : Handing → Answer → ℕ → ℕ → Type 0
+abbrev pub EmptyIsUnsigned : JudgeInput → Answer → ℕ → ℕ → Type 0
 EmptyIsUnsigned h answer v k = IsTrue (is_judged h) → h.ds ≡ [] → IsUnsignedOnly answer v k
 
 -- ---- bounds
@@ -146,15 +146,15 @@ EmptyIsUnsigned h answer v k = IsTrue (is_judged h) → h.ds ≡ [] → IsUnsign
 abbrev pub signatures_in : ℕ → List ℕ → ℕ
 signatures_in k m = elim (message k m) [ Err e ↦ 0 | Ok read ↦ length (filter (λ s. nat_eq s.rtype 46) read.records) ]
 
-abbrev pub verification_bound : ℕ → Handing → ℕ
+abbrev pub verification_bound : ℕ → JudgeInput → ℕ
 verification_bound k h = signatures_in k h.dnskey_bytes + signatures_in k h.answer_bytes
 
 -- the labels of the question's name, the root's counted, and one
-abbrev pub hash_bound : Handing → ℕ
+abbrev pub hash_bound : JudgeInput → ℕ
 hash_bound h = length h.asked.name + 2
 
 -- what every judgement keeps, whatever is handed in
-pub record Judges (k : ℕ) (h : Handing) (answer : Answer) (verifications hashes : ℕ) : Type 0 where
+pub record Judges (k : ℕ) (h : JudgeInput) (answer : Answer) (verifications hashes : ℕ) : Type 0 where
   pub first : AnswersFirst answer (first_refusal k h)
   pub empty : EmptyIsUnsigned h answer verifications hashes
   pub verifications_bound : verifications ≤ verification_bound k h

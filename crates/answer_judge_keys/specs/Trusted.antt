@@ -18,12 +18,12 @@ is_usable k = (k.flags / 256 % 2 == 1) && (k.protocol == 3)
 abbrev pub digests_to : Answers → Name → Dnskey → Ds → Bool
 digests_to a apex k d = elim (a.digest d.digest_type (digested apex k)) [ None ↦ false | Some octets ↦ bytes_eq octets d.digest ]
 
-abbrev pub names_key : Answers → Name → Dnskey → Ds → Bool
-names_key a apex k d = (d.tag == key_tag k) && (d.algorithm == k.algorithm) && digests_to a apex k d
+abbrev pub matches_key : Answers → Name → Dnskey → Ds → Bool
+matches_key a apex k d = (d.tag == key_tag k) && (d.algorithm == k.algorithm) && digests_to a apex k d
 
 -- a usable key that a DS record names
 abbrev pub is_trusted : Answers → Name → List Ds → Dnskey → Bool
-is_trusted a apex ds k = is_usable k && list_any (names_key a apex k) ds
+is_trusted a apex ds k = is_usable k && list_any (matches_key a apex k) ds
 
 -- ---- signatures
 

@@ -3,7 +3,7 @@ ghost use Rattle.std.specs.Prelude.{◌≡◌, ◌≤◌, IfOk, filter, length, 
 ghost use Rattle.std.specs.List.{find, list_any};
 ghost use Rattle.std.specs.Option.{option_map};
 ghost use Rattle.definitions.specs.Dnskey.{dnskey_data, key_tag};
-ghost use Rattle.answer_judge_keys.specs.Trusted.{fits_key, is_usable, is_trusted, names_key};
+ghost use Rattle.answer_judge_keys.specs.Trusted.{fits_key, is_usable, is_trusted, matches_key};
 ghost use Rattle.answer_shared.specs.EqualTags.{clashes, has_equal_tags};
 ghost use Rattle.answer_judge_keys.specs.Judging.{key_at, keys_in};
 ghost use Rattle.messages.specs.Message.{data_of};
@@ -12,8 +12,8 @@ ghost use Rattle.answer_judge_keys.specs.KeyOrder.{Ranks, is_before, key_cmp};
 ghost use Rattle.std.specs.List.Sorted.{IsSortedBy};
 ghost use Rattle.std.specs.Ordering.{is_lt};
 
+use crate::check_run::CheckRun;
 use crate::trust::Signature;
-use crate::verifier::Verifier;
 use answer_scheme::checks::Checks;
 use answer_scheme::error::SchemeError;
 use answer_shared::dnskey::{Dnskey, ZoneKey, key_of_data};
@@ -316,15 +316,15 @@ pub fn trusted_keys<'a, C: Checks>(
     apex: &Name<Vec<u8>>,
     ds: &[Ds<Vec<u8>>],
     keys: &[TaggedKey<'a>],
-    verifier: &mut Verifier<C>,
+    check_run: &mut CheckRun<C>,
 ) -> Result<Vec<TaggedKey<'a>>, AllocError>
-    ensures trusted { let a = C.answers verifier.old.checks.now in
+    ensures trusted { let a = C.answers check_run.old.checks.now in
         IfOk result (λ ks. ks.items ≡ filter (is_trusted a apex.now ds.now) keys.now) }
-    ensures rest { verifier.new ≡ record verifier.old { octets = verifier.new.octets } }
+    ensures rest { check_run.new ≡ record check_run.old { octets = check_run.new.octets } }
 {
-    let mut trusted = Vec::new(verifier.alloc);
+    let mut trusted = Vec::new(check_run.alloc);
     for key in keys {
-        if key.is_usable() && is_named(apex, ds, key, verifier)? {
+        if key.is_usable() && has_matching_ds(apex, ds, key, check_run)? {
             trusted.push(key.copied())?;
         }
     }
@@ -332,18 +332,18 @@ pub fn trusted_keys<'a, C: Checks>(
 }
 
 /// Whether a DS record names a key.
-fn is_named<C: Checks>(
+fn has_matching_ds<C: Checks>(
     apex: &Name<Vec<u8>>,
     ds: &[Ds<Vec<u8>>],
     key: &TaggedKey,
-    verifier: &mut Verifier<C>,
+    check_run: &mut CheckRun<C>,
 ) -> Result<bool, AllocError>
-    ensures named { let a = C.answers verifier.old.checks.now in
-        IfOk result (λ b. b ≡ list_any (names_key a apex.now key.now) ds.now) }
-    ensures rest { verifier.new ≡ record verifier.old { octets = verifier.new.octets } }
+    ensures named { let a = C.answers check_run.old.checks.now in
+        IfOk result (λ b. b ≡ list_any (matches_key a apex.now key.now) ds.now) }
+    ensures rest { check_run.new ≡ record check_run.old { octets = check_run.new.octets } }
 {
     for record in ds {
-        if names_key(apex, record, key, verifier)? {
+        if matches_key(apex, record, key, check_run)? {
             return Ok(true);
         }
     }
@@ -354,26 +354,26 @@ fn is_named<C: Checks>(
 ///
 /// Anyone can make a key of a tag and an algorithm: the digest alone tells the one that the parent
 /// vouches for.
-fn names_key<C: Checks>(
+fn matches_key<C: Checks>(
     apex: &Name<Vec<u8>>,
     ds: &Ds<Vec<u8>>,
     key: &TaggedKey,
-    verifier: &mut Verifier<C>,
+    check_run: &mut CheckRun<C>,
 ) -> Result<bool, AllocError>
-    ensures named { let a = C.answers verifier.old.checks.now in
-        IfOk result (λ b. b ≡ names_key a apex.now key.now ds.now) }
-    ensures rest { verifier.new ≡ record verifier.old { octets = verifier.new.octets } }
+    ensures named { let a = C.answers check_run.old.checks.now in
+        IfOk result (λ b. b ≡ matches_key a apex.now key.now ds.now) }
+    ensures rest { check_run.new ≡ record check_run.old { octets = check_run.new.octets } }
 {
     if ds.key_tag() != key.tag() || ds.algorithm() != key.dnskey().algorithm() {
         return Ok(false);
     }
-    let octets = &mut *verifier.octets;
+    let octets = &mut *check_run.octets;
     octets.clear();
     apex.compose_canonical(octets)?;
     key.dnskey().compose(octets)?;
-    match verifier
+    match check_run
         .checks
-        .digest(verifier.alloc, ds.digest_type(), octets)
+        .digest(check_run.alloc, ds.digest_type(), octets)
     {
         Ok(digest) => Ok(digest == *ds.digest()),
         Err(SchemeError::Failed) => Ok(false),

@@ -14,10 +14,10 @@ use Rattle.messages.specs.declared.error.MessageError.{MessageError}
 use Rattle.answer_scheme.specs.Answers.{Answers}
 use Rattle.answer_judge_facts.specs.Asked as asked
 use Rattle.answer_judge_facts.specs.Counted.{is_tried}
-use Rattle.answer_judge_facts.specs.Judged.{is_chained, keys_of, trusting}
+use Rattle.answer_judge_facts.specs.Judged.{ds_authenticates_keys, keys_of, trusting}
 use Rattle.answer_judge_facts.specs.Sought.{Sought, answer_sought, keys_sought}
 use Rattle.answer_judge_facts.specs.Verified.{Trusting}
-use Rattle.answer_judge_keys.specs.Judging.{Handing, first_refusal}
+use Rattle.answer_judge_keys.specs.Judging.{JudgeInput, first_refusal}
 use Rattle.answer_judge_keys.specs.Trusted.{is_trusted, is_usable}
 use Rattle.answer_judge_keys.specs.declared.verdict.Refusal.{Refusal}
 use Rattle.answer_findings.specs.Asking.{AreAsked, IsTriedBy}
@@ -112,7 +112,7 @@ either_right : (b c : Bool) → c ≡ true → (b || c) ≡ true
 either_right true c h = refl
 either_right false c h = h
 
-module _ (a : Answers) (h : Handing) (key : Dnskey) (octets signature : List ℕ) where
+module _ (a : Answers) (h : JudgeInput) (key : Dnskey) (octets signature : List ℕ) where
   abbrev Stands : Type 0
   Stands = (stands_in h.dnskey_bytes signature || stands_in h.answer_bytes signature) ≡ true
 
@@ -130,10 +130,10 @@ module _ (a : Answers) (h : Handing) (key : Dnskey) (octets signature : List ℕ
   in_messages keys answer t = go (asked.is_tried_of_keys a pointer_limit h keys key octets signature) refl t
     where
       go : (b : Bool) → asked.is_tried_of_keys a pointer_limit h keys key octets signature ≡ b
-          → (b || (is_chained a pointer_limit h keys && asked.is_tried_of_answer a pointer_limit h keys answer key octets signature)) ≡ true → Stands
+          → (b || (ds_authenticates_keys a pointer_limit h keys && asked.is_tried_of_answer a pointer_limit h keys answer key octets signature)) ≡ true → Stands
       go true e both = either_left (stands_in h.dnskey_bytes signature) (stands_in h.answer_bytes signature) (by_keys keys e)
       go false e both =
-          let later = and_parts (is_chained a pointer_limit h keys) (asked.is_tried_of_answer a pointer_limit h keys answer key octets signature) both in
+          let later = and_parts (ds_authenticates_keys a pointer_limit h keys) (asked.is_tried_of_answer a pointer_limit h keys answer key octets signature) both in
           either_right (stands_in h.dnskey_bytes signature) (stands_in h.answer_bytes signature) (by_answer keys answer later.1)
 
   abbrev of_answer : Message → Result Message MessageError → Bool
@@ -178,7 +178,7 @@ length-kept p (x ∷ xs) ys all = one (p x) (length-kept p xs ys all)
 abbrev tried_in : Checked → Tried
 tried_in c = c.tried
 
-each_carried : (table : List Checked) (h : Handing) (answered : List Checked) → AllByRecursion (IsTriedBy (may_pass_in table) h) (map tried_in answered)
+each_carried : (table : List Checked) (h : JudgeInput) (answered : List Checked) → AllByRecursion (IsTriedBy (may_pass_in table) h) (map tried_in answered)
     → AllByRecursion (λ c. is_carried h.dnskey_bytes h.answer_bytes c ≡ true) answered
 each_carried table h [] all = tt
 each_carried table h (c ∷ answered) all = (
@@ -186,7 +186,7 @@ each_carried table h (c ∷ answered) all = (
   each_carried table h answered all.1,
 )
 
-stay_few : (most : ℕ) (h : Handing) (table answered : List Checked) → AreAsked table h (map tried_in answered) → are_too_many most h table (length answered) ≡ false → StaysFew most h table answered
+stay_few : (most : ℕ) (h : JudgeInput) (table answered : List Checked) → AreAsked table h (map tried_in answered) → are_too_many most h table (length answered) ≡ false → StaysFew most h table answered
 stay_few most h table answered asks few =
     let counts = length-kept (is_carried h.dnskey_bytes h.answer_bytes) table answered (each_carried table h answered asks.tried.each) in
     let room = ltb-false (most_of most) (length (filter (is_carried h.dnskey_bytes h.answer_bytes) table) + length answered) few in

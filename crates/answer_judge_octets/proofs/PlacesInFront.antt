@@ -1,7 +1,7 @@
 -- Octets in front of a reply, where places are wanted.
 use Rattle.std.proofs.Common.{◌≡◌, ℕ, Bool, true, List, Option, Result, Ok, Err, IfOk, sym, ap, subst, ◌∙◌}
 use Rattle.std.specs.declared.alloc.AllocError.{AllocError}
-use Rattle.answer_judge_keys.specs.Judging.{Handing}
+use Rattle.answer_judge_keys.specs.Judging.{JudgeInput}
 use Rattle.answer_judge_keys.specs.declared.verdict.Lasting.{Lasting}
 use Rattle.answer_findings.specs.Found.{IsFound}
 use Rattle.answer_findings.specs.Seen.{seen}
@@ -15,7 +15,7 @@ use Rattle.answer_judge_octets.specs.declared.reply.Reply.{Reply}
 use Rattle.answer_judge_octets.specs.Places.{octets_in_front}
 use Rattle.answer_judge_octets.specs.Replying.{Replied, SaysFound, behind, counted, found_reply, front_of, reply_seen}
 
-module _ (case : OctetCase) (error : ℕ) (places : Bool) (h : Handing) (table : List Checked) where
+module _ (case : OctetCase) (error : ℕ) (places : Bool) (h : JudgeInput) (table : List Checked) where
   -- a finding that was replied, behind what stands in front of it where places are wanted
   says_finding : (finding : Finding) (lasting : Option Lasting) (verifications hashes : ℕ) (front : List ℕ) (said : Replied) (r : Result Reply AllocError)
       → IsFound table h (f.Finds finding lasting verifications hashes) → FindsTruly table h (f.Finds finding lasting verifications hashes)

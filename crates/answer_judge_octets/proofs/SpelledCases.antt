@@ -13,7 +13,7 @@ use Rattle.std.proofs.lemmas.Grind.{flat_map-append}
 use Rattle.definitions.specs.Name.{Name}
 use Rattle.names_rdata.specs.Composing.{with_length}
 use Rattle.definitions.specs.Dnskey.{dnskey_data}
-use Rattle.answer_judge_keys.specs.Judging.{Handing}
+use Rattle.answer_judge_keys.specs.Judging.{JudgeInput}
 use Rattle.answer_judge_octets.specs.declared.octets.OctetCase.{OctetCase}
 use Rattle.answer_judge_octets.specs.EntryLaws.{once_checked, once_ds, some_checked, some_ds}
 use Rattle.answer_judge_octets.specs.Laws.{ListsGrow, OctetsSpellOneCase, answered_entry}
@@ -60,7 +60,7 @@ one_of m x y false p q = one_of_read m x y (message pointer_limit m) p q
 one_judged : (m x y : List ℕ) (a b : Bool) → a ≡ b → IsJudged a m x → IsJudged b m y → x ≡ y
 one_judged m x y a b e p q = one_of m x y b (subst (λ f. IsJudged f m x) e p) q
 
-one_handing : (case : OctetCase) (h j : Handing) (table others : List Checked) → Spells case h table → Spells case j others → h ≡ j
+one_handing : (case : OctetCase) (h j : JudgeInput) (table others : List Checked) → Spells case h table → Spells case j others → h ≡ j
 one_handing case h j table others p q =
     let apex = one_some h.apex j.apex _ p.apex q.apex in
     let ds_set = spelled_once FitsDs ds_octets once_ds some_ds p.ds_set q.ds_set p.ds.fit q.ds.fit (sym p.ds.octets_are ∙ q.ds.octets_are) in

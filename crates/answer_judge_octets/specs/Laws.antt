@@ -11,7 +11,7 @@ use Rattle.messages_canonical.specs.InForm.{has_form, is_record_in_form}
 use Rattle.answer_shared.specs.Accepting.{zone_of}
 use Rattle.answer_shared.specs.Served.{Group, Served}
 use Rattle.answer_shared.specs.Told.{TellsAnswer, TellsKeys}
-use Rattle.answer_judge_keys.specs.Judging.{Handing}
+use Rattle.answer_judge_keys.specs.Judging.{JudgeInput}
 use Rattle.answer_judge_octets.specs.declared.octets.OctetCase.{OctetCase}
 use Rattle.answer_judge_octets.specs.Replying.{IsJudged, Spells, are_too_many, is_carried, most_of}
 use Rattle.answer_findings.specs.Found.{AreAskedFor}
@@ -21,7 +21,7 @@ use Rattle.answer_judge_octets.specs.Written.{FitsChecked, IsList, checked_octet
 -- a case in octets spells one thing to be judged, and one table
 abbrev pub OctetsSpellOneCase : Type 0
 OctetsSpellOneCase =
-    (case : OctetCase) (h j : Handing) (table others : List Checked)
+    (case : OctetCase) (h j : JudgeInput) (table others : List Checked)
     → Spells case h table → Spells case j others → (h ≡ j) × (table ≡ others)
 
 -- an entry with its last octet set
@@ -37,7 +37,7 @@ ListsGrow =
 
 -- Entries that were put behind a table count from then on, and with them as many signatures of the messages were checked as the
 -- case allows, or fewer.
-pub record StaysFew (most : ℕ) (h : Handing) (table answered : List Checked) : Type 0 where
+pub record StaysFew (most : ℕ) (h : JudgeInput) (table answered : List Checked) : Type 0 where
   pub counted :
       length (filter (is_carried h.dnskey_bytes h.answer_bytes) (table ++ answered))
       ≡ length (filter (is_carried h.dnskey_bytes h.answer_bytes) table) + length answered
@@ -47,7 +47,7 @@ pub record StaysFew (most : ℕ) (h : Handing) (table answered : List Checked) :
 -- case no more are checked.
 abbrev pub AsksStayFew : Type 0
 AsksStayFew =
-    (most : ℕ) (h : Handing) (table answered : List Checked)
+    (most : ℕ) (h : JudgeInput) (table answered : List Checked)
     → AreAskedFor table h (map (λ c. c.tried) answered) → are_too_many most h table (length answered) ≡ false → StaysFew most h table answered
 
 -- the data of an RRset are in form, each by itself

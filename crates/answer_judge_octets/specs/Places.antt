@@ -9,17 +9,17 @@ use Rattle.definitions.specs.Sorting.{sort_by}
 use Rattle.definitions.specs.Zone.{Unsigned}
 use Rattle.answer_findings.specs.Judgements.{aside, asking}
 use Rattle.answer_findings.specs.Seen.{Seen, SeesVerdict, SeesDelegated, SeesNoDs, SeesAlias, SeesStarAlias, SeesDname, SeesReferral}
-use Rattle.answer_judge_keys.specs.Judging.{Handing}
+use Rattle.answer_judge_keys.specs.Judging.{JudgeInput}
 use Rattle.answer_findings.specs.Table.{Checked, answers_with, passes_in}
 use Rattle.answer_verified_records.specs.Records.{verified_records}
 
 -- the same messages, judged for a type at a name
-abbrev pub beside : Handing → Name → ℕ → Handing
+abbrev pub beside : JudgeInput → Name → ℕ → JudgeInput
 beside h name t = aside h (asking h name t)
 
 -- What is judged for what is found: the case itself for a verdict, and NS and DS at the cut of a delegation, or NS at a name without
 -- DS, of which the apex is known to be no delegation; CNAME at the name of an alias, the DNAME, or the DS records of a referral.
-abbrev pub rests_on : Handing → Seen → List Handing
+abbrev pub rests_on : JudgeInput → Seen → List JudgeInput
 rests_on h (SeesVerdict v) = h ∷ []
 rests_on h (SeesDelegated None) = h ∷ []
 rests_on h (SeesDelegated (Some cut)) = h ∷ beside h cut 2 ∷ beside h cut 43 ∷ []
@@ -30,7 +30,7 @@ rests_on h (SeesDname owner leads) = beside h owner 39 ∷ []
 rests_on h (SeesReferral cut ds) = beside h cut 43 ∷ []
 
 -- the numbers of the records that are verified where those signatures pass that pass in a table
-abbrev pub verified_by : List Checked → Handing → List ℕ
+abbrev pub verified_by : List Checked → JudgeInput → List ℕ
 verified_by table h = verified_records (answers_with (passes_in table)) pointer_limit h
 
 -- numbers in ascending order, each once
@@ -38,7 +38,7 @@ abbrev pub in_order : List ℕ → List ℕ
 in_order ns = sort_by nat_cmp ns
 
 -- the numbers of the records that what is found vouches for: those that are verified for one of the judgements that it rests on
-abbrev pub places_found : List Checked → Handing → Seen → List ℕ
+abbrev pub places_found : List Checked → JudgeInput → Seen → List ℕ
 places_found table h s = in_order (flat_map (verified_by table) (rests_on h s))
 
 -- how many places there are, and the places, in four octets each
@@ -46,6 +46,6 @@ abbrev pub octets_of_places : List ℕ → List ℕ
 octets_of_places places = to_be_bytes w32 (length places) ++ flat_map (to_be_bytes w32) places
 
 -- what stands in front of the octets of what is found: nothing where the zone is not signed, and no record is vouched for
-abbrev pub octets_in_front : List Checked → Handing → Seen → List ℕ
+abbrev pub octets_in_front : List Checked → JudgeInput → Seen → List ℕ
 octets_in_front table h (SeesVerdict Unsigned) = []
 octets_in_front table h s = octets_of_places (places_found table h s)

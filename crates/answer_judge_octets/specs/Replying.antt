@@ -12,7 +12,7 @@ use Rattle.messages.specs.NameOctets.{name_of_octets}
 use Rattle.answer_judge_keys.specs.declared.verdict.Lasting.{Lasting}
 use Rattle.answer_judge_keys.specs.declared.verdict.Refusal.{Refusal}
 use Rattle.answer_judge_keys.specs.declared.verdict.Refusal.TheVariants as r
-use Rattle.answer_judge_keys.specs.Judging.{Handing}
+use Rattle.answer_judge_keys.specs.Judging.{JudgeInput}
 use Rattle.answer_findings.specs.declared.finding.Found.{Found}
 use Rattle.answer_findings.specs.declared.finding.Found.TheVariants as f
 use Rattle.answer_findings.specs.Found.{IsFound}
@@ -72,7 +72,7 @@ IsJudged false m judged = IsInForm m judged
 
 -- What the octets of a case spell: what a judge is handed, and a table. That there is no DS record is said by a flag, so that a DS
 -- set which was forgotten is none.
-pub record Spells (case : OctetCase) (h : Handing) (table : List Checked) : Type 0 where
+pub record Spells (case : OctetCase) (h : JudgeInput) (table : List Checked) : Type 0 where
   pub as_received : Bool
   pub flag : flag_in case case.as_received ≡ Some as_received
   pub apex : name_of_octets case.apex.now ≡ Some h.apex
@@ -315,7 +315,7 @@ found_reply second error s lasting = record {
 }
 
 -- Why a case is refused, as an extended error: of signatures those pass that pass in the table (RFC 8914).
-abbrev pub error_of : Handing → List Checked → Refusal → ℕ
+abbrev pub error_of : JudgeInput → List Checked → Refusal → ℕ
 error_of h table refusal = code_of (extended_error_of (answers_with (passes_in table)) pointer_limit h refusal)
 
 -- what is replied to a refusal with an error
@@ -346,7 +346,7 @@ most_of number = if number == 0 then 16 else number
 
 -- Whether what is asked for makes too many signatures, beside the entries of the table whose
 -- signatures stand in the messages, so beside all that was asked for of them before (CVE-2023-50387).
-abbrev pub are_too_many : ℕ → Handing → List Checked → ℕ → Bool
+abbrev pub are_too_many : ℕ → JudgeInput → List Checked → ℕ → Bool
 are_too_many most h table more = nat_lt (most_of most) (length (filter (is_carried h.dnskey_bytes h.answer_bytes) table) + more)
 
 -- entries of signatures that are to be checked, one behind another
@@ -361,12 +361,12 @@ AsksOrStops false asks said = (said ≡ record (only c.Ask) { octets = entries_o
 -- ---- what comes of a search
 
 -- The octets in front of those of what is found, where places are wanted: which records it vouches for.
-abbrev pub front_of : Bool → List Checked → Handing → Seen → List ℕ
+abbrev pub front_of : Bool → List Checked → JudgeInput → Seen → List ℕ
 front_of false table h s = []
 front_of true table h s = octets_in_front table h s
 
 -- what is replied to what comes of a search, beside a DS set with that error, and with or without places
-abbrev pub IsRepliedTo : OctetCase → ℕ → Bool → Handing → List Checked → Found → Replied → Type 0
+abbrev pub IsRepliedTo : OctetCase → ℕ → Bool → JudgeInput → List Checked → Found → Replied → Type 0
 IsRepliedTo case error places h table (f.Finds finding lasting verifications hashes) said =
     said ≡ behind (front_of places table h (seen finding)) (counted verifications hashes (found_reply case.moment error (seen finding) lasting))
 IsRepliedTo case error places h table (f.Refused refusal verifications hashes) said = said ≡ counted verifications hashes (refusal_reply refusal (error_of h table refusal))
@@ -374,7 +374,7 @@ IsRepliedTo case error places h table (f.Asks asks) said = AsksOrStops (are_too_
 
 -- What is found by a table, and what it is replied as. Of messages in which nothing is forged nothing is found but what is so of a
 -- version of the zone, whichever signatures pass beside those of the table.
-pub record SaysFound (case : OctetCase) (error : ℕ) (places : Bool) (h : Handing) (table : List Checked) (said : Replied) : Type 0 where
+pub record SaysFound (case : OctetCase) (error : ℕ) (places : Bool) (h : JudgeInput) (table : List Checked) (said : Replied) : Type 0 where
   pub found : Found
   pub is_found : IsFound table h found
   pub honest : FindsTruly table h found
@@ -382,10 +382,10 @@ pub record SaysFound (case : OctetCase) (error : ℕ) (places : Bool) (h : Handi
 
 -- what the octets spell, and what is found and replied
 pub record IsReply (case : OctetCase) (said : Replied) : Type 0 where
-  pub handing : Handing
+  pub judge_input : JudgeInput
   pub table : List Checked
-  pub spelled : Spells case handing table
-  pub says : SaysFound case (unsupported spelled.ds_set) spelled.places handing table said
+  pub spelled : Spells case judge_input table
+  pub says : SaysFound case (unsupported spelled.ds_set) spelled.places judge_input table said
 
 -- A reply to a case: that memory ran out, also for an extended error, or that octets of it spell nothing, or what is found in what
 -- they spell.

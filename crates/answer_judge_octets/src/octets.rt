@@ -5,7 +5,7 @@ ghost use Rattle.messages.specs.NameOctets.{name_of_octets};
 ghost use Rattle.messages_canonical.specs.InForm.{GrowsTooLong};
 ghost use Rattle.answer_judge_octets.specs.Replying.{Answers, IsJudged, Replies, SaysFound, Unread};
 ghost use Rattle.answer_judge_octets.specs.Replying.{flag_in, reply_seen, report_of};
-ghost use Rattle.answer_judge_octets.specs.ReadCases.{ReadsAs, handing_of};
+ghost use Rattle.answer_judge_octets.specs.ReadCases.{ReadsAs, judge_input_of};
 
 use crate::ds::{judged_ds, unsupported};
 use crate::errors::error_of;
@@ -185,15 +185,15 @@ fn reply(alloc: Global, case: &OctetCase) -> Reply
         Ok(read) => read,
         Err(code) => return Reply::only(alloc, code),
     };
-    match judged(alloc, case, &read) {
+    match reply_of(alloc, case, &read) {
         Ok(reply) => reply,
         Err(_) => Reply::only(alloc, ReplyCode::OutOfMemory),
     }
 }
 
 /// The reply to what a case spells.
-fn judged(alloc: Global, case: &OctetCase, read: &ReadCase) -> Result<Reply, AllocError>
-    ensures { let h = handing_of case.now read.now in let table = read.now.table.items in
+fn reply_of(alloc: Global, case: &OctetCase, read: &ReadCase) -> Result<Reply, AllocError>
+    ensures { let h = judge_input_of case.now read.now in let table = read.now.table.items in
         let places = read.now.places in
         IfOk result (λ r. SaysFound case.now read.now.error places h table (reply_seen r)) }
 {

@@ -9,7 +9,7 @@ use Rattle.denial_nsec3_hash.specs.declared.hasher.HashError.{HashError}
 use Rattle.denial_nsec3_hash.specs.declared.hasher.HashError.TheVariants.{Failed, Memory}
 use Rattle.denial_laws.specs.Facts.{HashLink}
 use Rattle.answer_judge_rules.specs.Hashes.{up_to}
-use Rattle.answer_judge_rules.specs.Hashing.{fails_as, hash_as, Hashes}
+use Rattle.answer_judge_rules.specs.Hashing.{fails_as, hash_as, HashesInTurn}
 
 -- what is answered for a name in lower case is its hash
 pub hash_is : (hash : List ℕ → ℕ → ℕ → List ℕ → Option (List ℕ)) (l : HashLink) (n : Name) (octets h : List ℕ) → octets ≡ wire (low n) → hash octets 1 l.iterations l.salt ≡ Some h → h ≡ hash_as hash l (low n)
@@ -35,7 +35,7 @@ pub one_hashed : {T : Type 0} (items : T → List ℕ) (hash : List ℕ → ℕ 
     → IfOk r (λ h. hash octets 1 l.iterations l.salt ≡ Some (items h))
     → (IsErrOf r Failed → hash octets 1 l.iterations l.salt ≡ None)
     → after ≡ before + 1
-    → Hashes (fails_as hash l) (n ∷ []) before after r
+    → HashesInTurn (fails_as hash l) (n ∷ []) before after r
 one_hashed items hash l n octets before after (Ok h) e ok failed count =
     let answer : hash (wire (low n)) 1 l.iterations l.salt ≡ Some (items h) = ap (λ o. hash o 1 l.iterations l.salt) (sym e) ∙ ok in
     (or_from (fails_as hash l n) false (ap is_none answer) refl, omega arith)

@@ -7,7 +7,7 @@ use Rattle.definitions.specs.Name.{Name}
 use Rattle.denial_nsec3_hash.specs.declared.hasher.HashError.{HashError}
 use Rattle.denial_nsec3_hash.specs.declared.hasher.HashError.TheVariants.{Failed, Memory}
 use Rattle.answer_judge_rules.specs.Hashes.{up_to}
-use Rattle.answer_judge_rules.specs.Hashing.{Hashes}
+use Rattle.answer_judge_rules.specs.Hashing.{HashesInTurn}
 
 -- a name that is hashed goes on, one that fails ends it
 goes_on : (fails : Name → Bool) (n : Name) (ns : List Name) → fails n ≡ false → up_to fails (n ∷ ns) ≡ n ∷ up_to fails ns
@@ -28,7 +28,7 @@ alone true e = refl
 alone false e = e
 
 -- behind a name that was hashed
-pub behind : {T U : Type 0} (fails : Name → Bool) (n : Name) (ns : List Name) (before mid after : ℕ) (h : T) (r : Result U HashError) → Hashes fails (n ∷ []) before mid (Ok h) → Hashes fails ns mid after r → Hashes fails (n ∷ ns) before after r
+pub behind : {T U : Type 0} (fails : Name → Bool) (n : Name) (ns : List Name) (before mid after : ℕ) (h : T) (r : Result U HashError) → HashesInTurn fails (n ∷ []) before mid (Ok h) → HashesInTurn fails ns mid after r → HashesInTurn fails (n ∷ ns) before after r
 behind fails n ns before mid after h (Ok v) a b =
     let here : fails n ≡ false = (or_parts (fails n) false a.0).0 in
     let count : mid ≡ before + 1 = a.1 in
@@ -49,7 +49,7 @@ behind fails n ns before mid after h (Err Memory) a b =
     (omega arith, omega arith)
 
 -- a name that was not hashed ends all
-pub stopped : (T U : Type 0) (fails : Name → Bool) (n : Name) (ns : List Name) (before after : ℕ) (e : HashError) → Hashes {T = T} fails (n ∷ []) before after (Err e) → Hashes {T = U} fails (n ∷ ns) before after (Err e)
+pub stopped : (T U : Type 0) (fails : Name → Bool) (n : Name) (ns : List Name) (before after : ℕ) (e : HashError) → HashesInTurn {T = T} fails (n ∷ []) before after (Err e) → HashesInTurn {T = U} fails (n ∷ ns) before after (Err e)
 stopped T U fails n ns before after Failed a =
     let here : fails n ≡ true = alone (fails n) a.0 in
     (or_left (fails n) (list_any fails ns) here, a.1 ∙ ap (λ ms. before + length ms) (one fails n ∙ sym (ends fails n ns here)))
@@ -58,24 +58,24 @@ stopped T U fails n ns before after Memory a =
     (a.0, omega arith)
 
 -- whatever was to be returned
-pub passed_on : (T U : Type 0) (fails : Name → Bool) (ns : List Name) (before after : ℕ) (e : HashError) → Hashes {T = T} fails ns before after (Err e) → Hashes {T = U} fails ns before after (Err e)
+pub passed_on : (T U : Type 0) (fails : Name → Bool) (ns : List Name) (before after : ℕ) (e : HashError) → HashesInTurn {T = T} fails ns before after (Err e) → HashesInTurn {T = U} fails ns before after (Err e)
 passed_on T U fails ns before after Failed h = h
 passed_on T U fails ns before after Memory h = h
 
 -- an error that is passed on
-pub err_passed : {T U : Type 0} (like : Result T HashError) (fails : Name → Bool) (ns : List Name) (before after : ℕ) (e y : HashError) (r : Result U HashError) → r ≡ Err y → y ≡ e → Hashes {T = T} fails ns before after (Err e) → Hashes fails ns before after r
+pub err_passed : {T U : Type 0} (like : Result T HashError) (fails : Name → Bool) (ns : List Name) (before after : ℕ) (e y : HashError) (r : Result U HashError) → r ≡ Err y → y ≡ e → HashesInTurn {T = T} fails ns before after (Err e) → HashesInTurn fails ns before after r
 err_passed {T = T} {U = U} like fails ns before after e y r a b h =
-    subst (λ (x : Result U HashError). Hashes fails ns before after x) (sym (a ∙ ap (λ x. Err x) b)) (passed_on T U fails ns before after e h)
+    subst (λ (x : Result U HashError). HashesInTurn fails ns before after x) (sym (a ∙ ap (λ x. Err x) b)) (passed_on T U fails ns before after e h)
 
-pub err_stopped : (T : Type 0) {U : Type 0} (fails : Name → Bool) (n : Name) (ns : List Name) (before after : ℕ) (e y : HashError) (r : Result U HashError) → r ≡ Err y → y ≡ e → Hashes {T = T} fails (n ∷ []) before after (Err e) → Hashes fails (n ∷ ns) before after r
+pub err_stopped : (T : Type 0) {U : Type 0} (fails : Name → Bool) (n : Name) (ns : List Name) (before after : ℕ) (e y : HashError) (r : Result U HashError) → r ≡ Err y → y ≡ e → HashesInTurn {T = T} fails (n ∷ []) before after (Err e) → HashesInTurn fails (n ∷ ns) before after r
 err_stopped T {U = U} fails n ns before after e y r a b h =
-    subst (λ (x : Result U HashError). Hashes fails (n ∷ ns) before after x) (sym (a ∙ ap (λ x. Err x) b)) (stopped T U fails n ns before after e h)
+    subst (λ (x : Result U HashError). HashesInTurn fails (n ∷ ns) before after x) (sym (a ∙ ap (λ x. Err x) b)) (stopped T U fails n ns before after e h)
 
-pub err_memory : {U : Type 0} (fails : Name → Bool) (ns : List Name) (n : ℕ) (y : HashError) (r : Result U HashError) → r ≡ Err y → y ≡ Memory → Hashes fails ns n n r
-err_memory {U = U} fails ns n y r a b = subst (λ (x : Result U HashError). Hashes fails ns n n x) (sym (a ∙ ap (λ x. Err x) b)) (omega arith, omega arith)
+pub err_memory : {U : Type 0} (fails : Name → Bool) (ns : List Name) (n : ℕ) (y : HashError) (r : Result U HashError) → r ≡ Err y → y ≡ Memory → HashesInTurn fails ns n n r
+err_memory {U = U} fails ns n y r a b = subst (λ (x : Result U HashError). HashesInTurn fails ns n n x) (sym (a ∙ ap (λ x. Err x) b)) (omega arith, omega arith)
 
 -- nothing is hashed
-pub none : {T : Type 0} (fails : Name → Bool) (n : ℕ) (v : T) → Hashes fails [] n n (Ok v)
+pub none : {T : Type 0} (fails : Name → Bool) (n : ℕ) (v : T) → HashesInTurn fails [] n n (Ok v)
 none fails n v = (refl, omega arith)
 
 -- ---- the same of the names up to one that fails
@@ -100,26 +100,26 @@ pub no_more : (fails : Name → Bool) (ns : List Name) → length (up_to fails n
 no_more fails [] = omega arith
 no_more fails (n ∷ ns) = fewer fails n ns (no_more fails ns) (fails n)
 
-pub none_failed : {T : Type 0} (fails : Name → Bool) (ns : List Name) (before after : ℕ) (r : Result T HashError) → Hashes fails ns before after r → OnOk r (list_any fails (up_to fails ns) ≡ false)
+pub none_failed : {T : Type 0} (fails : Name → Bool) (ns : List Name) (before after : ℕ) (r : Result T HashError) → HashesInTurn fails ns before after r → OnOk r (list_any fails (up_to fails ns) ≡ false)
 none_failed fails ns before after (Ok v) h = kept fails ns ∙ h.0
 none_failed fails ns before after (Err e) h = tt
 
-pub some_failed : {T : Type 0} (fails : Name → Bool) (ns : List Name) (before after : ℕ) (r : Result T HashError) → Hashes fails ns before after r → IsErrOf r Failed → list_any fails (up_to fails ns) ≡ true
+pub some_failed : {T : Type 0} (fails : Name → Bool) (ns : List Name) (before after : ℕ) (r : Result T HashError) → HashesInTurn fails ns before after r → IsErrOf r Failed → list_any fails (up_to fails ns) ≡ true
 some_failed fails ns before after (Ok v) h e = cc
 some_failed fails ns before after (Err Failed) h e = kept fails ns ∙ h.0
 some_failed fails ns before after (Err Memory) h e = cc
 
-pub all_counted : {T : Type 0} (fails : Name → Bool) (ns : List Name) (before after : ℕ) (r : Result T HashError) → Hashes fails ns before after r → IsErrOf r Memory ⊎ (after ≡ before + length (up_to fails ns))
+pub all_counted : {T : Type 0} (fails : Name → Bool) (ns : List Name) (before after : ℕ) (r : Result T HashError) → HashesInTurn fails ns before after r → IsErrOf r Memory ⊎ (after ≡ before + length (up_to fails ns))
 all_counted fails ns before after (Ok v) h = inr (h.1 ∙ ap (λ ms. before + length ms) (sym (all_kept fails ns h.0)))
 all_counted fails ns before after (Err Failed) h = inr h.1
 all_counted fails ns before after (Err Memory) h = inl refl
 
-pub at_most : {T : Type 0} (fails : Name → Bool) (ns : List Name) (before after : ℕ) (r : Result T HashError) → Hashes fails ns before after r → after ≤ before + length (up_to fails ns)
+pub at_most : {T : Type 0} (fails : Name → Bool) (ns : List Name) (before after : ℕ) (r : Result T HashError) → HashesInTurn fails ns before after r → after ≤ before + length (up_to fails ns)
 at_most fails ns before after (Ok v) h = let count : after ≡ before + length (up_to fails ns) = h.1 ∙ ap (λ ms. before + length ms) (sym (all_kept fails ns h.0)) in omega arith
 at_most fails ns before after (Err Failed) h = let count : after ≡ before + length (up_to fails ns) = h.1 in omega arith
 at_most fails ns before after (Err Memory) h = h.1
 
-pub at_least : {T : Type 0} (fails : Name → Bool) (ns : List Name) (before after : ℕ) (r : Result T HashError) → Hashes fails ns before after r → before ≤ after
+pub at_least : {T : Type 0} (fails : Name → Bool) (ns : List Name) (before after : ℕ) (r : Result T HashError) → HashesInTurn fails ns before after r → before ≤ after
 at_least fails ns before after (Ok v) h = let count : after ≡ before + length ns = h.1 in omega arith
 at_least fails ns before after (Err Failed) h = let count : after ≡ before + length (up_to fails ns) = h.1 in omega arith
 at_least fails ns before after (Err Memory) h = h.0

@@ -21,10 +21,10 @@ abbrev pub fails_as : (List ℕ → ℕ → ℕ → List ℕ → Option (List �
 fails_as hash l n = is_none (answered_as hash l n)
 
 -- Names were hashed in turn until one failed, and counted; where memory ran out before that, no more were.
-abbrev pub Hashes : {T : Type 0} → (Name → Bool) → List Name → ℕ → ℕ → Result T HashError → Type 0
-Hashes fails ns before after (Ok v) = (list_any fails ns ≡ false) × (after ≡ before + length ns)
-Hashes fails ns before after (Err Failed) = (list_any fails ns ≡ true) × (after ≡ before + length (up_to fails ns))
-Hashes fails ns before after (Err Memory) = (before ≤ after) × (after ≤ before + length (up_to fails ns))
+abbrev pub HashesInTurn : {T : Type 0} → (Name → Bool) → List Name → ℕ → ℕ → Result T HashError → Type 0
+HashesInTurn fails ns before after (Ok v) = (list_any fails ns ≡ false) × (after ≡ before + length ns)
+HashesInTurn fails ns before after (Err Failed) = (list_any fails ns ≡ true) × (after ≡ before + length (up_to fails ns))
+HashesInTurn fails ns before after (Err Memory) = (before ≤ after) × (after ≤ before + length (up_to fails ns))
 
 -- a record that covers the hash under opt-out
 abbrev pub opens : List ℕ → HashLink → Bool

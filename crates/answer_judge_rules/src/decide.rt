@@ -4,12 +4,12 @@ ghost use Rattle.std.specs.List.{list_any};
 ghost use Rattle.std.specs.Option.{option_map};
 ghost use Rattle.denial_laws.specs.Deciding.{decided, hashed};
 ghost use Rattle.answer_judge_rules.specs.Hashes.{fails_among, hash_among, hashed_for};
-ghost use Rattle.answer_judge_rules.specs.Hashing.{by_hashes, by_names, fails_as, hash_as, hashed_by, Hashes};
+ghost use Rattle.answer_judge_rules.specs.Hashing.{by_hashes, by_names, fails_as, hash_as, hashed_by, HashesInTurn};
 ghost use Rattle.answer_judge_rules.specs.Rules.{verdict_of};
 ghost use Rattle.answer_scheme.specs.Answers.{NoneVerified};
 
 use crate::expanded::expanded;
-pub use crate::facts::{Facts, HashLink, Link, Rrset};
+pub use crate::facts::{Facts, HashLink, NsecLink, Rrset};
 use crate::hashed::{HashChain, hash_denied, hash_expanded};
 use crate::links::denied;
 use crate::verdict::Verdict;
@@ -81,7 +81,7 @@ fn by_rules<C: Checks>(
     ensures hashes { let f = facts.entry in let answers = (C.answers checks.old).hash in
         let names = hashed apex.now (hash_among answers f.hash_links) f name.now in
         let fails = fails_among answers f.hash_links in
-        Hashes fails names (C.hashed checks.old) (C.hashed checks.new) result }
+        HashesInTurn fails names (C.hashed checks.old) (C.hashed checks.new) result }
     ensures alike { C.hashed checks.new + count.old ≡ C.hashed checks.old + count.new }
     ensures others { C.verified checks.new ≡ C.verified checks.old }
     ensures none { NoneVerified C.agrees C.asked_only checks.old checks.new }
@@ -113,7 +113,7 @@ fn by_links(
     alloc: Global,
     apex: &Name<Vec<u8>>,
     rrset: Option<Rrset>,
-    links: &[Link],
+    links: &[NsecLink],
     name: &Name<Vec<u8>>,
     rtype: Rtype,
 ) -> Result<Option<Verdict>, AllocError>
@@ -149,7 +149,7 @@ fn by_hash_links<C: Checks>(
         let hash = hash_as answers chain.now.first.now in
         let fails = fails_as answers chain.now.first.now in
         let names = hashed_by chain.now.apex.now hash rrset chain.now.links.now name.now in
-        Hashes fails names (C.hashed checks.old) (C.hashed checks.new) result }
+        HashesInTurn fails names (C.hashed checks.old) (C.hashed checks.new) result }
     ensures alike { C.hashed checks.new + count.old ≡ C.hashed checks.old + count.new }
     ensures others { C.verified checks.new ≡ C.verified checks.old }
     ensures none { NoneVerified C.agrees C.asked_only checks.old checks.new }

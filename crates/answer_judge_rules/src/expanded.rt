@@ -6,11 +6,11 @@ ghost use Rattle.definitions.specs.Zone.{StarRecords};
 ghost use Rattle.denial_laws.specs.NsecRules.{link_covers, closest, encloses_at, expanded};
 ghost use Rattle.answer_judge_rules.specs.Rules.{verdict_of};
 
-use crate::facts::{Link, Rrset};
+use crate::facts::{NsecLink, Rrset};
 use crate::verdict::Verdict;
 use messages::names::{Name, ZoneName, is_above};
 
-impl<'a> Link<'a> {
+impl<'a> NsecLink<'a> {
     /// Whether the link shows that a name does not exist and that its closest encloser has a number
     /// of labels.
     ///
@@ -40,7 +40,7 @@ impl<'a> Link<'a> {
 
 /// Whether a wildcard's RRset may speak for a name: some link shows that the name does not exist,
 /// and that it is the wildcard of its closest encloser.
-fn may_speak(apex: &Name<Vec<u8>>, links: &[Link], rrset: &Rrset, name: &Name<Vec<u8>>) -> bool
+fn may_speak(apex: &Name<Vec<u8>>, links: &[NsecLink], rrset: &Rrset, name: &Name<Vec<u8>>) -> bool
     ensures { (if result then Some (StarRecords rrset.now.datas) else None)
         ≡ expanded apex.now name.now rrset.now links.now }
 {
@@ -58,7 +58,7 @@ fn may_speak(apex: &Name<Vec<u8>>, links: &[Link], rrset: &Rrset, name: &Name<Ve
 /// 5.3.4).
 pub(crate) fn expanded(
     apex: &Name<Vec<u8>>,
-    links: &[Link],
+    links: &[NsecLink],
     rrset: Rrset,
     name: &Name<Vec<u8>>,
 ) -> Option<Verdict>

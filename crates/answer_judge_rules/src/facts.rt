@@ -52,12 +52,12 @@ impl Rrset {
 /// A verified NSEC record (RFC 4034, 4), in place. A contract sees owner, next name and the octets
 /// of its bitmap.
 #[derive(Drop)]
-pub struct Link<'a> {
+pub struct NsecLink<'a> {
     pub(crate) owner: ParsedName<'a>,
     nsec: Nsec<&'a [u8], ParsedName<'a>>,
 }
 
-impl<'a> Model for Link<'a> {
+impl<'a> Model for NsecLink<'a> {
     ghost use Rattle.names_parsed.specs.Parsed.{parsed_name};
     ghost use Rattle.denial_laws.specs.Facts.{Link};
 
@@ -70,14 +70,14 @@ impl<'a> Model for Link<'a> {
     } };
 }
 
-impl<'a> Link<'a> {
+impl<'a> NsecLink<'a> {
     /// A link of its owner and its data.
     pub fn new(owner: ParsedName<'a>, nsec: Nsec<&'a [u8], ParsedName<'a>>) -> Self
         ensures owner { result.owner ≡ parsed_name owner.entry }
         ensures next { result.next ≡ parsed_name nsec.entry.next_name }
         ensures types { result.bits ≡ nsec.entry.types }
     {
-        Link { owner, nsec }
+        NsecLink { owner, nsec }
     }
 
     /// The next name.
@@ -189,7 +189,7 @@ impl<'a> HashLink<'a> {
 #[derive(Drop)]
 pub struct Facts<'a> {
     pub(crate) rrset: Option<Rrset>,
-    pub(crate) links: Vec<Link<'a>>,
+    pub(crate) links: Vec<NsecLink<'a>>,
     pub(crate) hash_links: Vec<HashLink<'a>>,
 }
 
@@ -207,7 +207,11 @@ impl<'a> Model for Facts<'a> {
 
 impl<'a> Facts<'a> {
     /// Facts of an RRset, if any, and links of both chains.
-    pub fn new(rrset: Option<Rrset>, links: Vec<Link<'a>>, hash_links: Vec<HashLink<'a>>) -> Self
+    pub fn new(
+        rrset: Option<Rrset>,
+        links: Vec<NsecLink<'a>>,
+        hash_links: Vec<HashLink<'a>>,
+    ) -> Self
         ensures { result ≡ record {
           rrset = rrset;
           links = links.entry.items;

@@ -5,7 +5,7 @@ ghost use Rattle.definitions.specs.Name.{low};
 ghost use Rattle.definitions.specs.Zone.{star_under};
 ghost use Rattle.denial_laws.specs.NsecRules.{first_some};
 ghost use Rattle.denial_laws.specs.Nsec3Rules.{star_at, beyond, enclosed, climbed, hash_denied, hash_expanded_by, hash_expanded, last_labels, hashed_enclosed, hashed_climbing, hashed_denied};
-ghost use Rattle.answer_judge_rules.specs.Hashing.{fails_as, hash_as, hashed_beyond, Hashes};
+ghost use Rattle.answer_judge_rules.specs.Hashing.{fails_as, hash_as, hashed_beyond, HashesInTurn};
 ghost use Rattle.answer_judge_rules.specs.Rules.{verdict_of};
 ghost use Rattle.answer_scheme.specs.Answers.{NoneVerified};
 
@@ -13,7 +13,7 @@ use crate::facts::{HashLink, Rrset};
 use crate::hash_links::{
     first_at_hash, first_cut_above, first_star_at, is_denied, is_enclosed, is_matched, left_open,
 };
-use crate::hashing::{HashedName, hash_behind, hash_name, hash_wildcard};
+use crate::hashing::{NameWithHash, hash_behind, hash_name, hash_wildcard};
 use crate::verdict::Verdict;
 use answer_scheme::checks::Checks;
 use denial_nsec3_hash::hasher::HashError;
@@ -50,7 +50,7 @@ fn at_wildcard<C: Checks>(
         ≡ first_some (star_at star chain.now.rtype) chain.now.links.now) }
     ensures hashes { let fails = fails_as (C.answers checks.old).hash chain.now.first.now in
         let names = star_under encloser.now ∷ [] in
-        Hashes fails names (C.hashed checks.old) (C.hashed checks.new) result }
+        HashesInTurn fails names (C.hashed checks.old) (C.hashed checks.new) result }
     ensures alike { C.hashed checks.new + count.old ≡ C.hashed checks.old + count.new }
     ensures others { C.verified checks.new ≡ C.verified checks.old }
     ensures none { NoneVerified C.agrees C.asked_only checks.old checks.new }
@@ -69,7 +69,7 @@ fn beyond_encloser<C: Checks>(
     checks: &mut C,
     count: &mut u32,
     octets: &mut Vec<u8>,
-    closer: &HashedName,
+    closer: &NameWithHash,
     encloser: &Name<&[u8]>,
 ) -> Result<Option<Verdict>, HashError>
     requires room { count.old + 1 < 2 ^ 32 }
@@ -82,7 +82,7 @@ fn beyond_encloser<C: Checks>(
     ensures hashes { let fails = fails_as (C.answers checks.old).hash chain.now.first.now in
         let links = chain.now.links.now in
         let names = hashed_beyond closer.now.hash.items encloser.now links in
-        Hashes fails names (C.hashed checks.old) (C.hashed checks.new) result }
+        HashesInTurn fails names (C.hashed checks.old) (C.hashed checks.new) result }
     ensures alike { C.hashed checks.new + count.old ≡ C.hashed checks.old + count.new }
     ensures others { C.verified checks.new ≡ C.verified checks.old }
     ensures none { NoneVerified C.agrees C.asked_only checks.old checks.new }
@@ -104,8 +104,8 @@ fn from_encloser<C: Checks>(
     checks: &mut C,
     count: &mut u32,
     octets: &mut Vec<u8>,
-    closer: &HashedName,
-    encloser: &HashedName,
+    closer: &NameWithHash,
+    encloser: &NameWithHash,
 ) -> Result<Option<Verdict>, HashError>
     requires room { count.old + 1 < 2 ^ 32 }
     requires closer { let hash = hash_as (C.answers checks.old).hash chain.now.first.now in
@@ -122,7 +122,7 @@ fn from_encloser<C: Checks>(
         let fails = fails_as answers chain.now.first.now in
         let apex = chain.now.apex.now in let links = chain.now.links.now in
         let names = hashed_enclosed apex hash closer.now.name encloser.now.name links in
-        Hashes fails names (C.hashed checks.old) (C.hashed checks.new) result }
+        HashesInTurn fails names (C.hashed checks.old) (C.hashed checks.new) result }
     ensures alike { C.hashed checks.new + count.old ≡ C.hashed checks.old + count.new }
     ensures others { C.verified checks.new ≡ C.verified checks.old }
     ensures none { NoneVerified C.agrees C.asked_only checks.old checks.new }
@@ -147,7 +147,7 @@ fn climbed<C: Checks>(
     checks: &mut C,
     count: &mut u32,
     octets: &mut Vec<u8>,
-    below: &HashedName,
+    below: &NameWithHash,
 ) -> Result<Option<Verdict>, HashError>
     requires room { count.old + length below.now.name + 1 < 2 ^ 32 }
     requires hash { let hash = hash_as (C.answers checks.old).hash chain.now.first.now in
@@ -161,7 +161,7 @@ fn climbed<C: Checks>(
         let fails = fails_as answers chain.now.first.now in
         let apex = chain.now.apex.now in let links = chain.now.links.now in
         let names = hashed_climbing apex hash below.now.name links in
-        Hashes fails names (C.hashed checks.old) (C.hashed checks.new) result }
+        HashesInTurn fails names (C.hashed checks.old) (C.hashed checks.new) result }
     ensures alike { C.hashed checks.new + count.old ≡ C.hashed checks.old + count.new }
     ensures others { C.verified checks.new ≡ C.verified checks.old }
     ensures none { NoneVerified C.agrees C.asked_only checks.old checks.new }
@@ -199,7 +199,7 @@ pub(crate) fn hash_denied<C: Checks>(
         let fails = fails_as answers chain.now.first.now in
         let apex = chain.now.apex.now in let links = chain.now.links.now in
         let names = hashed_denied apex hash name.now links in
-        Hashes fails names (C.hashed checks.old) (C.hashed checks.new) result }
+        HashesInTurn fails names (C.hashed checks.old) (C.hashed checks.new) result }
     ensures alike { C.hashed checks.new + count.old ≡ C.hashed checks.old + count.new }
     ensures others { C.verified checks.new ≡ C.verified checks.old }
     ensures none { NoneVerified C.agrees C.asked_only checks.old checks.new }
@@ -250,7 +250,7 @@ pub(crate) fn hash_expanded<C: Checks>(
         ≡ hash_expanded hash name.now rrset chain.now.links.now) }
     ensures hashes { let fails = fails_as (C.answers checks.old).hash chain.now.first.now in
         let names = last_labels (rrset.labels + 1) name.now ∷ [] in
-        Hashes fails names (C.hashed checks.old) (C.hashed checks.new) result }
+        HashesInTurn fails names (C.hashed checks.old) (C.hashed checks.new) result }
     ensures alike { C.hashed checks.new + count.old ≡ C.hashed checks.old + count.new }
     ensures others { C.verified checks.new ≡ C.verified checks.old }
     ensures none { NoneVerified C.agrees C.asked_only checks.old checks.new }

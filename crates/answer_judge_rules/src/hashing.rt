@@ -2,7 +2,7 @@
 ghost use Rattle.std.specs.Prelude.{◌≡◌, ◌+◌, ◌<◌, ◌^◌, ◌∷◌, [], Some, None, IfOk, IsErrOf, OnOk, drop};
 ghost use Rattle.definitions.specs.Name.{low, wire};
 ghost use Rattle.definitions.specs.Zone.{star_under};
-ghost use Rattle.answer_judge_rules.specs.Hashing.{fails_as, hash_as, Hashes};
+ghost use Rattle.answer_judge_rules.specs.Hashing.{fails_as, hash_as, HashesInTurn};
 ghost use Rattle.answer_scheme.specs.Answers.{NoneVerified};
 
 use crate::facts::HashLink;
@@ -14,7 +14,7 @@ use std::alloc::{AllocError, Global};
 
 /// A name and its hash.
 #[derive(Drop)]
-pub(crate) struct HashedName<'n> {
+pub(crate) struct NameWithHash<'n> {
     pub(crate) name: Name<&'n [u8]>,
     pub(crate) hash: Vec<u8>,
 }
@@ -57,7 +57,7 @@ pub(crate) fn hash_behind<N: ToName, C: Checks>(
         IfOk result (λ h. h.items ≡ hash (low (drop skipped (N.name name.now)))) }
     ensures hashes { let fails = fails_as (C.answers checks.old).hash link.now in
         let names = drop skipped (N.name name.now) ∷ [] in
-        Hashes fails names (C.hashed checks.old) (C.hashed checks.new) result }
+        HashesInTurn fails names (C.hashed checks.old) (C.hashed checks.new) result }
     ensures alike { C.hashed checks.new + count.old ≡ C.hashed checks.old + count.new }
     ensures others { C.verified checks.new ≡ C.verified checks.old }
     ensures none { NoneVerified C.agrees C.asked_only checks.old checks.new }
@@ -75,20 +75,20 @@ pub(crate) fn hash_name<'n, C: Checks>(
     count: &mut u32,
     octets: &mut Vec<u8>,
     name: Name<&'n [u8]>,
-) -> Result<HashedName<'n>, HashError>
+) -> Result<NameWithHash<'n>, HashError>
     requires room { count.old + 1 < 2 ^ 32 }
     ensures name { IfOk result (λ h. h.name ≡ name.entry) }
     ensures hash { let hash = hash_as (C.answers checks.old).hash link.now in
         IfOk result (λ h. h.hash.items ≡ hash (low h.name)) }
     ensures hashes { let fails = fails_as (C.answers checks.old).hash link.now in
-        Hashes fails (name.entry ∷ []) (C.hashed checks.old) (C.hashed checks.new) result }
+        HashesInTurn fails (name.entry ∷ []) (C.hashed checks.old) (C.hashed checks.new) result }
     ensures alike { C.hashed checks.new + count.old ≡ C.hashed checks.old + count.new }
     ensures others { C.verified checks.new ≡ C.verified checks.old }
     ensures none { NoneVerified C.agrees C.asked_only checks.old checks.new }
     ensures same { C.answers checks.new ≡ C.answers checks.old }
 {
     let hash = hash_behind(alloc, link, checks, count, octets, &name, 0)?;
-    Ok(HashedName { name, hash })
+    Ok(NameWithHash { name, hash })
 }
 
 /// Writes the wildcard under a name in lower-case wire form, over what a buffer held.
@@ -114,7 +114,7 @@ pub(crate) fn hash_wildcard<C: Checks>(
         IfOk result (λ h. h.items ≡ hash (low (star_under name.now))) }
     ensures hashes { let fails = fails_as (C.answers checks.old).hash link.now in
         let names = star_under name.now ∷ [] in
-        Hashes fails names (C.hashed checks.old) (C.hashed checks.new) result }
+        HashesInTurn fails names (C.hashed checks.old) (C.hashed checks.new) result }
     ensures alike { C.hashed checks.new + count.old ≡ C.hashed checks.old + count.new }
     ensures others { C.verified checks.new ≡ C.verified checks.old }
     ensures none { NoneVerified C.agrees C.asked_only checks.old checks.new }

@@ -6,14 +6,14 @@ ghost use Rattle.definitions.specs.Zone.{star_under};
 ghost use Rattle.denial_laws.specs.NsecRules.{first_some, at_owner, below_cut, redirects, link_covers, closest, at_star, covered, denied};
 ghost use Rattle.answer_judge_rules.specs.Rules.{verdict_of};
 
-use crate::facts::Link;
+use crate::facts::NsecLink;
 use crate::types::{at_name, is_cut, star_lacks};
 use crate::verdict::Verdict;
 use messages::names::{Name, Octets, ToName, ZoneName, is_above, is_at_or_above};
 use names_rdata::rtype::Rtype;
 use std::alloc::{AllocError, Global};
 
-impl<'a> Link<'a> {
+impl<'a> NsecLink<'a> {
     /// Whether the owner stands above a name and has DNAME.
     ///
     /// What is below it is redirected: taken as proof, its record would deny names that exist where
@@ -140,7 +140,7 @@ impl<'a> Link<'a> {
         &self,
         alloc: Global,
         apex: &Name<Vec<u8>>,
-        links: &[Link],
+        links: &[NsecLink],
         name: &Name<Vec<u8>>,
         rtype: Rtype,
     ) -> Result<Option<Verdict>, AllocError>
@@ -163,7 +163,7 @@ impl<'a> Link<'a> {
 /// What the first link that tells of a wildcard says.
 fn first_at_star(
     apex: &Name<Vec<u8>>,
-    links: &[Link],
+    links: &[NsecLink],
     star: &Name<Vec<u8>>,
     rtype: Rtype,
 ) -> Option<Verdict>
@@ -181,7 +181,7 @@ fn first_at_star(
 /// What the first link that tells of its own name says of it.
 fn first_at_owner(
     apex: &Name<Vec<u8>>,
-    links: &[Link],
+    links: &[NsecLink],
     name: &Name<Vec<u8>>,
     rtype: Rtype,
 ) -> Option<Verdict>
@@ -197,7 +197,11 @@ fn first_at_owner(
 }
 
 /// Whether a link stands at a delegation above a name.
-fn first_below_cut(apex: &Name<Vec<u8>>, links: &[Link], name: &Name<Vec<u8>>) -> Option<Verdict>
+fn first_below_cut(
+    apex: &Name<Vec<u8>>,
+    links: &[NsecLink],
+    name: &Name<Vec<u8>>,
+) -> Option<Verdict>
     ensures { option_map verdict_of result ≡ first_some (below_cut apex.now name.now) links.now }
 {
     for link in links {
@@ -212,7 +216,7 @@ fn first_below_cut(apex: &Name<Vec<u8>>, links: &[Link], name: &Name<Vec<u8>>) -
 fn first_covered(
     alloc: Global,
     apex: &Name<Vec<u8>>,
-    links: &[Link],
+    links: &[NsecLink],
     name: &Name<Vec<u8>>,
     rtype: Rtype,
 ) -> Result<Option<Verdict>, AllocError>
@@ -232,7 +236,7 @@ fn first_covered(
 pub(crate) fn denied(
     alloc: Global,
     apex: &Name<Vec<u8>>,
-    links: &[Link],
+    links: &[NsecLink],
     name: &Name<Vec<u8>>,
     rtype: Rtype,
 ) -> Result<Option<Verdict>, AllocError>

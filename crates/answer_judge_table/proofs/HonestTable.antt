@@ -6,10 +6,10 @@ use Rattle.messages.specs.Message.{Spelled}
 use Rattle.answer_judge_facts.specs.Honest.{AnswersHonest, IsHonest, IsSignedOfVersion, IsVersion, SignedOfKeys, SignedOfVersion, Signing, WasSigned, over}
 use Rattle.answer_judge_facts.specs.Versions.{Version}
 use Rattle.answer_judge_facts.specs.Sought.{Sought}
-use Rattle.answer_judge_keys.specs.Judging.{Answer, Handing}
+use Rattle.answer_judge_keys.specs.Judging.{Answer, JudgeInput}
 use Rattle.answer_judge_table.specs.Table.{AreTrue, Tried, answers_with, tried}
 
-module _ (fewer passes : Tried → Bool) (true_are : AreTrue fewer passes) (k : ℕ) (h : Handing) where
+module _ (fewer passes : Tried → Bool) (true_are : AreTrue fewer passes) (k : ℕ) (h : JudgeInput) where
   -- what was signed is the same, as names have the same hashes
   version_signed : (signings : List Signing) (octets : List ℕ) → IsSignedOfVersion (answers_with passes) h.apex signings octets → IsSignedOfVersion (answers_with fewer) h.apex signings octets
   version_signed signings octets is = record { signing = is.signing; there = is.there; rrset = is.rrset; of = is.of; fields = is.fields; times_are = is.times_are; over = is.over }

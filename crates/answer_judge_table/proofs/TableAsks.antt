@@ -8,7 +8,7 @@ use Rattle.answer_scheme.specs.Answers.{Answers, SignatureTest, with_test}
 use Rattle.answer_judge_facts.specs.Asked.{is_tried_signature}
 use Rattle.answer_judge_facts.specs.Counted.{Counts}
 use Rattle.answer_judge_facts.specs.Lasting.{LastsSo}
-use Rattle.answer_judge_keys.specs.Judging.{Answer, Handing, answer_of, verification_bound}
+use Rattle.answer_judge_keys.specs.Judging.{Answer, JudgeInput, answer_of, verification_bound}
 use Rattle.answer_judge_keys.specs.declared.verdict.Judgement.{Judgement}
 use Rattle.answer_judge_keys.specs.declared.verdict.Refused.{Refused}
 use Rattle.answer_judge.specs.Decided.{HashesDecided, IsDecided, is_out_of_memory}
@@ -32,7 +32,7 @@ some_asked (suc n) e = omega arith
 pub counted : (answer : Answer) (count due : ℕ) → is_out_of_memory answer ≡ false → Counts answer count due → count ≡ due
 counted answer count due enough counts = ⊎_elim (λ ran. absurd (false≢true (sym enough ∙ ap is_out_of_memory ran))) (λ is. is) counts
 
-module _ (table : List Checked) (h : Handing) (said : Result Judgement Refused) where
+module _ (table : List Checked) (h : JudgeInput) (said : Result Judgement Refused) where
   -- nothing is asked for
   pub is_judged : ((passes : Tried → Bool) → AgreesWith table passes → JudgesSo pointer_limit (answers_with passes) h said)
       → ((passes : Tried → Bool) → AgreesWith table passes → LastsSo pointer_limit (answers_with passes) h said) → IsJudgedBy table h said
@@ -45,7 +45,7 @@ module _ (table : List Checked) (h : Handing) (said : Result Judgement Refused) 
 
 -- ---- where signatures are asked for
 
-module _ {E : Type 0} (table : List Checked) (h : Handing) (held : List Tried) (kept : Result (Unit {0}) E) where
+module _ {E : Type 0} (table : List Checked) (h : JudgeInput) (held : List Tried) (kept : Result (Unit {0}) E) where
   abbrev own : Answers
   own = answers_with (may_pass_in table)
 

@@ -5,7 +5,7 @@ use Rattle.definitions.specs.Limits.{pointer_limit}
 use Rattle.answer_scheme.specs.Answers.{SignatureTest}
 use Rattle.answer_judge_facts.specs.Asked.{is_tried_signature}
 use Rattle.answer_judge_facts.specs.Counted.{verifications_due}
-use Rattle.answer_judge_keys.specs.Judging.{Answer, Handing, verification_bound}
+use Rattle.answer_judge_keys.specs.Judging.{Answer, JudgeInput, verification_bound}
 use Rattle.answer_judge.specs.Decided.{is_out_of_memory}
 use Rattle.answer_judge.specs.Meeting.{IsJudgement}
 use Rattle.answer_judge_table.specs.Table.{AgreesWith, Checked, Tried, answers_with, checked, may_pass_in, passes_by, told}
@@ -28,21 +28,21 @@ abbrev pub is_cut_short : Answer → ℕ → Bool
 is_cut_short answer hashes = is_out_of_memory answer && (hashes == 0)
 
 -- one that a judgement verifies where these pass
-abbrev pub IsTriedBy : (Tried → Bool) → Handing → Tried → Type 0
+abbrev pub IsTriedBy : (Tried → Bool) → JudgeInput → Tried → Type 0
 IsTriedBy passes h t = passes_by (is_tried_signature (answers_with passes) pointer_limit h) t ≡ true
 
 -- how many it verifies then
-abbrev pub due_by : (Tried → Bool) → Handing → ℕ
+abbrev pub due_by : (Tried → Bool) → JudgeInput → ℕ
 due_by passes h = verifications_due (answers_with passes) pointer_limit h
 
 -- signatures that a judgement verifies where these pass, no more than it verifies
-pub record AreTried (passes : Tried → Bool) (h : Handing) (asks : List Tried) : Type 0 where
+pub record AreTried (passes : Tried → Bool) (h : JudgeInput) (asks : List Tried) : Type 0 where
   pub each : AllByRecursion (IsTriedBy passes h) asks
   pub due : length asks ≤ due_by passes h
 
 -- All that is due: in memory enough a judgement is made, the same whichever others pass, where the table holds and each of these
 -- passes.
-pub record AreAll (table : List Checked) (h : Handing) (asks : List Tried) : Type 0 where
+pub record AreAll (table : List Checked) (h : JudgeInput) (asks : List Tried) : Type 0 where
   pub answer : Answer
   pub verifications : ℕ
   pub hashes : ℕ
@@ -52,7 +52,7 @@ pub record AreAll (table : List Checked) (h : Handing) (asks : List Tried) : Typ
 -- Signatures that are asked for: some that the table doesn't have, each once, no more than both messages have. A judgement
 -- verifies each where those that the table doesn't have pass: so none that isn't due, none of an RRset that another one verified
 -- before, and none where nothing is verified, as beside an empty DS set. They are all that is due.
-pub record AreAsked (table : List Checked) (h : Handing) (asks : List Tried) : Type 0 where
+pub record AreAsked (table : List Checked) (h : JudgeInput) (asks : List Tried) : Type 0 where
   pub some : 0 < length asks
   pub are_new : are_new table asks ≡ true
   pub few : length asks ≤ verification_bound pointer_limit h

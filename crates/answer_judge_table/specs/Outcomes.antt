@@ -1,7 +1,7 @@
 -- What an outcome is.
 use Rattle.std.specs.Prelude.{◌≡◌, ◌≤◌, ◌+◌, ℕ, Bool, List, Result}
 use Rattle.definitions.specs.Limits.{pointer_limit}
-use Rattle.answer_judge_keys.specs.Judging.{Handing, answer_of, hashes_of}
+use Rattle.answer_judge_keys.specs.Judging.{JudgeInput, answer_of, hashes_of}
 use Rattle.answer_judge_keys.specs.declared.verdict.Judgement.{Judgement}
 use Rattle.answer_judge_keys.specs.declared.verdict.Refused.{Refused}
 use Rattle.answer_judge_facts.specs.Honest.{AnswersHonest}
@@ -15,13 +15,13 @@ use Rattle.answer_judge_table.specs.Table.{AgreesWith, AreTrue, Checked, Tried, 
 -- What is said is a judgement whichever signatures pass that the table doesn't have, and so is how long it lasts: nothing was wanted
 -- that it lacks. Whatever signatures truly pass, those that pass in the table among them, of honest messages no verdict is said but
 -- that of a version of the zone, in which the name is no alias.
-pub record IsJudgedBy (table : List Checked) (h : Handing) (said : Result Judgement Refused) : Type 0 where
+pub record IsJudgedBy (table : List Checked) (h : JudgeInput) (said : Result Judgement Refused) : Type 0 where
   pub by_table : (passes : Tried → Bool) → AgreesWith table passes → JudgesSo pointer_limit (answers_with passes) h said
   pub lasts : (passes : Tried → Bool) → AgreesWith table passes → LastsSo pointer_limit (answers_with passes) h said
   pub honest : (passes : Tried → Bool) → AreTrue (passes_in table) passes → AnswersHonest (answers_with passes) pointer_limit h (answer_of said)
 
 -- what comes of a judgement by a table
-abbrev pub IsOutcome : List Checked → Handing → Outcome → Type 0
+abbrev pub IsOutcome : List Checked → JudgeInput → Outcome → Type 0
 IsOutcome table h (o.Judged said) = IsJudgedBy table h said
 IsOutcome table h (o.Asks asks) = AreAsked table h asks.items
 

@@ -7,7 +7,7 @@ ghost use Rattle.answer_judge_table.specs.Outcomes.{CountsHashes, IsOutcome};
 
 use crate::checked::CheckedSignature;
 use crate::outcome::{Counted, Outcome};
-use crate::table_checks::{Lacking, TableChecks, Told};
+use crate::table_checks::{GhostTable, Lacking, TableChecks};
 use answer_judge::{Case, Judgement, Refusal, Refused};
 use answer_scheme::steps::Steps;
 use std::alloc::{AllocError, Global};
@@ -68,11 +68,11 @@ pub fn judge_counted<N: Ledger>(
     ensures counted { IfOk result (λ r. CountsHashes r.outcome hashed r.hashed) }
 {
     let (first, second) = (Blank::new(1), Blank::new(1));
-    judged::<Brand, Brand, Brand, N>(alloc, case, table, hashed, first, second)
+    outcome_by_table::<Brand, Brand, Brand, N>(alloc, case, table, hashed, first, second)
 }
 
 /// What comes of a judgement by a table. Its calls are counted from 0 on.
-fn judged<T: Told, L: Ledger, M: Ledger, N: Ledger>(
+fn outcome_by_table<T: GhostTable, L: Ledger, M: Ledger, N: Ledger>(
     alloc: Global,
     case: &Case,
     table: &[CheckedSignature],
@@ -92,14 +92,14 @@ fn judged<T: Told, L: Ledger, M: Ledger, N: Ledger>(
     ensures counted { IfOk result (λ r. CountsHashes r.outcome hashed r.hashed) }
 {
     let mut checks = TableChecks::<T, L, M, N>::new(alloc, table, hashed, first, second);
-    let judged = case.judge(alloc, &mut checks);
+    let said = case.judge(alloc, &mut checks);
     let lacking = checks.into_lacking()?;
     let Lacking { asks, hashed } = lacking;
     if asks.is_empty() {
-        let outcome = Outcome::Judged(judged);
+        let outcome = Outcome::Judged(said);
         return Ok(Counted { outcome, hashed });
     }
-    if is_cut_short(&judged) {
+    if is_cut_short(&said) {
         return Err(AllocError);
     }
     let outcome = Outcome::Asks(asks);
@@ -108,26 +108,26 @@ fn judged<T: Told, L: Ledger, M: Ledger, N: Ledger>(
 
 /// Whether a judgement ended for want of memory before a name was to be hashed: then more
 /// signatures may be due than it came to.
-fn is_cut_short(judged: &Result<Judgement, Refused>) -> bool
-    ensures { result ≡ is_cut_short (answer_of judged.now) (hashes_of judged.now) }
+fn is_cut_short(said: &Result<Judgement, Refused>) -> bool
+    ensures { result ≡ is_cut_short (answer_of said.now) (hashes_of said.now) }
 {
-    ran_out(judged) && hash_calls(judged) == 0
+    ran_out(said) && hash_calls(said) == 0
 }
 
-fn ran_out(judged: &Result<Judgement, Refused>) -> bool
-    ensures { result ≡ is_out_of_memory (answer_of judged.now) }
+fn ran_out(said: &Result<Judgement, Refused>) -> bool
+    ensures { result ≡ is_out_of_memory (answer_of said.now) }
 {
-    match judged {
+    match said {
         Ok(_) => false,
         Err(refused) => refused.refusal == Refusal::Memory,
     }
 }
 
 /// How many names were to be hashed.
-fn hash_calls(judged: &Result<Judgement, Refused>) -> u32
-    ensures { result ≡ hashes_of judged.now }
+fn hash_calls(said: &Result<Judgement, Refused>) -> u32
+    ensures { result ≡ hashes_of said.now }
 {
-    match judged {
+    match said {
         Ok(judgement) => judgement.hashes,
         Err(refused) => refused.hashes,
     }

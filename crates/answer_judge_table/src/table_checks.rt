@@ -16,7 +16,7 @@ use std::marker::{Brand, PhantomData};
 use std::sync::ledger::{Blank, Ledger};
 
 /// What a table says, and how many names were hashed before: names for proofs alone.
-pub(crate) trait Told {
+pub(crate) trait GhostTable {
     ghost use Rattle.std.specs.Prelude.{List, ℕ};
     ghost use Rattle.answer_judge_table.specs.Table.{Checked};
 
@@ -25,7 +25,7 @@ pub(crate) trait Told {
     ghost before: { ℕ };
 }
 
-impl Told for Brand {
+impl GhostTable for Brand {
     ghost use Rattle.std.specs.Prelude.{[]};
 
     ghost table = { [] };
@@ -40,7 +40,7 @@ impl Told for Brand {
 /// While something is kept no name is hashed: a message's NSEC3 records cost hashes only once their
 /// signatures have passed (CVE-2023-50868).
 #[derive(Drop)]
-pub(crate) struct TableChecks<'t, 's, T: Told, L: Ledger, M: Ledger, N: Ledger> {
+pub(crate) struct TableChecks<'t, 's, T: GhostTable, L: Ledger, M: Ledger, N: Ledger> {
     alloc: Global,
     table: &'t [CheckedSignature<'s>],
     asks: Vec<Ask>,
@@ -61,7 +61,7 @@ pub(crate) struct TableChecks<'t, 's, T: Told, L: Ledger, M: Ledger, N: Ledger> 
     ghost few: { made ≤ T.before + hashed },
 }
 
-impl<'t, 's, T: Told, L: Ledger, M: Ledger, N: Ledger> TableChecks<'t, 's, T, L, M, N> {
+impl<'t, 's, T: GhostTable, L: Ledger, M: Ledger, N: Ledger> TableChecks<'t, 's, T, L, M, N> {
     /// The checks of a table, of which nothing was asked yet. The counts of calls begin at 0.
     pub(crate) fn new(
         alloc: Global,
@@ -123,7 +123,8 @@ pub(crate) struct Lacking<N: Ledger> {
     pub(crate) hashed: Steps<N>,
 }
 
-impl<'t, 's, T: Told, L: Ledger, M: Ledger, N: Ledger> Checks for TableChecks<'t, 's, T, L, M, N> {
+impl<'t, 's, T: GhostTable, L: Ledger, M: Ledger, N: Ledger> Checks
+    for TableChecks<'t, 's, T, L, M, N> {
     ghost use Rattle.answer_judge_table.specs.Asking.{AgreesAsking, PassesEach};
     ghost use Rattle.answer_judge_table.specs.Table.{answers_with, may_pass_in};
 

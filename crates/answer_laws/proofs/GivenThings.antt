@@ -18,7 +18,7 @@ use Rattle.messages.specs.Message.{Asked}
 use Rattle.answer_publisher.specs.Publishing.{digest_at}
 use Rattle.answer_scheme.specs.Moments.{second_of}
 use Rattle.answer_shared.specs.Hashing.{HashesHold}
-use Rattle.answer_laws.specs.Simulating.{handing}
+use Rattle.answer_laws.specs.Simulating.{judge_input}
 use Rattle.answer_laws.specs.PublishedKeys.{IsKeyOfZone}
 use Rattle.answer_laws.specs.Simulations.{IsZoneOf}
 use Rattle.answer_laws.specs.Versions.{in_version}
@@ -107,7 +107,7 @@ present_usable w keys key left there =
 pub given : (w : World) (rs : List HandedRr) (x y z : ZoneKeys) (keys_at answer_at at : ℕ) (key_bytes bytes : List ℕ) (asked : Asked)
     → IsZoneOf (in_version w rs) rs → AreLeft w x → AreLeft w y → AreLeft w z → TellsKeys w y keys_at key_bytes → IsQuestion asked → is_allowed w.zone.apex asked ≡ true → TellsAnswer (in_version w rs) z answer_at asked bytes
     → KeysMeet x y z → holds (second_of keys_at) w.life (second_of at) ≡ true → holds (second_of answer_at) w.life (second_of at) ≡ true
-    → HashesHold w.answers.hash w.zone.mode (zone_of w.zone.apex rs) asked.name → WasGiven w.answers pointer_limit (handing w (ds_set x) key_bytes bytes asked at) w.zone.mode rs
+    → HashesHold w.answers.hash w.zone.mode (zone_of w.zone.apex rs) asked.name → WasGiven w.answers pointer_limit (judge_input w (ds_set x) key_bytes bytes asked at) w.zone.mode rs
 given w rs x y z keys_at answer_at at key_bytes bytes asked zone left_x left_y left_z tells is allowed answers meets keys_hold answer_holds hashes =
     let met = meet_so x y z (is_for_parent w.zone.apex asked && nat_lt 0 (found_in (in_version w rs) asked)) meets in
     record {

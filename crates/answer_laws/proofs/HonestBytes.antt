@@ -26,7 +26,7 @@ use Rattle.answer_judge_facts.specs.Versions.{Version}
 use Rattle.answer_judge_facts.specs.Honest.{FewIterations, IsVersion, Settled, Signing}
 use Rattle.answer_judge.specs.Meeting.{IsJudgement}
 use Rattle.answer_judge.specs.OwnMessages.{signing_of}
-use Rattle.answer_judge_keys.specs.Judging.{Handing, answer_of, hashes_of, verifications_of}
+use Rattle.answer_judge_keys.specs.Judging.{JudgeInput, answer_of, hashes_of, verifications_of}
 use Rattle.answer_judge_keys.specs.declared.verdict.Judgement.{Judgement}
 use Rattle.answer_judge_keys.specs.declared.verdict.Refused.{Refused}
 use Rattle.answer_judge.proofs.GivenFacts.{fitting}
@@ -43,7 +43,7 @@ use Rattle.answer_outcomes.specs.declared.outcome.Outcome.{Outcome}
 use Rattle.answer_outcomes.specs.declared.outcome.Outcome.TheVariants as outcome
 use Rattle.answer_laws.specs.HonestBytes.{AtJudgement, IsApart, IsOfRun, published_by, published_in, signings_with, version_of}
 use Rattle.answer_laws.specs.Simulating as things
-use Rattle.answer_laws.specs.Simulating.{JudgesBytes, JudgesThings, Shown, Sofar, StepOf, begin, handing}
+use Rattle.answer_laws.specs.Simulating.{JudgesBytes, JudgesThings, Shown, Sofar, StepOf, begin, judge_input}
 use Rattle.answer_laws.specs.ThroughRolls.{past_with}
 use Rattle.answer_laws.specs.Versions.{AreTimely, IsSettled, SaysOneHonestly, Story, Versions, first_version, replaced_by, versions_with, with_showing}
 use Rattle.answer_laws.proofs.OneAtATime.{OneBegins, one_at_a_time}
@@ -169,7 +169,7 @@ stepped w signings past v s t at (act.JudgeBytes ds dnskey answer q) o known is 
 -- ---- a judgement
 
 abbrev Judges : World → ℕ → List Ds → List ℕ → List ℕ → Asked → Result Judgement Refused → Type 0
-Judges w at ds keys bytes asked j = IsJudgement pointer_limit w.answers (handing w ds keys bytes asked at) (answer_of j) (verifications_of j) (hashes_of j)
+Judges w at ds keys bytes asked j = IsJudgement pointer_limit w.answers (judge_input w ds keys bytes asked at) (answer_of j) (verifications_of j) (hashes_of j)
 
 -- iterations within a limit of 16 bits are few
 few_within : (hash : Hasher) (z : Zone) (mode : Mode) (limit : ℕ) → limit < 65536 → over_limit mode limit ≡ false → HasChain hash mode z → FewIterations mode
@@ -177,7 +177,7 @@ few_within hash z Nsec limit short within chain = tt
 few_within hash z (Nsec3 iterations salt optout) limit short within chain = (fitting hash z (Nsec3 iterations salt optout) limit short within chain).0
 
 -- each version is one of the judge's
-versions_are : (w : World) (at : ℕ) (set : List Ds) (keys bytes : List ℕ) (asked : Asked) (all : List (List HandedRr)) → AllByRecursion (IsVersionOf w) all → AllByRecursion (IsApart w asked) all → AllByRecursion (IsVersion w.answers (handing w set keys bytes asked at)) (map (version_of w) all)
+versions_are : (w : World) (at : ℕ) (set : List Ds) (keys bytes : List ℕ) (asked : Asked) (all : List (List HandedRr)) → AllByRecursion (IsVersionOf w) all → AllByRecursion (IsApart w asked) all → AllByRecursion (IsVersion w.answers (judge_input w set keys bytes asked at)) (map (version_of w) all)
 versions_are w at set keys bytes asked [] is apart = tt
 versions_are w at set keys bytes asked (rs ∷ all) is apart = (
   record {
@@ -195,7 +195,7 @@ some_version w [] rs h e = has_contained [] rs h
 some_version w (x ∷ all) rs h e = cc
 
 -- at one moment there was one version
-settled_so : (w : World) (h : Handing) (y : Story) (signed : List Signing) → AllByRecursion (IsOfRun y.signings) signed → h.one_moment ≡ true → (AreTimely y.times → OneBegins y.signings) → IsSettled y → Settled pointer_limit h (map (version_of w) y.versions.all) signed
+settled_so : (w : World) (h : JudgeInput) (y : Story) (signed : List Signing) → AllByRecursion (IsOfRun y.signings) signed → h.one_moment ≡ true → (AreTimely y.times → OneBegins y.signings) → IsSettled y → Settled pointer_limit h (map (version_of w) y.versions.all) signed
 settled_so w h y signed of_run on one (inl e) = inl (length-map y.versions.all (version_of w) ∙ e)
 settled_so w h y signed of_run on one (inr timely) = inr (inl (on, one_at_a_time y.signings signed (one timely) of_run))
 
@@ -216,7 +216,7 @@ honestly w y s at set keys bytes asked j apex all one known question judges hone
   ds_some = honest.some;
   flags_are = all_flags w (y.past ++ s.keys ∷ []) known.bound;
   of_versions = of_run_versions (map (version_of w) y.versions.all) y.signings honest.signed known.of_versions honest.of_run;
-  settled = settled_so w (handing w set keys bytes asked at) y honest.signed honest.of_run refl one settled;
+  settled = settled_so w (judge_input w set keys bytes asked at) y honest.signed honest.of_run refl one settled;
   keys_honest = honest.keys_honest;
   keys_known = honest.keys_known;
   answer_honest = honest.answer_honest;

@@ -37,7 +37,7 @@ use Rattle.answer_publisher.specs.Publishing.{digest_at}
 use Rattle.answer_scheme.specs.Moments.{second_of}
 use Rattle.messages.specs.Questions.{asked_of}
 use Rattle.messages.specs.declared.question.Question.{Question}
-use Rattle.answer_laws.specs.Simulating.{JudgesBytes, JudgesThings, OfKeys, OfParent, OfZone, Shown, ShowsAnswer, ShowsKeys, Sofar, StepOf, begin, handing, now_in, with_records}
+use Rattle.answer_laws.specs.Simulating.{JudgesBytes, JudgesThings, OfKeys, OfParent, OfZone, Shown, ShowsAnswer, ShowsKeys, Sofar, StepOf, begin, judge_input, now_in, with_records}
 use Rattle.answer_events.specs.Calls.{call_of}
 use Rattle.answer_publisher.specs.Replacing.{noted}
 use Rattle.answer_publisher.specs.World.{TellsAnswer, TellsKeys, World, served_in}
@@ -138,7 +138,7 @@ module _ {M : Type 0} where
 -- ---- a judgement
 
 abbrev IsOf : World → ℕ → List Ds → List ℕ → List ℕ → Asked → Result Judgement Refused → Type 0
-IsOf w at ds keys bytes asked j = IsJudgement pointer_limit w.answers (handing w ds keys bytes asked at) (answer_of j) (verifications_of j) (hashes_of j)
+IsOf w at ds keys bytes asked j = IsJudgement pointer_limit w.answers (judge_input w ds keys bytes asked at) (answer_of j) (verifications_of j) (hashes_of j)
 
 things : (w : World) (at : ℕ) (p q : Option Shown) (asked : Asked) (bytes : List ℕ) (j : Result Judgement Refused) → JudgesThings w at p q (Some (OfZone asked bytes)) (outcome.Judged j)
     → (ds : List Ds) × (keys : List ℕ) × (p ≡ Some (OfParent ds)) × (q ≡ Some (OfKeys keys)) × IsOf w at ds keys bytes asked j

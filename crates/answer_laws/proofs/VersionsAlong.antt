@@ -19,7 +19,7 @@ use Rattle.answer_outcomes.specs.declared.outcome.Outcome.{Outcome}
 use Rattle.answer_outcomes.specs.declared.outcome.Outcome.TheVariants as outcome
 use Rattle.answer_laws.specs.HonestBytes.{AtJudgement, SaysHonestly, VerdictHonest, VerdictsHonest, signings_with, version_of}
 use Rattle.answer_laws.specs.OneState.{VerdictAt, VerdictsAlong}
-use Rattle.answer_laws.specs.Simulating.{Simulates, Sofar, StepOf, begin, handing}
+use Rattle.answer_laws.specs.Simulating.{Simulates, Sofar, StepOf, begin, judge_input}
 use Rattle.answer_laws.specs.Simulations.{IsZoneOf}
 use Rattle.answer_laws.specs.ThroughRolls.{VerdictThrough, VerdictsThrough}
 use Rattle.answer_laws.specs.Versions.{KeepsZone, NeverReplaced, SaysOfVersions, SaysOneHonestly, Story, VersionsAlong, first_story, in_version, story_with}
@@ -183,8 +183,8 @@ unchanged_honest : (w : World) (rs : List HandedRr) (y : Story) (s : Sofar) (at 
 unchanged_honest w rs y s at a o only h =
     at_more (SaysOneHonestly w y s at) (SaysHonestly w rs y.signings y.past s at) s a o (λ set keys bytes asked answer one honest apart.
     let says = one honest (subst (AllByRecursion _) (sym only.all) (apart, tt)) (inl (ap length only.all)) in
-    at_most (handing w set keys bytes asked at) (version_of w rs) answer
-    (subst (λ (all : List (List HandedRr)). SaysOneOf (handing w set keys bytes asked at) (map (version_of w) all) answer) only.all says))
+    at_most (judge_input w set keys bytes asked at) (version_of w rs) answer
+    (subst (λ (all : List (List HandedRr)). SaysOneOf (judge_input w set keys bytes asked at) (map (version_of w) all) answer) only.all says))
     h.no_false
 
 pub unchanged_along : (w : World) (rs : List HandedRr) (y : Story) (signings : List Signing) (s : Sofar) (es : List Event) (os : List Outcome) (u : Sofar) (run : Simulates w s es os u) → IsZoneOf w rs → IsOnly rs y → y.signings ≡ signings → NeverReplaced os → VersionsAlong w y s es os u run

@@ -17,14 +17,14 @@ use Rattle.answer_judge_facts.specs.Honest.{IsHonest, NoStranger, SaysAtMost, Si
 use Rattle.answer_judge_facts.specs.Versions.{Version}
 use Rattle.answer_judge.specs.OwnMessages.{signing_of}
 use Rattle.answer_judge_facts.specs.Sought.{Sought}
-use Rattle.answer_judge_keys.specs.Judging.{Answer, Handing, answer_of}
+use Rattle.answer_judge_keys.specs.Judging.{Answer, JudgeInput, answer_of}
 use Rattle.answer_publisher_keys.specs.Bindings.{ZoneKeys, dnskeys, published}
 use Rattle.answer_publisher_keys.specs.declared.keys.Publication.TheVariants as publication
 use Rattle.answer_publisher.specs.World.{World, present_keys}
 use Rattle.answer_outcomes.specs.declared.outcome.Outcome.{Outcome}
 use Rattle.answer_outcomes.specs.declared.outcome.Outcome.TheVariants as outcome
 use Rattle.answer_laws.specs.Simulating as things
-use Rattle.answer_laws.specs.Simulating.{Simulates, Sofar, begin, handing}
+use Rattle.answer_laws.specs.Simulating.{Simulates, Sofar, begin, judge_input}
 use Rattle.answer_laws.specs.ThroughRolls.{past_with}
 
 -- the zone where it has these records; its chain stays as it is
@@ -53,7 +53,7 @@ pub record IsOfRun (signings : List Signing) (s : Signing) : Type 0 where
   pub began : s.times.inception ≡ given.times.inception
 
 -- a message in which nothing is forged, of what was signed in the run so far
-abbrev pub IsHonestSo : World → List Signing → List ZoneKeys → Sofar → Handing → (List Spelled → Sought) → List ℕ → Type 0
+abbrev pub IsHonestSo : World → List Signing → List ZoneKeys → Sofar → JudgeInput → (List Spelled → Sought) → List ℕ → Type 0
 IsHonestSo w signed past s h sought m =
     IsHonest w.answers pointer_limit h (published_by past s.keys) (WasSigned w.answers h.apex (published_by past s.keys) signed) sought m
 
@@ -63,7 +63,7 @@ IsApart w asked rs = NoSharedHash (zone_of w.zone.apex rs) (hash_in w.answers.ha
 
 -- What is handed in beside a DS set that isn't empty: two messages in which nothing is forged, each key of the first that the
 -- DS set trusts a published one.
-pub record AreHonestSo (w : World) (signings : List Signing) (past : List ZoneKeys) (s : Sofar) (h : Handing) : Type 0 where
+pub record AreHonestSo (w : World) (signings : List Signing) (past : List ZoneKeys) (s : Sofar) (h : JudgeInput) : Type 0 where
   pub some : h.ds ≡ [] → ⊥
   pub signed : List Signing
   pub of_run : AllByRecursion (IsOfRun signings) signed
@@ -74,8 +74,8 @@ pub record AreHonestSo (w : World) (signings : List Signing) (past : List ZoneKe
 -- a judgement of these says the zone's verdict, of a name that is no alias there, or refuses
 abbrev pub SaysHonestly : World → List HandedRr → List Signing → List ZoneKeys → Sofar → ℕ → List Ds → List ℕ → List ℕ → Asked → Answer → Type 0
 SaysHonestly w rs signings past s at set dnskey bytes asked answer =
-    AreHonestSo w signings past s (handing w set dnskey bytes asked at) → IsApart w asked rs
-    → SaysAtMost (handing w set dnskey bytes asked at) (version_of w rs) answer
+    AreHonestSo w signings past s (judge_input w set dnskey bytes asked at) → IsApart w asked rs
+    → SaysAtMost (judge_input w set dnskey bytes asked at) (version_of w rs) answer
 
 -- a fact of what a judgement is handed and answers, of things that were shown, and of any bytes beside a DS set that was shown
 abbrev pub AtJudgement : (List Ds → List ℕ → List ℕ → Asked → Answer → Type 0) → Sofar → Act → Outcome → Type 0

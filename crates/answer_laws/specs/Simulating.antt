@@ -24,7 +24,7 @@ use Rattle.answer_publisher.specs.Replacing.{RefusesReplacement, is_too_soon, no
 use Rattle.answer_publisher.specs.World.{World, AnswersKeysQuestion, AnswersQuestion, HashesNames, RefusesKeysQuestion, RefusesQuestion, SpellsAnswer, SpellsKeys}
 use Rattle.answer_judge.specs.Meeting.{IsJudgement}
 use Rattle.messages.specs.WrittenLaws.{IsQuestion}
-use Rattle.answer_judge_keys.specs.Judging.{Handing, answer_of, handed, verifications_of, hashes_of}
+use Rattle.answer_judge_keys.specs.Judging.{JudgeInput, answer_of, handed, verifications_of, hashes_of}
 use Rattle.answer_shared.specs.Accepted.{IsAccepted}
 use Rattle.answer_shared.specs.Accepting.{sorted_records}
 use Rattle.answer_shared.specs.Asking.{is_allowed}
@@ -56,17 +56,17 @@ abbrev pub now_in : World → Sofar → World
 now_in w s = with_records w s.records
 
 -- what a judgement is handed; the signatures of an answer must be of one moment
-abbrev pub handing : World → List Ds → List ℕ → List ℕ → Asked → ℕ → Handing
-handing w ds keys answer asked at = handed w.zone.apex ds keys answer asked at w.zone.limit true
+abbrev pub judge_input : World → List Ds → List ℕ → List ℕ → Asked → ℕ → JudgeInput
+judge_input w ds keys answer asked at = handed w.zone.apex ds keys answer asked at w.zone.limit true
 
 -- a judgement of these things, or no such things
 abbrev pub JudgesThings : World → ℕ → Option Shown → Option Shown → Option Shown → Outcome → Type 0
-JudgesThings w at (Some (OfParent ds)) (Some (OfKeys keys)) (Some (OfZone asked answer)) (outcome.Judged j) = IsJudgement pointer_limit w.answers (handing w ds keys answer asked at) (answer_of j) (verifications_of j) (hashes_of j)
+JudgesThings w at (Some (OfParent ds)) (Some (OfKeys keys)) (Some (OfZone asked answer)) (outcome.Judged j) = IsJudgement pointer_limit w.answers (judge_input w ds keys answer asked at) (answer_of j) (verifications_of j) (hashes_of j)
 JudgesThings w at (Some (OfParent ds)) (Some (OfKeys keys)) (Some (OfZone asked answer)) _ = ⊥
 JudgesThings w at _ _ _ o = o ≡ outcome.BadPlace
 
 abbrev pub JudgesBytes : World → ℕ → Option Shown → List ℕ → List ℕ → Asked → Outcome → Type 0
-JudgesBytes w at (Some (OfParent ds)) keys answer asked (outcome.Judged j) = IsJudgement pointer_limit w.answers (handing w ds keys answer asked at) (answer_of j) (verifications_of j) (hashes_of j)
+JudgesBytes w at (Some (OfParent ds)) keys answer asked (outcome.Judged j) = IsJudgement pointer_limit w.answers (judge_input w ds keys answer asked at) (answer_of j) (verifications_of j) (hashes_of j)
 JudgesBytes w at (Some (OfParent ds)) keys answer asked _ = ⊥
 JudgesBytes w at _ keys answer asked o = o ≡ outcome.BadPlace
 

@@ -17,7 +17,7 @@ use Rattle.answer_outcomes.specs.declared.outcome.Outcome.{Outcome}
 use Rattle.answer_outcomes.specs.declared.outcome.Outcome.TheVariants as outcome
 use Rattle.answer_laws.specs.HonestBytes.{AreHonestSo, AtJudgement, IsApart, signings_with, version_of}
 use Rattle.answer_laws.specs.OneState.{Moment, VerdictAt, moments_with}
-use Rattle.answer_laws.specs.Simulating.{Simulates, Sofar, begin, handing, with_records}
+use Rattle.answer_laws.specs.Simulating.{Simulates, Sofar, begin, judge_input, with_records}
 use Rattle.answer_laws.specs.ThroughRolls.{History, VerdictThrough, history_with, no_history, past_with}
 
 -- ---- versions
@@ -104,8 +104,8 @@ IsSettled y = (length y.versions.all ≡ 1) ⊎ AreTimely y.times
 -- a mixture of two is never taken for a zone.
 abbrev pub SaysOneHonestly : World → Story → Sofar → ℕ → List Ds → List ℕ → List ℕ → Asked → Answer → Type 0
 SaysOneHonestly w y s at set dnskey bytes asked answer =
-    AreHonestSo w y.signings y.past s (handing w set dnskey bytes asked at) → AllByRecursion (IsApart w asked) y.versions.all → IsSettled y
-    → SaysOneOf (handing w set dnskey bytes asked at) (map (version_of w) y.versions.all) answer
+    AreHonestSo w y.signings y.past s (judge_input w set dnskey bytes asked at) → AllByRecursion (IsApart w asked) y.versions.all → IsSettled y
+    → SaysOneOf (judge_input w set dnskey bytes asked at) (map (version_of w) y.versions.all) answer
 
 -- What an event brings behind others. A judgement of things of one state of the keys, or of any three states, none of them
 -- retired, says the verdict of the version that the zone answer was of, whatever versions came before and behind; one of any

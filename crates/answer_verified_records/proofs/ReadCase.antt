@@ -6,7 +6,7 @@ use Rattle.std.proofs.lemmas.Bool.{or_parts}
 use Rattle.messages.specs.Message.{Message, message}
 use Rattle.messages.specs.declared.error.MessageError.{MessageError}
 use Rattle.answer_shared.specs.EqualTags.{has_equal_tags}
-use Rattle.answer_judge_keys.specs.Judging.{Handing, is_judged, keys_in, may_ask, same_question, signatures_in}
+use Rattle.answer_judge_keys.specs.Judging.{JudgeInput, is_judged, keys_in, may_ask, same_question, signatures_in}
 use Rattle.answer_judge_keys.specs.Trusted.{is_signature}
 use Rattle.answer_judge_keys.specs.declared.verdict.Refusal.{Refusal}
 use Rattle.answer_judge_keys.specs.declared.verdict.Refusal.TheVariants as r
@@ -24,7 +24,7 @@ ok_from (Err f) v e = absurd (some_none v e)
     some_none : (v : Message) → Some v ≡ None → ⊥
     some_none v e = cc
 
-module _ (k : ℕ) (h : Handing) where
+module _ (k : ℕ) (h : JudgeInput) where
   abbrev keys_asked : Message → Bool
   keys_asked keys = same_question keys.asked (record { name = h.apex; rtype = 48; class = 1 })
 
@@ -88,7 +88,7 @@ module _ (k : ℕ) (h : Handing) where
   pub signatures_are : (m : List ℕ) (view : Message) → message k m ≡ Ok view → signatures_in k m ≡ length (filter is_signature view.records)
   signatures_are m view d = λ i. elim (d i) as (λ _. ℕ) [ Err e ↦ 0 | Ok read ↦ length (filter is_signature read.records) ]
 
-pub judged_other : (h : Handing) → is_judged h ≡ true → is_chain_type h.asked.rtype ≡ false
+pub judged_other : (h : JudgeInput) → is_judged h ≡ true → is_chain_type h.asked.rtype ≡ false
 judged_other h e =
     let t = h.asked.rtype in
     let c46 = or_parts (t == 46) _ (judged_type h e) in

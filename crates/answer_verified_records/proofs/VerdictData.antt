@@ -11,7 +11,7 @@ use Rattle.messages.specs.Message.{Message, Spelled, canonical_data, message}
 use Rattle.messages.specs.declared.error.MessageError.{MessageError}
 use Rattle.messages.proofs.ZoneNames.{same_labels}
 use Rattle.answer_scheme.specs.Answers.{Answers}
-use Rattle.answer_judge_keys.specs.Judging.{Answer, Handing, Refuses, Says, first_refusal, message_refusal}
+use Rattle.answer_judge_keys.specs.Judging.{Answer, JudgeInput, Refuses, Says, first_refusal, message_refusal}
 use Rattle.answer_judge_keys.specs.Trusted.{is_usable}
 use Rattle.answer_judge_keys.specs.declared.verdict.Refusal.{Refusal}
 use Rattle.answer_judge_keys.specs.declared.verdict.Refusal.TheVariants as r
@@ -131,7 +131,7 @@ untold v ds d h = none_some (ap told (h) ∙ d)
 ok_is : (read : Result Message MessageError) (a b : Message) → read ≡ Ok a → read ≡ Ok b → a ≡ b
 ok_is read a b e f = cc
 
-module _ (a : Answers) (k : ℕ) (h : Handing) (v : Verdict) (ds : List (List ℕ)) (says : judged a k h ≡ Says v) (tells : told_data v ≡ Some ds) where
+module _ (a : Answers) (k : ℕ) (h : JudgeInput) (v : Verdict) (ds : List (List ℕ)) (says : judged a k h ≡ Says v) (tells : told_data v ≡ Some ds) where
   unrefused_first : (first_refusal k h ≡ None) × (nat_eq (length h.ds) 0 ≡ false)
   unrefused_first = go (first_refusal k h) refl (nat_eq (length h.ds) 0) refl says
     where

@@ -3,7 +3,7 @@ use Rattle.std.specs.Prelude.{◌≡◌, ◌≤◌, false, Ok, length, map}
 use Rattle.definitions.specs.Limits.{pointer_limit}
 use Rattle.messages.specs.Message.{message}
 use Rattle.messages.specs.Record.{spelled}
-use Rattle.answer_judge_keys.specs.Judging.{Handing}
+use Rattle.answer_judge_keys.specs.Judging.{JudgeInput}
 use Rattle.answer_judge_facts.specs.Judged.{keys_of}
 use Rattle.answer_judge_facts.specs.Marked.{is_chain_type}
 use Rattle.answer_verified_records.specs.declared.listed.Listed.{Listed}
@@ -15,7 +15,7 @@ pub record IsListed (l : Listed) : Type 0 where
   pub few : length l.view.records ≤ 196605
 
 -- the messages that the octets spell, and the keys of the first; the question is for no record of a chain
-pub record IsReadOf (h : Handing) (read : Messages) : Type 0 where
+pub record IsReadOf (h : JudgeInput) (read : Messages) : Type 0 where
   pub keys : message pointer_limit h.dnskey_bytes ≡ Ok read.keys.view
   pub answer : message pointer_limit h.answer_bytes ≡ Ok read.answer.view
   pub keys_listed : IsListed read.keys

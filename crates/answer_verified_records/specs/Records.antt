@@ -5,7 +5,7 @@ use Rattle.definitions.specs.Name.{Name}
 use Rattle.messages.specs.Message.{Message, Spelled, canonical_data, message}
 use Rattle.messages.specs.declared.error.MessageError.{MessageError}
 use Rattle.answer_scheme.specs.Answers.{Answers}
-use Rattle.answer_judge_keys.specs.Judging.{Handing, is_judged, message_refusal}
+use Rattle.answer_judge_keys.specs.Judging.{JudgeInput, is_judged, message_refusal}
 use Rattle.answer_judge_keys.specs.Trusted.{is_usable}
 use Rattle.answer_judge.specs.Stages.{are_signed}
 use Rattle.answer_judge_facts.specs.Judged.{keys_of, trusting}
@@ -37,25 +37,25 @@ abbrev pub both_spelled : Result Message MessageError → Result Message Message
 both_spelled keys answer = elim keys [ Err e ↦ None | Ok keys ↦ elim answer [ Err e ↦ None | Ok answer ↦ Some (keys, answer) ] ]
 
 -- where the messages bring no refusal
-abbrev pub unrefused : ℕ → Handing → Option (Message × Message)
+abbrev pub unrefused : ℕ → JudgeInput → Option (Message × Message)
 unrefused k h = elim (message_refusal k h) [ Some e ↦ None | None ↦ both_spelled (message k h.dnskey_bytes) (message k h.answer_bytes) ]
 
 -- and beside them stand a question that is judged and a DS set that isn't empty: so no first refusal stands in what is handed in
-abbrev pub messages_in : ℕ → Handing → Option (Message × Message)
+abbrev pub messages_in : ℕ → JudgeInput → Option (Message × Message)
 messages_in k h = if not (is_judged h) || nat_eq (length h.ds) 0 then None else unrefused k h
 
 -- The keys that may sign the zone: the usable ones of the keys in some records, where one that a DS record names signs all of
 -- them (RFC 4035, 5.2).
-abbrev pub signing_keys : Answers → ℕ → Handing → List Spelled → List Dnskey → Option (List Dnskey)
+abbrev pub signing_keys : Answers → ℕ → JudgeInput → List Spelled → List Dnskey → Option (List Dnskey)
 signing_keys a k h rs keys = if are_signed a k h rs keys then Some (filter is_usable keys) else None
 
 -- the numbers of the answer's records that these verify
-abbrev pub verified_in_messages : Answers → ℕ → Handing → Message → Message → List ℕ
+abbrev pub verified_in_messages : Answers → ℕ → JudgeInput → Message → Message → List ℕ
 verified_in_messages a k h keys answer = elim (signing_keys a k h keys.records (keys_of h keys)) [
   | None ↦ []
   | Some usable ↦ verified_in_answer (trusting a h usable) k h.answer_bytes answer.records h.asked.name h.asked.rtype
 ]
 
 -- the numbers of the verified records of an answer
-abbrev pub verified_records : Answers → ℕ → Handing → List ℕ
+abbrev pub verified_records : Answers → ℕ → JudgeInput → List ℕ
 verified_records a k h = elim (messages_in k h) [ None ↦ [] | Some messages ↦ verified_in_messages a k h messages.0 messages.1 ]

@@ -18,9 +18,9 @@ use crate::number::RecordNumber;
 use answer_judge::Case;
 use answer_judge_facts::facts::{read_chain_groups, sorted_chain};
 use answer_judge_facts::groups::{Group, place_of, read_group, verify_groups};
+use answer_judge_keys::check_run::CheckRun;
 use answer_judge_keys::keys::{TaggedKey, ranked_keys};
 use answer_judge_keys::trust::Trust;
-use answer_judge_keys::verifier::Verifier;
 use answer_scheme::checks::Checks;
 use messages::names::{Name, ZoneName, cow_name};
 use messages::{Owner, ViewRecord};
@@ -33,26 +33,26 @@ pub(crate) fn verified_under<'a, C: Checks>(
     case: &Case<'a>,
     records: &[ViewRecord],
     keys: &'a [TaggedKey<'a>],
-    verifier: &mut Verifier<C>,
+    check_run: &mut CheckRun<C>,
 ) -> Result<Vec<RecordNumber>, AllocError>
-    requires room { verifier.old.count + length records.now < 2 ^ 32 }
+    requires room { check_run.old.count + length records.now < 2 ^ 32 }
     requires other { is_chain_type case.now.asked.rtype ≡ false }
-    ensures exact { EachAgreeing (C.answers verifier.old.checks.now)
-        (C.agrees verifier.new.checks.now) (λ a. let h = case.now in
+    ensures exact { EachAgreeing (C.answers check_run.old.checks.now)
+        (C.agrees check_run.new.checks.now) (λ a. let h = case.now in
         let w = trusting a h keys.now in let rs = map spelled records.now in
         let m = h.answer_bytes in let q = h.asked.name in let t = h.asked.rtype in
         IfOk result (λ v. v.items ≡ verified_in_answer w pointer_limit m rs q t)) }
-    ensures agrees { (test : SignatureTest) → C.agrees verifier.new.checks.now test
-        → C.agrees verifier.old.checks.now test }
-    ensures counted { C.verified verifier.new.checks.now + verifier.old.count
-        ≡ C.verified verifier.old.checks.now + verifier.new.count }
+    ensures agrees { (test : SignatureTest) → C.agrees check_run.new.checks.now test
+        → C.agrees check_run.old.checks.now test }
+    ensures counted { C.verified check_run.new.checks.now + check_run.old.count
+        ≡ C.verified check_run.old.checks.now + check_run.new.count }
     ensures bound { let rs = map spelled records.now in
-        verifier.new.count ≤ verifier.old.count + length (filter is_signature rs) }
-    ensures hashed { C.hashed verifier.new.checks.now ≡ C.hashed verifier.old.checks.now }
-    ensures same { C.answers verifier.new.checks.now ≡ C.answers verifier.old.checks.now }
-    ensures same_checks { verifier.new.checks.ghost_name ≡ verifier.old.checks.ghost_name }
+        check_run.new.count ≤ check_run.old.count + length (filter is_signature rs) }
+    ensures hashed { C.hashed check_run.new.checks.now ≡ C.hashed check_run.old.checks.now }
+    ensures same { C.answers check_run.new.checks.now ≡ C.answers check_run.old.checks.now }
+    ensures same_checks { check_run.new.checks.ghost_name ≡ check_run.old.checks.ghost_name }
 {
-    let by_tag = ranked_keys(verifier.alloc, keys)?;
+    let by_tag = ranked_keys(check_run.alloc, keys)?;
     let trust = Trust {
         apex: case.apex,
         depth: case.apex.depth(),
@@ -67,7 +67,7 @@ pub(crate) fn verified_under<'a, C: Checks>(
         &trust,
         &question.name,
         question.rtype,
-        verifier,
+        check_run,
     )
 }
 
@@ -79,29 +79,29 @@ fn verified_in_answer<C: Checks>(
     trust: &Trust,
     name: &Name<Vec<u8>>,
     rtype: Rtype,
-    verifier: &mut Verifier<C>,
+    check_run: &mut CheckRun<C>,
 ) -> Result<Vec<RecordNumber>, AllocError>
     requires index { Ranks trust.now.keys.now trust.now.ranked.now }
-    requires room { verifier.old.count + length records.now < 2 ^ 32 }
+    requires room { check_run.old.count + length records.now < 2 ^ 32 }
     requires other { is_chain_type rtype ≡ false }
-    ensures exact { EachAgreeing (C.answers verifier.old.checks.now)
-        (C.agrees verifier.new.checks.now) (λ a. let w = held_by a trust.now in
+    ensures exact { EachAgreeing (C.answers check_run.old.checks.now)
+        (C.agrees check_run.new.checks.now) (λ a. let w = held_by a trust.now in
         let m = message.now in let rs = map spelled records.now in
         IfOk result (λ v. v.items ≡ verified_in_answer w pointer_limit m rs name.now rtype)) }
-    ensures agrees { (test : SignatureTest) → C.agrees verifier.new.checks.now test
-        → C.agrees verifier.old.checks.now test }
-    ensures counted { C.verified verifier.new.checks.now + verifier.old.count
-        ≡ C.verified verifier.old.checks.now + verifier.new.count }
+    ensures agrees { (test : SignatureTest) → C.agrees check_run.new.checks.now test
+        → C.agrees check_run.old.checks.now test }
+    ensures counted { C.verified check_run.new.checks.now + check_run.old.count
+        ≡ C.verified check_run.old.checks.now + check_run.new.count }
     ensures bound { let rs = map spelled records.now in
-        verifier.new.count ≤ verifier.old.count + length (filter is_signature rs) }
-    ensures hashed { C.hashed verifier.new.checks.now ≡ C.hashed verifier.old.checks.now }
-    ensures same { C.answers verifier.new.checks.now ≡ C.answers verifier.old.checks.now }
-    ensures same_checks { verifier.new.checks.ghost_name ≡ verifier.old.checks.ghost_name }
+        check_run.new.count ≤ check_run.old.count + length (filter is_signature rs) }
+    ensures hashed { C.hashed check_run.new.checks.now ≡ C.hashed check_run.old.checks.now }
+    ensures same { C.answers check_run.new.checks.now ≡ C.answers check_run.old.checks.now }
+    ensures same_checks { check_run.new.checks.ghost_name ≡ check_run.old.checks.ghost_name }
 {
-    let alloc = verifier.alloc;
+    let alloc = check_run.alloc;
     let chained = sorted_chain(alloc, records)?;
     let mut groups = sought_groups(alloc, trust.apex, message, records, &chained, name, rtype)?;
-    verify_groups(message, records, trust, &mut groups, verifier)?;
+    verify_groups(message, records, trust, &mut groups, check_run)?;
     numbers_of_verified(alloc, message, records, &groups)
 }
 

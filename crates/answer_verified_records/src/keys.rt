@@ -8,10 +8,10 @@ ghost use Rattle.answer_judge_keys.specs.Trusted.{is_signature};
 ghost use Rattle.answer_verified_records.specs.Records.{signing_keys};
 
 use answer_judge::Case;
-use answer_judge_facts::signed_keys::are_verified;
+use answer_judge_facts::key_rrset::are_verified;
+use answer_judge_keys::check_run::CheckRun;
 use answer_judge_keys::keys::{TaggedKey, ranked_keys, trusted_keys, usable_keys};
 use answer_judge_keys::trust::Trust;
-use answer_judge_keys::verifier::Verifier;
 use answer_scheme::checks::Checks;
 use messages::ViewRecord;
 use messages::names::ZoneName;
@@ -22,28 +22,28 @@ pub(crate) fn signing_keys<'a, C: Checks>(
     case: &Case,
     records: &[ViewRecord],
     keys: Vec<TaggedKey<'a>>,
-    verifier: &mut Verifier<C>,
+    check_run: &mut CheckRun<C>,
 ) -> Result<Option<Vec<TaggedKey<'a>>>, AllocError>
-    requires none_yet { verifier.old.count ≡ 0 }
+    requires none_yet { check_run.old.count ≡ 0 }
     requires room { length records.now < 2 ^ 32 }
-    ensures exact { EachAgreeing (C.answers verifier.old.checks.now)
-        (C.agrees verifier.new.checks.now) (λ a. let rs = map spelled records.now in
+    ensures exact { EachAgreeing (C.answers check_run.old.checks.now)
+        (C.agrees check_run.new.checks.now) (λ a. let rs = map spelled records.now in
         IfOk result (λ o. option_map (λ ks. ks.items) o
         ≡ signing_keys a pointer_limit case.now rs keys.entry.items)) }
-    ensures agrees { (test : SignatureTest) → C.agrees verifier.new.checks.now test
-        → C.agrees verifier.old.checks.now test }
-    ensures counted { C.verified verifier.new.checks.now
-        ≡ C.verified verifier.old.checks.now + verifier.new.count }
+    ensures agrees { (test : SignatureTest) → C.agrees check_run.new.checks.now test
+        → C.agrees check_run.old.checks.now test }
+    ensures counted { C.verified check_run.new.checks.now
+        ≡ C.verified check_run.old.checks.now + check_run.new.count }
     ensures bound { let rs = map spelled records.now in
-        verifier.new.count ≤ length (filter is_signature rs) }
-    ensures few { verifier.new.count ≤ length records.now }
-    ensures hashed { C.hashed verifier.new.checks.now ≡ C.hashed verifier.old.checks.now }
-    ensures same { C.answers verifier.new.checks.now ≡ C.answers verifier.old.checks.now }
-    ensures same_checks { verifier.new.checks.ghost_name ≡ verifier.old.checks.ghost_name }
+        check_run.new.count ≤ length (filter is_signature rs) }
+    ensures few { check_run.new.count ≤ length records.now }
+    ensures hashed { C.hashed check_run.new.checks.now ≡ C.hashed check_run.old.checks.now }
+    ensures same { C.answers check_run.new.checks.now ≡ C.answers check_run.old.checks.now }
+    ensures same_checks { check_run.new.checks.ghost_name ≡ check_run.old.checks.ghost_name }
 {
-    verifier.octets.reserve(512)?;
-    let trusted = trusted_keys(case.apex, case.ds, &keys, verifier)?;
-    let by_tag = ranked_keys(verifier.alloc, &trusted)?;
+    check_run.octets.reserve(512)?;
+    let trusted = trusted_keys(case.apex, case.ds, &keys, check_run)?;
+    let by_tag = ranked_keys(check_run.alloc, &trusted)?;
     let trust = Trust {
         apex: case.apex,
         depth: case.apex.depth(),
@@ -52,7 +52,7 @@ pub(crate) fn signing_keys<'a, C: Checks>(
         moment: case.moment.timestamp(),
     };
     let mut seconds = 0;
-    if are_verified(case.dnskey, records, &keys, &trust, verifier, &mut seconds)? {
+    if are_verified(case.dnskey, records, &keys, &trust, check_run, &mut seconds)? {
         return Ok(Some(usable_keys(keys)));
     }
     Ok(None)

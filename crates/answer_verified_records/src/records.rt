@@ -11,7 +11,7 @@ use crate::keys::signing_keys;
 use crate::listed::{Messages, read_case};
 use crate::number::RecordNumber;
 use answer_judge::Case;
-use answer_judge_keys::verifier::Verifier;
+use answer_judge_keys::check_run::CheckRun;
 use answer_scheme::checks::Checks;
 use std::alloc::{AllocError, Global};
 
@@ -44,37 +44,37 @@ pub fn verified_records<C: Checks>(
         return Ok(Vec::new(alloc));
     };
     let mut octets = Vec::new(alloc);
-    let mut verifier = Verifier::new(alloc, checks, &mut octets);
-    verified_in_messages(case, messages, &mut verifier)
+    let mut check_run = CheckRun::new(alloc, checks, &mut octets);
+    verified_in_messages(case, messages, &mut check_run)
 }
 
 /// The numbers of the answer's records that the keys of the other message verify.
 fn verified_in_messages<C: Checks>(
     case: &Case,
     messages: Messages,
-    verifier: &mut Verifier<C>,
+    check_run: &mut CheckRun<C>,
 ) -> Result<Vec<RecordNumber>, AllocError>
-    requires none_yet { verifier.old.count ≡ 0 }
+    requires none_yet { check_run.old.count ≡ 0 }
     requires read { IsReadOf case.now messages }
-    ensures exact { EachAgreeing (C.answers verifier.old.checks.now)
-        (C.agrees verifier.new.checks.now) (λ a. let h = case.now in
+    ensures exact { EachAgreeing (C.answers check_run.old.checks.now)
+        (C.agrees check_run.new.checks.now) (λ a. let h = case.now in
         let keys = messages.entry.keys.view in let answer = messages.entry.answer.view in
         IfOk result (λ v. v.items ≡ verified_in_messages a pointer_limit h keys answer)) }
-    ensures agrees { (test : SignatureTest) → C.agrees verifier.new.checks.now test
-        → C.agrees verifier.old.checks.now test }
-    ensures bound { C.verified verifier.new.checks.now ≤ C.verified verifier.old.checks.now
+    ensures agrees { (test : SignatureTest) → C.agrees check_run.new.checks.now test
+        → C.agrees check_run.old.checks.now test }
+    ensures bound { C.verified check_run.new.checks.now ≤ C.verified check_run.old.checks.now
         + verification_bound pointer_limit case.now }
-    ensures hashed { C.hashed verifier.new.checks.now ≡ C.hashed verifier.old.checks.now }
-    ensures same { C.answers verifier.new.checks.now ≡ C.answers verifier.old.checks.now }
-    ensures same_checks { verifier.new.checks.ghost_name ≡ verifier.old.checks.ghost_name }
+    ensures hashed { C.hashed check_run.new.checks.now ≡ C.hashed check_run.old.checks.now }
+    ensures same { C.answers check_run.new.checks.now ≡ C.answers check_run.old.checks.now }
+    ensures same_checks { check_run.new.checks.ghost_name ≡ check_run.old.checks.ghost_name }
 {
     let Messages {
         keys,
         answer,
         tagged,
     } = messages;
-    let Some(usable) = signing_keys(case, &keys.records, tagged, verifier)? else {
-        return Ok(Vec::new(verifier.alloc));
+    let Some(usable) = signing_keys(case, &keys.records, tagged, check_run)? else {
+        return Ok(Vec::new(check_run.alloc));
     };
-    verified_under(&*case, &answer.records, &usable, verifier)
+    verified_under(&*case, &answer.records, &usable, check_run)
 }

@@ -20,7 +20,7 @@ ghost use Rattle.answer_zone_records.specs.MadeLinks.{link_of};
 
 use crate::group::RrGroup;
 use crate::octets::written_octets;
-use crate::places::{Link, push_places};
+use crate::places::{KeptLink, push_places};
 use denial_chain_owners::error::SigningError;
 use denial_nsec_chain::config::GenerateNsecConfig;
 use denial_nsec_chain::generate::generate_nsecs;
@@ -103,7 +103,7 @@ impl ChainLink {
     }
 }
 
-impl Link for ChainLink {
+impl KeptLink for ChainLink {
     ghost use Rattle.answer_shared.specs.Links.{group_of};
 
     ghost group_of = { λ ttl l. group_of ttl l };

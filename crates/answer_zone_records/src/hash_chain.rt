@@ -29,7 +29,7 @@ ghost use Rattle.answer_zone_records.specs.Round.{IsCircle, is_hash_up_to};
 
 use crate::group::RrGroup;
 use crate::octets::written_octets;
-use crate::places::{Link, push_places};
+use crate::places::{KeptLink, push_places};
 use denial_chain_owners::error::SigningError;
 use denial_fields::salt::Nsec3Salt;
 use denial_nsec_data::nsec3::Nsec3;
@@ -172,7 +172,7 @@ impl HashedLink {
     }
 }
 
-impl Link for HashedLink {
+impl KeptLink for HashedLink {
     ghost use Rattle.answer_shared.specs.HashedLinks.{hashed_group_of};
 
     ghost group_of = { λ ttl l. hashed_group_of ttl l };

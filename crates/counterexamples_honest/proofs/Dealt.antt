@@ -14,7 +14,7 @@ use Rattle.messages.specs.Message.{AreOctets, Message, Spelled, message, rrsig_a
 use Rattle.messages.proofs.Lists.{Has, all_at, all_fail, all_more, some_is}
 use Rattle.answer_scheme.specs.Answers.{Answers}
 use Rattle.answer_judge_facts.specs.Honest.{NothingForged, over}
-use Rattle.answer_judge_keys.specs.Judging.{Handing}
+use Rattle.answer_judge_keys.specs.Judging.{JudgeInput}
 use Rattle.answer_judge_facts.specs.Sought.{Sought}
 use Rattle.answer_judge.proofs.GivenLists.{has_contained}
 use Rattle.answer_judge.proofs.Spliced.{ok_is}
@@ -37,22 +37,22 @@ IsDealt a now published Signed m r =
     → in_time f now ≡ true → Has published key → a.verifies key octets signature ≡ true → Signed octets
 
 -- the same of those that a judge may use: the apex's, under a key that may sign
-abbrev pub IsDealtHere : Answers → Handing → List Dnskey → (List ℕ → Type 0) → List ℕ → Spelled → Type 0
+abbrev pub IsDealtHere : Answers → JudgeInput → List Dnskey → (List ℕ → Type 0) → List ℕ → Spelled → Type 0
 IsDealtHere a h published Signed m r =
     (f : Fields) (signature octets : List ℕ) (key : Dnskey) → r.rtype ≡ 46 → rrsig_at pointer_limit m r ≡ Some (f, signature)
     → in_time f h.now ≡ true → same f.signer h.apex ≡ true → Has published key → is_usable key ≡ true → a.verifies key octets signature ≡ true → Signed octets
 
-pub here : (a : Answers) (h : Handing) (published : List Dnskey) (Signed : List ℕ → Type 0) (m : List ℕ) (r : Spelled) → IsDealt a h.now published Signed m r → IsDealtHere a h published Signed m r
+pub here : (a : Answers) (h : JudgeInput) (published : List Dnskey) (Signed : List ℕ → Type 0) (m : List ℕ) (r : Spelled) → IsDealt a h.now published Signed m r → IsDealtHere a h published Signed m r
 here a h published Signed m r dealt f signature octets key kind fields time signer inside usable passes = dealt f signature octets key kind fields time inside passes
 
-pub unforged_here : (a : Answers) (h : Handing) (published : List Dnskey) (Signed : List ℕ → Type 0) (sought : List Spelled → Sought) (m : List ℕ) (read : Message) → message pointer_limit m ≡ Ok read → AllByRecursion (IsDealtHere a h published Signed m) read.records
+pub unforged_here : (a : Answers) (h : JudgeInput) (published : List Dnskey) (Signed : List ℕ → Type 0) (sought : List Spelled → Sought) (m : List ℕ) (read : Message) → message pointer_limit m ≡ Ok read → AllByRecursion (IsDealtHere a h published Signed m) read.records
     → NothingForged a pointer_limit h published Signed sought m
 unforged_here a h published Signed sought m read reads dealt other r f signature key is used inside usable some passes =
     let alike : other ≡ read = ok_is other read (sym is ∙ reads) in
     all_at (IsDealtHere a h published Signed m) read.records r dealt (subst (λ (x : Message). Has x.records r) alike (has_contained other.records r used.there)) f signature (over (sought other.records) r f) key used.rtype_is used.reads used.timely used.signer_is
     (has_contained published key inside) usable passes
 
-pub unforged : (a : Answers) (h : Handing) (published : List Dnskey) (Signed : List ℕ → Type 0) (sought : List Spelled → Sought) (m : List ℕ) (read : Message) → message pointer_limit m ≡ Ok read → AllByRecursion (IsDealt a h.now published Signed m) read.records
+pub unforged : (a : Answers) (h : JudgeInput) (published : List Dnskey) (Signed : List ℕ → Type 0) (sought : List Spelled → Sought) (m : List ℕ) (read : Message) → message pointer_limit m ≡ Ok read → AllByRecursion (IsDealt a h.now published Signed m) read.records
     → NothingForged a pointer_limit h published Signed sought m
 unforged a h published Signed sought m read reads dealt other r f signature key is used inside usable some passes =
     let same : other ≡ read = ok_is other read (sym is ∙ reads) in
@@ -93,7 +93,7 @@ signed now Signed m r g over is there f signature octets key kind fields time in
     subst Signed (ap (drop 2) (sym (said m r f g signature (0 ∷ 16 ∷ over) fields is).1 ∙ other)) there
 
 -- by the apex of another zone
-pub of_another : (a : Answers) (h : Handing) (published : List Dnskey) (Signed : List ℕ → Type 0) (m : List ℕ) (r : Spelled) (g : Fields) (x : List ℕ) → rrsig_at pointer_limit m r ≡ Some (g, x) → same g.signer h.apex ≡ false → IsDealtHere a h published Signed m r
+pub of_another : (a : Answers) (h : JudgeInput) (published : List Dnskey) (Signed : List ℕ → Type 0) (m : List ℕ) (r : Spelled) (g : Fields) (x : List ℕ) → rrsig_at pointer_limit m r ≡ Some (g, x) → same g.signer h.apex ≡ false → IsDealtHere a h published Signed m r
 of_another a h published Signed m r g x is unlike f signature octets key kind fields time signer inside usable passes =
     absurd (false≢true (sym unlike ∙ ap (λ (y : Fields). same y.signer h.apex) (sym (said m r f g signature x fields is).0) ∙ signer))
 

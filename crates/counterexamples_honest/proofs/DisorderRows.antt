@@ -83,7 +83,7 @@ pub alias_row : SaysFalsely without_alone
 unfolding pointer_limit most_heads owner_at
 alias_row = record {
   answers = plain;
-  handing = of_alias;
+  judge_input = of_alias;
   versions = beside_alias ∷ [];
   honest = honest_in without_alone alias_at alias_is (λ e. cc) own_published (inl refl) (own_keys_unforged (handed_in alias_at) refl alias_at.signings) (own_keys_known alias_at.answer a 1) alias_unforged (tt, tt);
   said = Records (address ∷ []);
@@ -148,7 +148,7 @@ pub below_row : SaysFalsely without_childless
 unfolding pointer_limit most_heads owner_at
 below_row = record {
   answers = plain;
-  handing = of_redirected;
+  judge_input = of_redirected;
   versions = below_redirect ∷ [];
   honest = honest_in without_childless below_at below_is (λ e. cc) own_published (inl refl) (own_keys_unforged (handed_in below_at) refl below_at.signings) (own_keys_known address_below x_b 1) below_unforged (tt, tt);
   said = Records (address ∷ []);
@@ -238,7 +238,7 @@ pub cut_row : SaysFalsely without_uncut
 unfolding pointer_limit most_heads owner_at octet_of window_size window_count
 cut_row = record {
   answers = plain;
-  handing = of_cut_redirect;
+  judge_input = of_cut_redirect;
   versions = cut_redirect ∷ [];
   honest = honest_in without_uncut cut_at cut_is (λ e. cc) own_published (inl refl) (own_keys_unforged (handed_in cut_at) refl cut_at.signings) (own_keys_known cut_answer x_b 1) cut_unforged (tt, tt);
   said = Delegated;
@@ -305,7 +305,7 @@ pub hand_row : SaysFalsely without_ordinary
 unfolding pointer_limit most_heads owner_at octet_of window_size window_count
 hand_row = record {
   answers = plain;
-  handing = of_hand;
+  judge_input = of_hand;
   versions = chained_by_hand ∷ [];
   honest = honest_in without_ordinary hand_at hand_is (λ e. cc) own_published (inl refl) (own_keys_unforged (handed_in hand_at) refl hand_at.signings) (own_keys_known denied_by_hand a 1) hand_unforged (tt, tt);
   said = NoName;

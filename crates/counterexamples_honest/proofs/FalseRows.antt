@@ -47,7 +47,7 @@ no_key_known read key is there trusted = cc
 pub no_ds_row : SaysFalsely without_ds
 no_ds_row = record {
   answers = plain;
-  handing = no_ds;
+  judge_input = no_ds;
   versions = small ∷ [];
   honest = honest_in without_ds no_ds_at no_ds_is tt tt (inl refl) no_keys_forged no_key_known no_answer_forged (tt, tt);
   said = Unsigned;
@@ -94,7 +94,7 @@ pub forged_keys_row : SaysFalsely without_keys_unforged
 unfolding pointer_limit most_heads owner_at
 forged_keys_row = record {
   answers = plain;
-  handing = forged_keys;
+  judge_input = forged_keys;
   versions = small ∷ [];
   honest = honest_in without_keys_unforged mixed_at mixed_is (λ e. cc) tt (inl refl) tt mixed_known (other_unforged (SignedOf mixed_at)) (tt, tt);
   said = Records (false_address ∷ []);
@@ -140,7 +140,7 @@ pub signed_keys_row : SaysFalsely without_keys_published
 unfolding pointer_limit most_heads owner_at
 signed_keys_row = record {
   answers = plain;
-  handing = forged_keys;
+  judge_input = forged_keys;
   versions = small ∷ [];
   honest = honest_in without_keys_published signed_keys_at signed_keys_is (λ e. cc) tt (inl refl) mixed_unforged mixed_known (other_unforged (SignedOf signed_keys_at)) (tt, tt);
   said = Records (false_address ∷ []);
@@ -193,7 +193,7 @@ pub twin_row : SaysFalsely without_keys_known
 unfolding pointer_limit most_heads owner_at
 twin_row = record {
   answers = plain;
-  handing = twin_keys;
+  judge_input = twin_keys;
   versions = small ∷ [];
   honest = honest_in without_keys_known twin_at twin_is (λ e. cc) tt (inl refl) twin_keys_unforged tt twin_unforged (tt, tt);
   said = Records (false_address ∷ []);
@@ -222,7 +222,7 @@ pub forged_answer_row : SaysFalsely without_answer_unforged
 unfolding pointer_limit most_heads owner_at
 forged_answer_row = record {
   answers = plain;
-  handing = forged_answer;
+  judge_input = forged_answer;
   versions = small ∷ [];
   honest = honest_in without_answer_unforged forged_at forged_is (λ e. cc) own_published (inl refl) (own_keys_unforged (handed_in forged_at) refl []) (own_keys_known forged_at.answer a 1) tt (tt, tt);
   said = Records (false_address ∷ []);
@@ -287,7 +287,7 @@ pub shared_hash_row : SaysFalsely without_hashes_apart
 unfolding pointer_limit most_heads owner_at octet_of window_size window_count
 shared_hash_row = record {
   answers = plain;
-  handing = shared_hash;
+  judge_input = shared_hash;
   versions = bare ∷ [];
   honest = honest_in without_hashes_apart hashed_at hashed_is (λ e. cc) own_published (inl refl) (own_keys_unforged (handed_in hashed_at) refl hashed_at.signings) (own_keys_known hashed_answer a 16) hashed_unforged (tt, tt);
   said = NoType;

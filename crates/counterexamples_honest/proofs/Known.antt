@@ -10,7 +10,7 @@ use Rattle.messages.proofs.Lists.{all_at}
 use Rattle.answer_judge_facts.specs.Honest.{NoStranger}
 use Rattle.answer_judge.proofs.GivenLists.{has_contained}
 use Rattle.answer_judge.proofs.Spliced.{ok_is}
-use Rattle.answer_judge_keys.specs.Judging.{Handing, keys_in}
+use Rattle.answer_judge_keys.specs.Judging.{JudgeInput, keys_in}
 use Rattle.answer_judge_keys.specs.Trusted.{is_trusted}
 use Rattle.counterexamples_honest.specs.World.{ds, example, own_key, plain}
 use Rattle.counterexamples_honest.proofs.Dealt.{at_place}
@@ -19,7 +19,7 @@ use Rattle.counterexamples_honest.proofs.Dealt.{at_place}
 abbrev pub IsKnown : Dnskey → Type 0
 IsKnown key = is_trusted plain example (ds ∷ []) key ≡ true → Contains (own_key ∷ []) key
 
-pub no_stranger : (h : Handing) (read : Message) → h.apex ≡ example → h.ds ≡ ds ∷ [] → message pointer_limit h.dnskey_bytes ≡ Ok read → AllByRecursion IsKnown (keys_in h.dnskey_bytes h.apex read.records) → NoStranger plain pointer_limit h (own_key ∷ [])
+pub no_stranger : (h : JudgeInput) (read : Message) → h.apex ≡ example → h.ds ≡ ds ∷ [] → message pointer_limit h.dnskey_bytes ≡ Ok read → AllByRecursion IsKnown (keys_in h.dnskey_bytes h.apex read.records) → NoStranger plain pointer_limit h (own_key ∷ [])
 no_stranger h read apex set reads known other key is there trusted =
     let same : other ≡ read = ok_is other read (sym is ∙ reads) in
     let here : Contains (keys_in h.dnskey_bytes h.apex read.records) key = subst (λ (x : Message). Contains (keys_in h.dnskey_bytes h.apex x.records) key) same there in

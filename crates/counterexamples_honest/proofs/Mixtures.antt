@@ -12,7 +12,7 @@ use Rattle.messages.specs.Message.{owner_at}
 use Rattle.messages.proofs.Lists.{Has}
 use Rattle.answer_judge_facts.specs.Honest.{IsSaidByOne, OneAtATime, Signing, sought_of_answer, verdict_of}
 use Rattle.answer_judge_facts.specs.Versions.{OfChain, Version, zone_in}
-use Rattle.answer_judge_keys.specs.Judging.{Handing}
+use Rattle.answer_judge_keys.specs.Judging.{JudgeInput}
 use Rattle.answer_judge.proofs.GivenLists.{has_contained}
 use Rattle.counterexamples_honest.specs.Premises.{IsMixture, Premises, SaysFalsely, all, without_settled}
 use Rattle.counterexamples_honest.specs.Rows.{first_version, mixed, mixed_answer, mixed_at_once, next_of_apex_later, next_of_b, own_keys, second_version}
@@ -51,7 +51,7 @@ pub of_second : Contains both second_version
 of_second = at_place both second_version 1 refl refl
 
 -- neither version says that there is no such name
-neither : (h : Handing) → h.apex ≡ example → h.asked ≡ mixed.asked → IsSaidByOne h both NoName → ⊥
+neither : (h : JudgeInput) → h.apex ≡ example → h.asked ≡ mixed.asked → IsSaidByOne h both NoName → ⊥
 neither h apex asked s = go (has_contained both s.version s.there)
   where
     said : (v : Version) → v ≡ s.version → verdict_of mixed v ≡ NoName
@@ -162,7 +162,7 @@ pub at_once_row : SaysFalsely without_settled
 unfolding pointer_limit most_heads owner_at octet_of window_size window_count
 at_once_row = record {
   answers = plain;
-  handing = mixed_at_once;
+  judge_input = mixed_at_once;
   versions = both;
   honest = honest_in without_settled (mixed_row 1000) at_once_is (λ e. cc) own_published tt
       (own_keys_unforged (handed_in (mixed_row 1000)) refl (mixed_row 1000).signings) (own_keys_known (mixed_answer 1000) x 16) at_once_unforged (tt, (tt, tt));

@@ -21,10 +21,10 @@ use Rattle.answer_shared.specs.Accepting.{IsFaultless, has_unlike_ttls, soas, so
 use Rattle.answer_shared.proofs.Servable.{servable}
 use Rattle.answer_judge_facts.specs.Honest.{NoStranger, NothingForged, Signing, SignedOfKeys, WasSigned, sought_of_keys}
 use Rattle.answer_judge_facts.specs.Versions.{Version, zone_in}
-use Rattle.answer_judge_keys.specs.Judging.{Handing}
+use Rattle.answer_judge_keys.specs.Judging.{JudgeInput}
 use Rattle.answer_judge_keys.proofs.GivenSorted.{in_has}
 use Rattle.counterexamples_honest.specs.Premises.{IsServableIn, Premises, Where}
-use Rattle.counterexamples_honest.specs.Rows.{bare, first_version, own_keys, second_version, handing, small, starred}
+use Rattle.counterexamples_honest.specs.Rows.{bare, first_version, own_keys, second_version, judge_input, small, starred}
 use Rattle.counterexamples_honest.specs.World.{a, address, b, c, ds, example, fields, own_key, plain, soa, star, text, x, x_b}
 use Rattle.counterexamples_honest.proofs.Dealt.{at_place, no_signature, signed, unforged}
 use Rattle.counterexamples_honest.proofs.Handed.{name, opaque, signable, soa_handed}
@@ -167,13 +167,13 @@ own_signed signings = SignedOfKeys (record {
 })
 
 -- nothing is forged in it
-pub own_keys_unforged : (h : Handing) → h.now ≡ 1500 → (signings : List Signing) → NothingForged plain pointer_limit h (own_key ∷ []) (WasSigned plain example (own_key ∷ []) signings) (sought_of_keys h) own_keys
+pub own_keys_unforged : (h : JudgeInput) → h.now ≡ 1500 → (signings : List Signing) → NothingForged plain pointer_limit h (own_key ∷ []) (WasSigned plain example (own_key ∷ []) signings) (sought_of_keys h) own_keys
 unfolding pointer_limit most_heads owner_at
 own_keys_unforged h now signings = unforged plain h (own_key ∷ []) (WasSigned plain example (own_key ∷ []) signings) (sought_of_keys h) own_keys (read_of own_keys) refl (
   no_signature plain h.now (own_key ∷ []) (WasSigned plain example (own_key ∷ []) signings) own_keys (item own_keys 0) refl,
   (signed h.now (WasSigned plain example (own_key ∷ []) signings) own_keys (item own_keys 1) keys_fields (keys_over (dnskey_data own_key ∷ [])) refl (own_signed signings), tt),
 )
 
-pub own_keys_known : (answer : List ℕ) (n : Name) (t : ℕ) → NoStranger plain pointer_limit (handing (ds ∷ []) own_keys answer n t) (own_key ∷ [])
+pub own_keys_known : (answer : List ℕ) (n : Name) (t : ℕ) → NoStranger plain pointer_limit (judge_input (ds ∷ []) own_keys answer n t) (own_key ∷ [])
 unfolding pointer_limit most_heads owner_at
-own_keys_known answer n t = no_stranger (handing (ds ∷ []) own_keys answer n t) (read_of own_keys) refl refl refl (own_known, tt)
+own_keys_known answer n t = no_stranger (judge_input (ds ∷ []) own_keys answer n t) (read_of own_keys) refl refl refl (own_known, tt)

@@ -11,12 +11,12 @@ use Rattle.answer_scheme.specs.Answers.{Answers}
 use Rattle.answer_judge_facts.specs.Honest.{IsVersion, NothingForged, Signing, SignedOfKeys, SignedOfVersion, WasSigned, sought_of_answer, sought_of_keys}
 use Rattle.answer_judge_facts.specs.Versions.{Version}
 use Rattle.answer_judge_facts.specs.Sought.{Sought}
-use Rattle.answer_judge_keys.specs.Judging.{Handing, Says}
+use Rattle.answer_judge_keys.specs.Judging.{JudgeInput, Says}
 use Rattle.answer_judge.proofs.GivenLists.{has_contained}
 use Rattle.answer_judge.proofs.HonestJudged.{answers_honest}
 use Rattle.counterexamples_honest.specs.Premises.{AllAreHonest, IsVersionIn, NoneIsFalse, all}
 
-is_version : (a : Answers) (h : Handing) (v : Version) → IsVersionIn all a h v → IsVersion a h v
+is_version : (a : Answers) (h : JudgeInput) (v : Version) → IsVersionIn all a h v → IsVersion a h v
 is_version a h v x = record {
   records_are = x.records_are;
   in_order = record {
@@ -40,7 +40,7 @@ published_signed a apex published signed signings are octets (SignedOfKeys s) = 
   over = s.over;
 })
 
-unforged_too : (a : Answers) (h : Handing) (published signed : List Dnskey) (signings : List Signing) (sought : List Spelled → Sought) (m : List ℕ) → AllByRecursion (Contains published) signed
+unforged_too : (a : Answers) (h : JudgeInput) (published signed : List Dnskey) (signings : List Signing) (sought : List Spelled → Sought) (m : List ℕ) → AllByRecursion (Contains published) signed
     → NothingForged a pointer_limit h published (WasSigned a h.apex signed signings) sought m → NothingForged a pointer_limit h published (WasSigned a h.apex published signings) sought m
 unforged_too a h published signed signings sought m are unforged read r f signature key reads used inside usable some passes =
     published_signed a h.apex published signed signings are (Rattle.answer_judge_facts.specs.Honest.over (sought read.records) r f) (unforged read r f signature key reads used inside usable some passes)
@@ -63,4 +63,4 @@ all_honest a h versions x = record {
 }
 
 pub none_false : NoneIsFalse
-none_false x = x.otherwise (answers_honest x.answers pointer_limit x.handing (Says x.said) (inr (sym x.says)) x.versions (all_honest x.answers x.handing x.versions x.honest))
+none_false x = x.otherwise (answers_honest x.answers pointer_limit x.judge_input (Says x.said) (inr (sym x.says)) x.versions (all_honest x.answers x.judge_input x.versions x.honest))

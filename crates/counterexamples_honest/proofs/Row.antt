@@ -14,10 +14,10 @@ use Rattle.answer_shared.specs.Chainable.{HasChain}
 use Rattle.answer_shared.specs.Hashing.{hash_in}
 use Rattle.answer_judge_facts.specs.Honest.{FewIterations, IsSaidByOne, NoStranger, NothingForged, Settled, Signing, WasSigned, SignedOfVersion, is_alias_in, sought_of_answer, sought_of_keys, verdict_of}
 use Rattle.answer_judge_facts.specs.Versions.{IsRrsetOf, Version, zone_in}
-use Rattle.answer_judge_keys.specs.Judging.{Handing}
+use Rattle.answer_judge_keys.specs.Judging.{JudgeInput}
 use Rattle.answer_judge.proofs.GivenLists.{has_contained}
 use Rattle.counterexamples_honest.specs.Premises.{AreHonestIn, IsServableIn, IsVersionIn, Premises, Where}
-use Rattle.counterexamples_honest.specs.Rows.{handing}
+use Rattle.counterexamples_honest.specs.Rows.{judge_input}
 use Rattle.counterexamples_honest.specs.World.{example, fields, own_key, plain}
 use Rattle.counterexamples_honest.proofs.Dealt.{at_place, small_octets}
 use Rattle.counterexamples_honest.proofs.Handed.{own_flags, question, signable}
@@ -34,8 +34,8 @@ pub record Row : Type 0 where
   pub signed_keys : List Dnskey
   pub signings : List Signing
 
-abbrev pub handed_in : Row → Handing
-handed_in r = handing r.set r.keys r.answer r.name r.rtype
+abbrev pub handed_in : Row → JudgeInput
+handed_in r = judge_input r.set r.keys r.answer r.name r.rtype
 
 -- a version of a zone, as far as some premises ask
 pub record IsInOrder (p : Premises) (v : Version) : Type 0 where
@@ -121,14 +121,14 @@ pub own_published : AllByRecursion (Contains (own_key ∷ [])) (own_key ∷ [])
 own_published = (at_place (own_key ∷ []) own_key 0 refl refl, tt)
 
 -- a verdict that the one version does not have
-pub not_one : (h : Handing) (v : Version) (said : Verdict) → (verdict_of h v ≡ said → ⊥) → IsSaidByOne h (v ∷ []) said → ⊥
+pub not_one : (h : JudgeInput) (v : Version) (said : Verdict) → (verdict_of h v ≡ said → ⊥) → IsSaidByOne h (v ∷ []) said → ⊥
 not_one h v said n s = elim (has_contained (v ∷ []) s.version s.there) [
   | inl e ↦ n (ap (verdict_of h) (sym e) ∙ s.verdict_is)
   | inr none ↦ absurd none
 ]
 
 -- an alias in the one version
-pub alias_in_one : (h : Handing) (v : Version) (said : Verdict) → is_alias_in h v ≡ true → IsSaidByOne h (v ∷ []) said → ⊥
+pub alias_in_one : (h : JudgeInput) (v : Version) (said : Verdict) → is_alias_in h v ≡ true → IsSaidByOne h (v ∷ []) said → ⊥
 alias_in_one h v said a s = elim (has_contained (v ∷ []) s.version s.there) [
   | inl e ↦ false≢true (sym s.no_alias ∙ ap (is_alias_in h) e ∙ a)
   | inr none ↦ absurd none

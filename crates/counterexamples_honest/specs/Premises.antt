@@ -15,7 +15,7 @@ use Rattle.answer_scheme.specs.Answers.{Answers}
 use Rattle.answer_judge_facts.specs.Honest.{AreHonest, FewIterations, IsSaidByOne, NoStranger, NothingForged, Settled, Signing, WasSigned, sought_of_answer, sought_of_keys}
 use Rattle.answer_judge_facts.specs.Versions.{Version, zone_in}
 use Rattle.answer_judge_facts.specs.Judged.{judged}
-use Rattle.answer_judge_keys.specs.Judging.{Answer, Handing, Refuses, Says}
+use Rattle.answer_judge_keys.specs.Judging.{Answer, JudgeInput, Refuses, Says}
 use Rattle.answer_judge_keys.specs.declared.verdict.Refusal.TheVariants.{MixedVersions}
 
 -- Which of them are asked. Beside these a zone has its apex and a chain, and names, numbers and octets are such.
@@ -111,7 +111,7 @@ pub record IsServableIn (p : Premises) (z : Zone) : Type 0 where
   pub childless : Where p.childless ((o below : Name) → has z o 39 ≡ true → Contains (owners z) below → strictly_above o below ≡ false)
 
 -- a version of a zone
-pub record IsVersionIn (p : Premises) (a : Answers) (h : Handing) (v : Version) : Type 0 where
+pub record IsVersionIn (p : Premises) (a : Answers) (h : JudgeInput) (v : Version) : Type 0 where
   pub records_are : AllByRecursion IsHanded v.records
   pub in_order : IsServableIn p (zone_in h.apex v)
   pub few : FewIterations v.mode
@@ -119,7 +119,7 @@ pub record IsVersionIn (p : Premises) (a : Answers) (h : Handing) (v : Version) 
   pub apart : Where p.hashes_apart (NoSharedHash (zone_in h.apex v) (hash_in a.hash v.mode) v.mode h.asked.name)
 
 -- What is handed in is honest as far as some premises ask. Keys that stand in DNSKEY RRsets which were signed are signed keys.
-pub record AreHonestIn (p : Premises) (a : Answers) (h : Handing) (versions : List Version) : Type 0 where
+pub record AreHonestIn (p : Premises) (a : Answers) (h : JudgeInput) (versions : List Version) : Type 0 where
   pub published : List Dnskey
   pub signed_keys : List Dnskey
   pub signings : List Signing
@@ -140,31 +140,31 @@ pub record AreHonestIn (p : Premises) (a : Answers) (h : Handing) (versions : Li
 
 -- with all premises what is handed in is honest, as `AreHonest` says it
 abbrev pub AllAreHonest : Type 0
-AllAreHonest = (a : Answers) (h : Handing) (versions : List Version) → AreHonestIn all a h versions → AreHonest a pointer_limit h versions
+AllAreHonest = (a : Answers) (h : JudgeInput) (versions : List Version) → AreHonestIn all a h versions → AreHonest a pointer_limit h versions
 
 -- Of some zone and what is handed in of it, as far as some premises ask, a judge says what no version of the zone says of a name
 -- that is no alias.
 pub record SaysFalsely (p : Premises) : Type 0 where
   pub answers : Answers
-  pub handing : Handing
+  pub judge_input : JudgeInput
   pub versions : List Version
-  pub honest : AreHonestIn p answers handing versions
+  pub honest : AreHonestIn p answers judge_input versions
   pub said : Verdict
-  pub says : judged answers pointer_limit handing ≡ Says said
-  pub otherwise : IsSaidByOne handing versions said → ⊥
+  pub says : judged answers pointer_limit judge_input ≡ Says said
+  pub otherwise : IsSaidByOne judge_input versions said → ⊥
 
 -- with all premises it never does
 abbrev pub NoneIsFalse : Type 0
 NoneIsFalse = SaysFalsely all → ⊥
 
 -- what is handed in of a zone that had these versions is honest, and a judge answers so
-pub record IsHonestCase (a : Answers) (h : Handing) (versions : List Version) (answer : Answer) : Type 0 where
+pub record IsHonestCase (a : Answers) (h : JudgeInput) (versions : List Version) (answer : Answer) : Type 0 where
   pub honest : AreHonest a pointer_limit h versions
   pub answers : judged a pointer_limit h ≡ answer
 
 -- two versions of a zone, what is handed in of both, and a verdict that neither has: it is said where signatures need not be of one
 -- moment, and else what is handed in is refused
-pub record IsMixture (a : Answers) (h : Handing) (versions : List Version) (said : Verdict) : Type 0 where
+pub record IsMixture (a : Answers) (h : JudgeInput) (versions : List Version) (said : Verdict) : Type 0 where
   pub refused : IsHonestCase a (record h { one_moment = true }) versions (Refuses MixedVersions)
   pub taken : judged a pointer_limit (record h { one_moment = false }) ≡ Says said
   pub otherwise : IsSaidByOne h versions said → ⊥

@@ -9,7 +9,7 @@ use Rattle.answer_shared.specs.Served.{Group}
 use Rattle.answer_shared.specs.Told.{Tells}
 use Rattle.answer_scheme.specs.Answers.{Answers}
 use Rattle.answer_judge_facts.specs.Honest.{IsHonest, Signing, WasSigned}
-use Rattle.answer_judge_keys.specs.Judging.{Handing}
+use Rattle.answer_judge_keys.specs.Judging.{JudgeInput}
 use Rattle.answer_judge_facts.specs.Sought.{Sought}
 use Rattle.answer_judge.specs.Splices.{AreSigned, Binds, PassesNowhere}
 
@@ -46,5 +46,5 @@ AreQuotes a k now published apex Signed m =
 -- such a message is honest, where a signature passes over one string of octets alone
 abbrev pub QuotesAreHonest : Type 0
 QuotesAreHonest =
-    (a : Answers) (k : ℕ) (h : Handing) (published keys : List Dnskey) (apex : Name) (signings : List Signing) (sought : List Spelled → Sought) (m : List ℕ)
+    (a : Answers) (k : ℕ) (h : JudgeInput) (published keys : List Dnskey) (apex : Name) (signings : List Signing) (sought : List Spelled → Sought) (m : List ℕ)
     → Binds a → AreOctets m → AreQuotes a k h.now published apex (WasSigned a apex keys signings) m → IsHonest a k h published (WasSigned a apex keys signings) sought m

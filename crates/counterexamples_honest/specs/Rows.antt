@@ -7,7 +7,7 @@ use Rattle.definitions.specs.Name.{Name, wire}
 use Rattle.definitions.specs.Signing.{Fields}
 use Rattle.definitions.specs.ZoneChain.{Nsec, Nsec3}
 use Rattle.messages.specs.HandedRr.{HandedRr}
-use Rattle.answer_judge_keys.specs.Judging.{Handing}
+use Rattle.answer_judge_keys.specs.Judging.{JudgeInput}
 use Rattle.answer_judge_facts.specs.Versions.{Version}
 use Rattle.counterexamples_honest.specs.World.{a, address, address_of, alias_of, b, delegation_of, ds, example, false_address, fields, handed, idle, message_of, other, own_key, redirect_of, rr, rrsig, soa, star, stranger, text_of, twin, x, x_b}
 
@@ -131,8 +131,8 @@ denied_by_hand = message_of a 1 2 (rr example 47 next_handed ++ rrsig example (f
 
 -- ---- what is handed in
 
-abbrev pub handing : List Ds → List ℕ → List ℕ → Name → ℕ → Handing
-handing set keys answer name t = record {
+abbrev pub judge_input : List Ds → List ℕ → List ℕ → Name → ℕ → JudgeInput
+judge_input set keys answer name t = record {
   apex = example;
   ds = set;
   dnskey_bytes = keys;
@@ -145,63 +145,63 @@ handing set keys answer name t = record {
 }
 
 -- beside the DS record of the zone's key, for the address of `a`
-abbrev pub address_handed : List ℕ → List ℕ → Handing
-address_handed keys answer = handing (ds ∷ []) keys answer a 1
+abbrev pub address_handed : List ℕ → List ℕ → JudgeInput
+address_handed keys answer = judge_input (ds ∷ []) keys answer a 1
 
 -- ---- honest rows
 
-abbrev pub own : Handing
+abbrev pub own : JudgeInput
 own = address_handed own_keys (address_by own_key address 1000 2000)
 
-abbrev pub spliced : Handing
-spliced = handing (ds ∷ []) own_keys spliced_answer x_b 1
+abbrev pub spliced : JudgeInput
+spliced = judge_input (ds ∷ []) own_keys spliced_answer x_b 1
 
-abbrev pub of_strangers : Handing
+abbrev pub of_strangers : JudgeInput
 of_strangers = address_handed (stranger_keys stranger) (address_by stranger false_address 1000 2000)
 
 -- the last second of the forged signature is over
-abbrev pub forged_late : Handing
+abbrev pub forged_late : JudgeInput
 forged_late = address_handed own_keys (address_by own_key false_address 1000 1499)
 
 -- of two versions, the second signed a hundred seconds behind the first
-abbrev pub mixed : Handing
-mixed = handing (ds ∷ []) own_keys (mixed_answer 1100) x 16
+abbrev pub mixed : JudgeInput
+mixed = judge_input (ds ∷ []) own_keys (mixed_answer 1100) x 16
 
 -- ---- rows that are not
 
-abbrev pub no_ds : Handing
-no_ds = handing [] [] [] a 1
+abbrev pub no_ds : JudgeInput
+no_ds = judge_input [] [] [] a 1
 
 -- the zone's key did not sign this set
-abbrev pub forged_keys : Handing
+abbrev pub forged_keys : JudgeInput
 forged_keys = address_handed mixed_keys (address_by other false_address 1000 2000)
 
-abbrev pub twin_keys : Handing
+abbrev pub twin_keys : JudgeInput
 twin_keys = address_handed (stranger_keys twin) (address_by twin false_address 1000 2000)
 
-abbrev pub forged_answer : Handing
+abbrev pub forged_answer : JudgeInput
 forged_answer = address_handed own_keys (address_by own_key false_address 1000 2000)
 
-abbrev pub shared_hash : Handing
-shared_hash = handing (ds ∷ []) own_keys hashed_answer a 16
+abbrev pub shared_hash : JudgeInput
+shared_hash = judge_input (ds ∷ []) own_keys hashed_answer a 16
 
 -- of two versions at one moment
-abbrev pub mixed_at_once : Handing
-mixed_at_once = handing (ds ∷ []) own_keys (mixed_answer 1000) x 16
+abbrev pub mixed_at_once : JudgeInput
+mixed_at_once = judge_input (ds ∷ []) own_keys (mixed_answer 1000) x 16
 
 -- ---- rows of zones that are not in order
 
-abbrev pub of_alias : Handing
+abbrev pub of_alias : JudgeInput
 of_alias = address_handed own_keys (address_by own_key address 1000 2000)
 
-abbrev pub of_redirected : Handing
-of_redirected = handing (ds ∷ []) own_keys address_below x_b 1
+abbrev pub of_redirected : JudgeInput
+of_redirected = judge_input (ds ∷ []) own_keys address_below x_b 1
 
-abbrev pub of_cut_redirect : Handing
-of_cut_redirect = handing (ds ∷ []) own_keys cut_answer x_b 1
+abbrev pub of_cut_redirect : JudgeInput
+of_cut_redirect = judge_input (ds ∷ []) own_keys cut_answer x_b 1
 
-abbrev pub of_hand : Handing
-of_hand = handing (ds ∷ []) own_keys denied_by_hand a 1
+abbrev pub of_hand : JudgeInput
+of_hand = judge_input (ds ∷ []) own_keys denied_by_hand a 1
 
 -- ---- honest rows that a judge refuses, of whatever is forged where no judge may look
 
@@ -209,14 +209,14 @@ of_hand = handing (ds ∷ []) own_keys denied_by_hand a 1
 abbrev pub other_signer : Fields
 other_signer = record (fields 1 2 3600 1000 2000 own_key) { signer = x }
 
-abbrev pub of_other_signer : Handing
+abbrev pub of_other_signer : JudgeInput
 of_other_signer = address_handed own_keys (message_of a 1 2 (rr a 1 false_address ++ rrsig a other_signer own_key a (false_address ∷ [])))
 
 -- an address that a published key signed which is no zone key
 abbrev pub idle_keys : List ℕ
 idle_keys = keys_by own_key (dnskey_data idle ∷ dnskey_data own_key ∷ [])
 
-abbrev pub of_idle : Handing
+abbrev pub of_idle : JudgeInput
 of_idle = address_handed idle_keys (address_by idle false_address 1000 2000)
 
 -- an alias, and the record of the chain that it has
@@ -226,9 +226,9 @@ aliased = by_names (soa ∷ alias_of a x ∷ [])
 abbrev pub next_of_alias : List ℕ
 next_of_alias = wire example ++ bitmap (5 ∷ 46 ∷ 47 ∷ [])
 
-abbrev pub at_alias : Handing
+abbrev pub at_alias : JudgeInput
 at_alias =
-    handing (ds ∷ []) own_keys
+    judge_input (ds ∷ []) own_keys
     (message_of a 1 2 (rr a 47 next_of_alias ++ rrsig a (fields 47 2 0 1000 2000 own_key) own_key a (next_of_alias ∷ []))) a 1
 
 -- a DNAME, and the record of the chain that it has
@@ -238,9 +238,9 @@ redirected = by_names (soa ∷ redirect_of b x ∷ [])
 abbrev pub next_of_redirect : List ℕ
 next_of_redirect = wire example ++ bitmap (39 ∷ 46 ∷ 47 ∷ [])
 
-abbrev pub below_redirected : Handing
+abbrev pub below_redirected : JudgeInput
 below_redirected =
-    handing (ds ∷ []) own_keys
+    judge_input (ds ∷ []) own_keys
     (message_of x_b 1 2 (rr b 47 next_of_redirect ++ rrsig b (fields 47 2 0 1000 2000 own_key) own_key b (next_of_redirect ∷ []))) x_b 1
 
 -- of two versions that were signed in one second, the second for longer
@@ -250,5 +250,5 @@ mixed_until =
     (rr b 47 next_of_b ++ rrsig b (fields 47 2 0 1000 2000 own_key) own_key b (next_of_b ∷ [])
     ++ rr example 47 next_of_apex_later ++ rrsig example (fields 47 1 0 1000 3000 own_key) own_key example (next_of_apex_later ∷ []))
 
-abbrev pub begun_at_once : Handing
-begun_at_once = handing (ds ∷ []) own_keys mixed_until x 16
+abbrev pub begun_at_once : JudgeInput
+begun_at_once = judge_input (ds ∷ []) own_keys mixed_until x 16

@@ -35,7 +35,7 @@ pub fn case_of<'a>(
     apex: &'a Name<Vec<u8>>,
     limit: u16,
 ) -> Option<Case<'a>> {
-    let (ds, dnskey, answer, question) = judged(shown, event)?;
+    let (ds, dnskey, answer, question) = what_is_judged(shown, event)?;
     Some(Case {
         apex,
         ds,
@@ -50,7 +50,7 @@ pub fn case_of<'a>(
 }
 
 /// The DS set, both messages and the question of a judgement.
-fn judged<'a>(
+fn what_is_judged<'a>(
     shown: &[Shown<'a>],
     event: &'a Event,
 ) -> Option<(&'a [Ds<Vec<u8>>], &'a [u8], &'a [u8], &'a Question)> {

@@ -4,7 +4,7 @@
 use crate::facts::HashLink;
 use crate::tell::tell;
 use explain_messages::type_text::TypeText;
-use explain_signatures::asked::{Asked, Told, TypeList, is_cut, lacks};
+use explain_signatures::asked::{Asked, Conclusion, TypeList, is_cut, lacks};
 use explain_signatures::recording::Hashed;
 use messages::names::{Name, ToName};
 use names_rdata::rtype::Rtype;
@@ -160,7 +160,7 @@ fn left_open(
     because: &mut Vec<String>,
     links: &[HashLink],
     closer: &Hashed,
-) -> Result<Told, AllocError> {
+) -> Result<Conclusion, AllocError> {
     let name = name_text(*because.allocator(), &closer.name)?;
     let is_open = |link: &&HashLink| covers(link, &closer.hash) && opts_out(link);
     if links.iter().any(|link| is_open(&link)) {
@@ -170,13 +170,13 @@ fn left_open(
                 "an unsigned delegation may be at {name}: the NSEC3 record that covers its hash opts out"
             ),
         )?;
-        return Ok(Told::Open);
+        return Ok(Conclusion::Open);
     }
     tell(
         because,
         format_args!("wanting: a verified NSEC3 record that covers the hash of {name}"),
     )?;
-    Ok(Told::Nothing)
+    Ok(Conclusion::Nothing)
 }
 
 /// Whether the first link that covers a hash does so without opt-out.
@@ -194,7 +194,11 @@ fn tell_denied(because: &mut Vec<String>, closer: &Hashed) -> Result<(), AllocEr
 }
 
 /// What links say of the name itself, one of which matches it.
-fn at_name(because: &mut Vec<String>, asked: &Asked, link: &HashLink) -> Result<Told, AllocError> {
+fn at_name(
+    because: &mut Vec<String>,
+    asked: &Asked,
+    link: &HashLink,
+) -> Result<Conclusion, AllocError> {
     let name = asked.name.fmt_with_dot().to_string(*because.allocator())?;
     if is_cut(link.data.types(), asked.apex, asked.name) && asked.rtype != Rtype::DS {
         let types = TypeList(link.data.types());
@@ -202,13 +206,13 @@ fn at_name(because: &mut Vec<String>, asked: &Asked, link: &HashLink) -> Result<
             because,
             format_args!("{name} is a delegation: the types of its NSEC3 record are {types}"),
         )?;
-        return Ok(Told::Delegated);
+        return Ok(Conclusion::Delegated);
     }
     let is_lacking = tell_types(because, asked, link, &name)?;
     Ok(if is_lacking {
-        Told::NoType
+        Conclusion::NoType
     } else {
-        Told::Nothing
+        Conclusion::Nothing
     })
 }
 
@@ -219,20 +223,20 @@ fn at_wildcard(
     links: &[HashLink],
     closer: &Hashed,
     wildcard: &Hashed,
-) -> Result<Told, AllocError> {
+) -> Result<Conclusion, AllocError> {
     let name = name_text(*because.allocator(), &wildcard.name)?;
     if let Some(link) = matching(links, &wildcard.hash) {
         if tell_star_types(because, asked, link, &name)? {
-            return Ok(Told::StarNoType);
+            return Ok(Conclusion::StarNoType);
         }
-        return Ok(Told::Nothing);
+        return Ok(Conclusion::Nothing);
     }
     if covering(links, &wildcard.hash).is_some() {
         tell(
             because,
             format_args!("{name} does not exist: an NSEC3 record covers its hash"),
         )?;
-        return Ok(Told::NoName);
+        return Ok(Conclusion::NoName);
     }
     tell(
         because,
@@ -249,9 +253,9 @@ fn from_encloser(
     link: &HashLink,
     closer: &Hashed,
     others: &[Hashed],
-) -> Result<Told, AllocError> {
+) -> Result<Conclusion, AllocError> {
     let [encloser, behind @ ..] = others else {
-        return Ok(Told::Nothing);
+        return Ok(Conclusion::Nothing);
     };
     let types = link.data.types();
     let above = name_text(*because.allocator(), &encloser.name)?;
@@ -260,7 +264,7 @@ fn from_encloser(
             because,
             format_args!("{above} has a DNAME record, so nothing is proved below it"),
         )?;
-        return Ok(Told::Nothing);
+        return Ok(Conclusion::Nothing);
     }
     let is_apex = Name::from_slice(encloser.name.as_slice()).is_ok_and(|name| name.name_eq(
         asked.apex,
@@ -273,7 +277,7 @@ fn from_encloser(
                 "the name is below the delegation {above}: the types of its NSEC3 record are {types}"
             ),
         )?;
-        return Ok(Told::Delegated);
+        return Ok(Conclusion::Delegated);
     }
     tell(
         because,
@@ -287,7 +291,7 @@ fn from_encloser(
     tell_denied(because, closer)?;
     match behind.first() {
         Some(wildcard) => at_wildcard(because, asked, links, closer, wildcard),
-        None => Ok(Told::Nothing),
+        None => Ok(Conclusion::Nothing),
     }
 }
 
@@ -298,7 +302,7 @@ pub(crate) fn denied(
     asked: &Asked,
     links: &[HashLink],
     hashed: &[Hashed],
-) -> Result<Told, AllocError> {
+) -> Result<Conclusion, AllocError> {
     let mut closer = None;
     for (place, name) in hashed.iter().enumerate() {
         match (matching(links, &name.hash), closer) {
@@ -317,7 +321,7 @@ pub(crate) fn denied(
             "wanting: a verified NSEC3 record that matches {name} or a name above it in the zone"
         ),
     )?;
-    Ok(Told::Nothing)
+    Ok(Conclusion::Nothing)
 }
 
 /// What links say of a name for which a wildcard's RRset stands: its next closer name was hashed
@@ -326,13 +330,13 @@ pub(crate) fn expanded(
     because: &mut Vec<String>,
     links: &[HashLink],
     hashed: &[Hashed],
-) -> Result<Told, AllocError> {
+) -> Result<Conclusion, AllocError> {
     match hashed.first() {
         Some(closer) if is_denied(links, &closer.hash) => {
             tell_denied(because, closer)?;
-            Ok(Told::StarRecords)
+            Ok(Conclusion::StarRecords)
         }
         Some(closer) => left_open(because, links, closer),
-        None => Ok(Told::Nothing),
+        None => Ok(Conclusion::Nothing),
     }
 }

@@ -1,17 +1,17 @@
 //! What verified NSEC records tell of a question, and why (RFC 4035, 5.4; RFC 4592; RFC 6840, 4.1
 //! and 4.3).
 
-use crate::facts::Link;
+use crate::facts::NsecLink;
 use crate::tell::tell;
 use explain_messages::type_text::TypeText;
-use explain_signatures::asked::{Asked, Told, TypeList, is_cut, lacks};
+use explain_signatures::asked::{Asked, Conclusion, TypeList, is_cut, lacks};
 use messages::names::{Name, ToName, ZoneName, is_above, is_at_or_above};
 use names_rdata::rtype::Rtype;
 use std::alloc::{AllocError, Global};
 
 /// Whether a name lies strictly between owner and next name; the apex as next name ends the order
 /// (RFC 4034, 4.1.1).
-fn covers(asked: &Asked, link: &Link, name: &Name<Vec<u8>>) -> bool {
+fn covers(asked: &Asked, link: &NsecLink, name: &Name<Vec<u8>>) -> bool {
     let (owner, next) = (&link.owner, link.data.next_name());
     let is_redirected = is_above(owner, name) && link.data.types().contains(Rtype::DNAME);
     owner.name_cmp(name).is_lt()
@@ -20,7 +20,7 @@ fn covers(asked: &Asked, link: &Link, name: &Name<Vec<u8>>) -> bool {
 }
 
 /// The closest encloser of a name that a link covers.
-fn encloser<'n>(link: &Link, name: &'n Name<Vec<u8>>) -> Option<Name<&'n [u8]>> {
+fn encloser<'n>(link: &NsecLink, name: &'n Name<Vec<u8>>) -> Option<Name<&'n [u8]>> {
     let next = link.data.next_name();
     let mut ancestors = name.iter_suffixes();
     let _itself = ancestors.next();
@@ -36,7 +36,7 @@ fn encloser<'n>(link: &Link, name: &'n Name<Vec<u8>>) -> Option<Name<&'n [u8]>> 
 fn tell_types<N: ToName>(
     because: &mut Vec<String>,
     asked: &Asked,
-    link: &Link,
+    link: &NsecLink,
     name: &N,
 ) -> Result<bool, AllocError> {
     let (owner, rtype, types) = (
@@ -67,7 +67,7 @@ fn tell_types<N: ToName>(
 fn tell_star_types(
     because: &mut Vec<String>,
     asked: &Asked,
-    link: &Link,
+    link: &NsecLink,
     wildcard: &Name<Vec<u8>>,
 ) -> Result<bool, AllocError> {
     if !link.data.types().contains(Rtype::NS) || asked.rtype == Rtype::DS {
@@ -87,8 +87,8 @@ fn tell_star_types(
 fn at_owner(
     because: &mut Vec<String>,
     asked: &Asked,
-    link: &Link,
-) -> Result<Option<Told>, AllocError> {
+    link: &NsecLink,
+) -> Result<Option<Conclusion>, AllocError> {
     if !link.owner.name_eq(asked.name) {
         return Ok(None);
     }
@@ -99,18 +99,22 @@ fn at_owner(
             because,
             format_args!("{name} is a delegation: the types of its NSEC record are {types}"),
         )?;
-        return Ok(Some(Told::Delegated));
+        return Ok(Some(Conclusion::Delegated));
     }
     let is_lacking = tell_types(because, asked, link, asked.name)?;
-    Ok(if is_lacking { Some(Told::NoType) } else { None })
+    Ok(if is_lacking {
+        Some(Conclusion::NoType)
+    } else {
+        None
+    })
 }
 
 /// Whether a link is that of a delegation above the name.
 fn below_cut(
     because: &mut Vec<String>,
     asked: &Asked,
-    link: &Link,
-) -> Result<Option<Told>, AllocError> {
+    link: &NsecLink,
+) -> Result<Option<Conclusion>, AllocError> {
     let types = link.data.types();
     if !is_cut(types, asked.apex, &link.owner)
         || !is_above(&link.owner, asked.name)
@@ -129,13 +133,13 @@ fn below_cut(
             "{name} is below the delegation {owner}: the types of its NSEC record are {types}"
         ),
     )?;
-    Ok(Some(Told::Delegated))
+    Ok(Some(Conclusion::Delegated))
 }
 
 /// Says that a link covers a name.
 fn tell_covered<N: ToName>(
     because: &mut Vec<String>,
-    link: &Link,
+    link: &NsecLink,
     name: &N,
 ) -> Result<(), AllocError> {
     let (owner, next, name) = (
@@ -152,7 +156,7 @@ fn tell_covered<N: ToName>(
 /// Says that a link leads below a name.
 fn tell_led_below<N: ToName>(
     because: &mut Vec<String>,
-    link: &Link,
+    link: &NsecLink,
     name: &N,
 ) -> Result<(), AllocError> {
     let (owner, next, name) = (
@@ -172,21 +176,21 @@ fn tell_led_below<N: ToName>(
 fn at_wildcard(
     because: &mut Vec<String>,
     asked: &Asked,
-    links: &[Link],
+    links: &[NsecLink],
     wildcard: &Name<Vec<u8>>,
-) -> Result<Option<Told>, AllocError> {
+) -> Result<Option<Conclusion>, AllocError> {
     for link in links {
         if link.owner.name_eq(wildcard) {
             if tell_star_types(because, asked, link, wildcard)? {
-                return Ok(Some(Told::StarNoType));
+                return Ok(Some(Conclusion::StarNoType));
             }
         } else if covers(asked, link, wildcard) {
             if is_above(wildcard, link.data.next_name()) {
                 tell_led_below(because, link, wildcard)?;
-                return Ok(Some(Told::StarNoType));
+                return Ok(Some(Conclusion::StarNoType));
             }
             tell_covered(because, link, wildcard)?;
-            return Ok(Some(Told::NoName));
+            return Ok(Some(Conclusion::NoName));
         }
     }
     let name = wildcard.fmt_with_dot();
@@ -204,15 +208,15 @@ fn covered(
     alloc: Global,
     because: &mut Vec<String>,
     asked: &Asked,
-    links: &[Link],
-    link: &Link,
-) -> Result<Option<Told>, AllocError> {
+    links: &[NsecLink],
+    link: &NsecLink,
+) -> Result<Option<Conclusion>, AllocError> {
     if !covers(asked, link, asked.name) {
         return Ok(None);
     }
     if is_above(asked.name, link.data.next_name()) {
         tell_led_below(because, link, asked.name)?;
-        return Ok(Some(Told::NoType));
+        return Ok(Some(Conclusion::NoType));
     }
     tell_covered(because, link, asked.name)?;
     let Some(encloser) = encloser(link, asked.name) else {
@@ -232,8 +236,8 @@ pub(crate) fn denied(
     alloc: Global,
     because: &mut Vec<String>,
     asked: &Asked,
-    links: &[Link],
-) -> Result<Told, AllocError> {
+    links: &[NsecLink],
+) -> Result<Conclusion, AllocError> {
     for link in links {
         if let Some(told) = at_owner(because, asked, link)? {
             return Ok(told);
@@ -258,7 +262,7 @@ pub(crate) fn denied(
             ),
         )?;
     }
-    Ok(Told::Nothing)
+    Ok(Conclusion::Nothing)
 }
 
 /// What links say of a name for which a wildcard's RRset stands, by the labels that its signature
@@ -266,9 +270,9 @@ pub(crate) fn denied(
 pub(crate) fn expanded(
     because: &mut Vec<String>,
     asked: &Asked,
-    links: &[Link],
+    links: &[NsecLink],
     labels: u8,
-) -> Result<Told, AllocError> {
+) -> Result<Conclusion, AllocError> {
     for link in links {
         let is_covered = covers(asked, link, asked.name)
             && !is_above(asked.name, link.data.next_name());
@@ -282,7 +286,7 @@ pub(crate) fn expanded(
                 tell_covered(because, link, asked.name)?;
                 let above = found.fmt_with_dot();
                 tell(because, format_args!("its closest encloser is {above}"))?;
-                return Ok(Told::StarRecords);
+                return Ok(Conclusion::StarRecords);
             }
         }
     }
@@ -293,7 +297,7 @@ pub(crate) fn expanded(
             "wanting: an NSEC record that covers {name} and shows that its closest encloser has {labels} labels"
         ),
     )?;
-    Ok(Told::Nothing)
+    Ok(Conclusion::Nothing)
 }
 
 /// Whether an RRset is a wildcard's, by the labels that its signature counts (RFC 4035, 5.3.4).

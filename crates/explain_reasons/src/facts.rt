@@ -12,7 +12,7 @@ use std::alloc::{AllocError, Global};
 
 /// A verified NSEC record.
 #[derive(Drop)]
-pub(crate) struct Link<'m> {
+pub(crate) struct NsecLink<'m> {
     pub(crate) owner: ParsedName<'m>,
     pub(crate) data: Nsec<&'m [u8], ParsedName<'m>>,
 }
@@ -29,7 +29,7 @@ pub(crate) struct HashLink<'m> {
 pub(crate) struct Facts<'m> {
     /// How many labels the signature of the RRset that is asked for counts, if one passed.
     pub(crate) labels: Option<u8>,
-    pub(crate) links: Vec<Link<'m>>,
+    pub(crate) links: Vec<NsecLink<'m>>,
     pub(crate) hash_links: Vec<HashLink<'m>>,
 }
 
@@ -50,7 +50,7 @@ pub(crate) fn read_facts<'m>(
             continue;
         }
         if let (Rtype::NSEC, Some(data)) = (record.rtype, record.link(message)) {
-            links.push(Link {
+            links.push(NsecLink {
                 owner: *owner,
                 data,
             })?;

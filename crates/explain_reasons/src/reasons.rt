@@ -13,7 +13,7 @@ use answer_judge_keys::verdict::{Judgement, Refusal, Refused, Verdict};
 use answer_scheme::counting::SchemeChecks;
 use answer_scheme::scheme::Scheme;
 use denial_nsec3_hash::hasher::Nsec3Hasher;
-use explain_signatures::asked::{Asked, Told};
+use explain_signatures::asked::{Asked, Conclusion};
 use explain_signatures::delegation::{DsReason, KeyReason, ds_reasons, key_reasons};
 use explain_signatures::recording::{Calls, Hashed, Recording, Tried};
 use explain_signatures::signatures::{
@@ -119,19 +119,19 @@ fn recorded<S: Scheme, H: Nsec3Hasher, L: Ledger, M: Ledger>(
 }
 
 /// What a judge told, by its outcome.
-fn told_by(outcome: &Result<Judgement, Refused>) -> Told {
+fn told_by(outcome: &Result<Judgement, Refused>) -> Conclusion {
     match outcome {
         Ok(judgement) => match &judgement.verdict {
-            Verdict::Records(_) => Told::Records,
-            Verdict::NoType => Told::NoType,
-            Verdict::NoName => Told::NoName,
-            Verdict::StarRecords(_) => Told::StarRecords,
-            Verdict::StarNoType => Told::StarNoType,
-            Verdict::Delegated => Told::Delegated,
-            Verdict::Open => Told::Open,
-            Verdict::Unsigned => Told::Unsigned,
+            Verdict::Records(_) => Conclusion::Records,
+            Verdict::NoType => Conclusion::NoType,
+            Verdict::NoName => Conclusion::NoName,
+            Verdict::StarRecords(_) => Conclusion::StarRecords,
+            Verdict::StarNoType => Conclusion::StarNoType,
+            Verdict::Delegated => Conclusion::Delegated,
+            Verdict::Open => Conclusion::Open,
+            Verdict::Unsigned => Conclusion::Unsigned,
         },
-        Err(_) => Told::Nothing,
+        Err(_) => Conclusion::Nothing,
     }
 }
 
@@ -225,7 +225,7 @@ fn told_of(
     asked: &Asked,
     facts: &Facts,
     hashed: &[Hashed],
-) -> Result<Told, AllocError> {
+) -> Result<Conclusion, AllocError> {
     match facts.labels {
         Some(labels) if by_names::is_expanded(asked, labels) => {
             by_names::tell_expanded(because, asked, labels)?;
@@ -236,7 +236,7 @@ fn told_of(
         }
         Some(_) => {
             by_names::tell_records(because, asked)?;
-            Ok(Told::Records)
+            Ok(Conclusion::Records)
         }
         None if facts.hash_links.is_empty() => by_names::denied(
             alloc,

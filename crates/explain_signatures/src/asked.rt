@@ -16,7 +16,7 @@ pub struct Asked<'a> {
 
 /// What records tell of a question.
 #[derive(Clone, Copy, Debug, PartialEq, Eq)]
-pub enum Told {
+pub enum Conclusion {
     Records,
     NoType,
     NoName,

@@ -3,11 +3,11 @@
 use crate::asked::Asked;
 use crate::delegation::{KeyReason, is_usable};
 use crate::recording::Tried;
-use answer_shared::owner::spells_hash;
 use answer_judge_facts::groups::{is_chain_type, read_group};
 use answer_judge_keys::keys::TaggedKey;
 use answer_judge_keys::order::sort_data;
 use answer_judge_keys::trust::Signature;
+use answer_shared::owner::spells_hash;
 use denial_data::Timestamp;
 use explain_messages::date::Date;
 use explain_messages::type_text::TypeText;

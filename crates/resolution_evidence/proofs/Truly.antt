@@ -9,47 +9,47 @@ use Rattle.definitions.proofs.ZoneNames.{lowered_above}
 use Rattle.denial_laws.specs.Leading.{To}
 use Rattle.denial_laws.proofs.NameFacts.{strictly_at}
 use Rattle.messages.specs.Message.{Asked}
-use Rattle.answer_judge_keys.specs.Judging.{Handing}
+use Rattle.answer_judge_keys.specs.Judging.{JudgeInput}
 use Rattle.resolution_tree.specs.Tree.{Said, Leads, Says, SaysItself, Itself, Below, Resolves, is_within, refers_to}
 use Rattle.resolution_tree.specs.Tree as tree
 use Rattle.resolution_tree.specs.Orderly.{IsOrderlyZone}
 use Rattle.resolution_tree.proofs.Trees.{IsReferred, referred}
 use Rattle.resolution_step.specs.KnownDs.{knows}
-use Rattle.resolution_step.specs.Told.{Told, TellsVerdict, TellsLead, TellsDown, TellsUnsigned, TellsOpen, TellsNoCut, TellsNothing, AsksFor, at_cut}
+use Rattle.resolution_step.specs.Told.{StepSeen, TellsVerdict, TellsLead, TellsDown, TellsUnsigned, TellsOpen, TellsNoCut, TellsNothing, AsksFor, at_cut}
 use Rattle.resolution_step.specs.Truth.{AreOfZone, IsCutSo, IsToldSo, IsWayDown, zone_of_version}
 use Rattle.resolution_step.proofs.Truly.{cut_truly, lowered_so, told_truly}
-use Rattle.resolution_evidence.specs.Given.{Given, IsOf, handing}
+use Rattle.resolution_evidence.specs.Given.{Given, IsOf, judge_input}
 use Rattle.resolution_evidence.specs.Walking.{Onward, GoesDown, EndsIn, Stops, IsOnward, ByQuestion, ByName, IsOwnStep, IsNameStep, Tells, Ends, Goes, Follows, AtOnce, Led, ds_at, is_asked_of, onward, renamed}
 use Rattle.resolution_evidence.specs.Truth.{HandsOut, IsAnchored, IsOfTree, SignedZone, EvidenceTellsTruly, tree_of, zone_of}
 
 module _ (e : Given) (zones : List SignedZone) (anchor : SignedZone) (of : IsOfTree e zones anchor) where
-  of_zone : (asked : Asked) (s : SignedZone) (ds : List Ds) (h : Handing) → IsAnchored e zones anchor s ds → IsOf e s.apex ds asked h → AreOfZone e.table h s.version
+  of_zone : (asked : Asked) (s : SignedZone) (ds : List Ds) (h : JudgeInput) → IsAnchored e zones anchor s ds → IsOf e s.apex ds asked h → AreOfZone e.table h s.version
   of_zone asked s ds h a is = record {
     passes = of.passes;
     true_are = of.true_are;
     honest = of.honest s ds asked h a is;
-    in_order = subst (λ (n : Name). IsOrderlyZone (zone_of_version n s.version)) (sym (ap (λ (x : Handing). x.apex) is.is)) (of.in_order s a.there);
+    in_order = subst (λ (n : Name). IsOrderlyZone (zone_of_version n s.version)) (sym (ap (λ (x : JudgeInput). x.apex) is.is)) (of.in_order s a.there);
   }
 
   -- ---- one zone
 
-  own_so : (asked : Asked) (s : SignedZone) (ds : List Ds) (said : Told) → IsAnchored e zones anchor s ds → IsOwnStep e s.apex ds asked said → IsToldSo e.algorithms (zone_of s) asked.name asked.rtype said
+  own_so : (asked : Asked) (s : SignedZone) (ds : List Ds) (said : StepSeen) → IsAnchored e zones anchor s ds → IsOwnStep e s.apex ds asked said → IsToldSo e.algorithms (zone_of s) asked.name asked.rtype said
   own_so asked s ds said a k =
       let so = told_truly e.algorithms e.table k.judged said k.told_is s.version (of_zone asked s ds k.judged a k.of) in
-      subst (λ (h : Handing). IsToldSo e.algorithms (zone_of_version h.apex s.version) h.asked.name h.asked.rtype said) k.of.is so
+      subst (λ (h : JudgeInput). IsToldSo e.algorithms (zone_of_version h.apex s.version) h.asked.name h.asked.rtype said) k.of.is so
 
-  name_so : (asked : Asked) (n : Name) (s : SignedZone) (ds : List Ds) (said : Told) → IsAnchored e zones anchor s ds → IsNameStep e s.apex ds (ds_at asked n) said → IsCutSo e.algorithms (zone_of s) n said
+  name_so : (asked : Asked) (n : Name) (s : SignedZone) (ds : List Ds) (said : StepSeen) → IsAnchored e zones anchor s ds → IsNameStep e s.apex ds (ds_at asked n) said → IsCutSo e.algorithms (zone_of s) n said
   name_so asked n s ds said a k =
-      let ds_is = ap (λ (h : Handing). h.asked.rtype) k.of.is in
+      let ds_is = ap (λ (h : JudgeInput). h.asked.rtype) k.of.is in
       let so = cut_truly e.algorithms e.table k.judged said k.told_is s.version ds_is (of_zone (ds_at asked n) s ds k.judged a k.of) in
-      subst (λ (h : Handing). IsCutSo e.algorithms (zone_of_version h.apex s.version) h.asked.name said) k.of.is so
+      subst (λ (h : JudgeInput). IsCutSo e.algorithms (zone_of_version h.apex s.version) h.asked.name said) k.of.is so
 
   abbrev IsOnwardSo : Asked → SignedZone → Onward → Type 0
   IsOnwardSo asked s (GoesDown c ds) = (refers_to (zone_of s).zone asked.name asked.rtype ≡ Some c) × IsWayDown e.algorithms (zone_of s) c ds
   IsOnwardSo asked s (EndsIn said) = SaysItself (knows e.algorithms) asked.name asked.rtype (zone_of s) said
   IsOnwardSo asked s Stops = Unit {0}
 
-  told_onward : (asked : Asked) (s : SignedZone) (x : Told) → IsToldSo e.algorithms (zone_of s) asked.name asked.rtype x → IsOnwardSo asked s (onward s.apex x)
+  told_onward : (asked : Asked) (s : SignedZone) (x : StepSeen) → IsToldSo e.algorithms (zone_of s) asked.name asked.rtype x → IsOnwardSo asked s (onward s.apex x)
   told_onward asked s (TellsVerdict v) so = so
   told_onward asked s (TellsLead lead) so = so
   told_onward asked s (TellsDown c ds) so = so
@@ -64,7 +64,7 @@ module _ (e : Given) (zones : List SignedZone) (anchor : SignedZone) (of : IsOfT
   onward_so asked s ds o a (ByName n said below above other k is) =
       let inside : at_or_above (apex_of (zone_of s).zone) n ≡ true = lowered_above s.apex n ∙ strictly_at s.apex n below in
       let so : IsToldSo e.algorithms (zone_of s) asked.name asked.rtype (at_cut said) =
-      lowered_so e.algorithms (handing e s.apex ds asked [] []) s.version (of.in_order s a.there) n said inside above other (name_so asked n s ds said a k) in
+      lowered_so e.algorithms (judge_input e s.apex ds asked [] []) s.version (of.in_order s a.there) n said inside above other (name_so asked n s ds said a k) in
       subst (IsOnwardSo asked s) (sym is) (told_onward asked s (at_cut said) so)
 
   -- ---- down

@@ -5,7 +5,7 @@ use Rattle.std.specs.Option.{option_map}
 use Rattle.definitions.specs.Dnskey.{Ds}
 use Rattle.definitions.specs.Name.{Name, same}
 use Rattle.messages.specs.Message.{Asked}
-use Rattle.answer_judge_keys.specs.Judging.{Handing, handed_for}
+use Rattle.answer_judge_keys.specs.Judging.{JudgeInput, handed_for}
 use Rattle.resolution_step.specs.Table.{Checked}
 
 -- a message: the zone that it is of, and the question that it answers
@@ -33,13 +33,13 @@ abbrev pub message_of : Given → Name → Name → ℕ → Option (List ℕ)
 message_of e zone name t = option_map (λ (m : Message). m.octets) (find (is_answer zone name t) e.messages)
 
 -- What is handed to a judge for a question of a zone with a DS set. What the answer proves is true whatever it was asked.
-abbrev pub handing : Given → Name → List Ds → Asked → List ℕ → List ℕ → Handing
-handing e zone ds asked keys answer = handed_for zone ds keys answer asked e.at e.limit e.one_moment true
+abbrev pub judge_input : Given → Name → List Ds → Asked → List ℕ → List ℕ → JudgeInput
+judge_input e zone ds asked keys answer = handed_for zone ds keys answer asked e.at e.limit e.one_moment true
 
 -- a judgement of a zone's messages for a question: of its keys, and of the answer to that question
-pub record IsOf (e : Given) (zone : Name) (ds : List Ds) (asked : Asked) (h : Handing) : Type 0 where
+pub record IsOf (e : Given) (zone : Name) (ds : List Ds) (asked : Asked) (h : JudgeInput) : Type 0 where
   pub keys : List ℕ
   pub answer : List ℕ
   pub keys_are : message_of e zone zone 48 ≡ Some keys
   pub answer_is : message_of e zone asked.name asked.rtype ≡ Some answer
-  pub is : h ≡ handing e zone ds asked keys answer
+  pub is : h ≡ judge_input e zone ds asked keys answer

@@ -6,7 +6,7 @@ use Rattle.definitions.specs.Name.{Name}
 use Rattle.definitions.specs.Zone.{cut, data_at}
 use Rattle.messages.specs.Message.{Asked}
 use Rattle.resolution_step.specs.Versions.{Version}
-use Rattle.answer_judge_keys.specs.Judging.{Handing}
+use Rattle.answer_judge_keys.specs.Judging.{JudgeInput}
 use Rattle.resolution_step.specs.Table.{AreTrue, Tried, answers_with, passes_in}
 use Rattle.resolution_step.specs.Truth.{AreHonestBeside}
 use Rattle.resolution_tree.specs.Tree.{Tree, TreeZone, Said, Resolves, is_bound, zone_at}
@@ -49,7 +49,7 @@ pub record IsOfTree (e : Given) (zones : List SignedZone) (anchor : SignedZone) 
   pub anchor_is : anchor.apex ≡ e.anchor
   pub passes : Tried → Bool
   pub true_are : AreTrue (passes_in e.table) passes
-  pub honest : (s : SignedZone) (ds : List Ds) (asked : Asked) (h : Handing) → IsAnchored e zones anchor s ds → IsOf e s.apex ds asked h → AreHonestBeside (answers_with passes) pointer_limit h (s.version ∷ [])
+  pub honest : (s : SignedZone) (ds : List Ds) (asked : Asked) (h : JudgeInput) → IsAnchored e zones anchor s ds → IsOf e s.apex ds asked h → AreHonestBeside (answers_with passes) pointer_limit h (s.version ∷ [])
 
 -- What evidence of a tree tells, through aliases, is what the tree says, through the aliases that the tree has.
 abbrev pub EvidenceTellsTruly : Type 0

@@ -4,9 +4,9 @@ use Rattle.definitions.specs.Dnskey.{Ds}
 use Rattle.definitions.specs.Name.{Name, same, at_or_above, strictly_above}
 use Rattle.denial_laws.specs.Leading.{To}
 use Rattle.messages.specs.Message.{Asked}
-use Rattle.answer_judge_keys.specs.Judging.{Handing}
+use Rattle.answer_judge_keys.specs.Judging.{JudgeInput}
 use Rattle.resolution_tree.specs.Tree.{Said, Secure, Unsigned, LeftOpen, Leads, leads_on}
-use Rattle.resolution_step.specs.Told.{Told, TellsVerdict, TellsLead, TellsDown, TellsUnsigned, TellsOpen, IsCutTold, IsTold, at_cut}
+use Rattle.resolution_step.specs.Told.{StepSeen, TellsVerdict, TellsLead, TellsDown, TellsUnsigned, TellsOpen, IsCutTold, IsTold, at_cut}
 use Rattle.resolution_evidence.specs.Given.{Given, IsOf}
 
 -- where a way leads: down to a zone with its DS set; to an end; or nowhere yet
@@ -16,7 +16,7 @@ pub data Onward : Type 0 where
   Stops : Onward
 
 -- where what a message of a zone tells leads
-abbrev pub onward : Name → Told → Onward
+abbrev pub onward : Name → StepSeen → Onward
 onward zone (TellsVerdict v) = EndsIn (Secure zone v)
 onward zone (TellsLead lead) = EndsIn (Leads lead)
 onward zone (TellsDown c ds) = GoesDown c ds
@@ -29,21 +29,21 @@ abbrev pub ds_at : Asked → Name → Asked
 ds_at asked n = record { name = n; rtype = 43; class = asked.class }
 
 -- what a message of a zone tells of the question that it answers, or of a delegation at the name whose DS it answers
-pub record IsOwnStep (e : Given) (zone : Name) (ds : List Ds) (asked : Asked) (said : Told) : Type 0 where
-  pub judged : Handing
+pub record IsOwnStep (e : Given) (zone : Name) (ds : List Ds) (asked : Asked) (said : StepSeen) : Type 0 where
+  pub judged : JudgeInput
   pub of : IsOf e zone ds asked judged
   pub told_is : IsTold e.algorithms e.table judged said
 
-pub record IsNameStep (e : Given) (zone : Name) (ds : List Ds) (asked : Asked) (said : Told) : Type 0 where
-  pub judged : Handing
+pub record IsNameStep (e : Given) (zone : Name) (ds : List Ds) (asked : Asked) (said : StepSeen) : Type 0 where
+  pub judged : JudgeInput
   pub of : IsOf e zone ds asked judged
   pub told_is : IsCutTold e.algorithms e.table judged said
 
 -- Where evidence leads from a zone with a DS set: by the message that answers the question; or by one that answers DS at a name
 -- between the zone and the question's name, as where one server has parent and child and sends no referral.
 pub data IsOnward (e : Given) (asked : Asked) (zone : Name) (ds : List Ds) (o : Onward) : Type 0 where
-  ByQuestion : (said : Told) → IsOwnStep e zone ds asked said → o ≡ onward zone said → IsOnward e asked zone ds o
-  ByName : (n : Name) (said : Told) → strictly_above zone n ≡ true → at_or_above n asked.name ≡ true → (same n asked.name && (asked.rtype == 43)) ≡ false
+  ByQuestion : (said : StepSeen) → IsOwnStep e zone ds asked said → o ≡ onward zone said → IsOnward e asked zone ds o
+  ByName : (n : Name) (said : StepSeen) → strictly_above zone n ≡ true → at_or_above n asked.name ≡ true → (same n asked.name && (asked.rtype == 43)) ≡ false
       → IsNameStep e zone ds (ds_at asked n) said → o ≡ onward zone (at_cut said) → IsOnward e asked zone ds o
 
 -- What evidence tells of a question, from a zone with a DS set on: where it ends; or what it tells from the zone on that it leads

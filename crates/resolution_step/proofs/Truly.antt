@@ -14,7 +14,7 @@ use Rattle.denial_laws.proofs.NameFacts.{above-low, above_trans, strictly_at}
 use Rattle.denial_laws.proofs.ZoneCuts.{IsCut, cut_is}
 use Rattle.answer_findings.specs.Honest.{IsSaidByOne}
 use Rattle.answer_findings.specs.Versions.{Version, zone_in}
-use Rattle.answer_judge_keys.specs.Judging.{Handing}
+use Rattle.answer_judge_keys.specs.Judging.{JudgeInput}
 use Rattle.answer_findings.specs.Table.{Checked}
 use Rattle.answer_findings.specs.declared.finding.Found.{Found}
 use Rattle.answer_findings.specs.declared.finding.Found.TheVariants as f
@@ -29,7 +29,7 @@ use Rattle.resolution_tree.specs.Orderly.{IsOrderlyZone}
 use Rattle.resolution_tree.proofs.Trees.{lead_uncut, referred, refers}
 use Rattle.resolution_tree.proofs.Verdicts.{cut_down, delegated_refers, ds_cut, no_ds_cut, no_ds_uncut, open_down, own_cut, own_verdict, unaliased_down, unbound, verdict_told}
 use Rattle.resolution_step.specs.KnownDs.{knows}
-use Rattle.resolution_step.specs.Told.{Told, TellsVerdict, TellsLead, TellsDown, TellsUnsigned, TellsOpen, TellsNoCut, TellsNothing, AsksFor, Search, Sees, Refuses, Wants, IsCutTold, IsSearched, IsSearchTold, IsSeenTold, IsTold, IsToldAt, at_cut, cut_said, cut_searched, cut_told, referral_told, search_of, seen_told, told, bound_told}
+use Rattle.resolution_step.specs.Told.{StepSeen, TellsVerdict, TellsLead, TellsDown, TellsUnsigned, TellsOpen, TellsNoCut, TellsNothing, AsksFor, Search, Sees, Refuses, Wants, IsCutTold, IsSearched, IsSearchTold, IsSeenTold, IsTold, IsToldAt, at_cut, cut_said, cut_searched, cut_told, referral_told, search_of, seen_told, told, bound_told}
 use Rattle.resolution_step.specs.Told as tells
 use Rattle.resolution_step.specs.declared.telling.Step.{Step}
 use Rattle.resolution_step.specs.Truth.{AreOfZone, IsCutSo, IsToldSo, TellsCutTruly, TellsTruly, zone_of_version}
@@ -39,7 +39,7 @@ only : {A : Type 0} (x y : A) → Contains (x ∷ []) y → x ≡ y
 only x y (zero, l, e) = e
 only x y (suc n, l, e) = absurd (omega (arith, l))
 
-module _ (algorithms : List ℕ) (h : Handing) (v : Version) (o : IsOrderlyZone (zone_of_version h.apex v)) where
+module _ (algorithms : List ℕ) (h : JudgeInput) (v : Version) (o : IsOrderlyZone (zone_of_version h.apex v)) where
   abbrev z : TreeZone
   z = zone_of_version h.apex v
 
@@ -129,7 +129,7 @@ module _ (algorithms : List ℕ) (h : Handing) (v : Version) (o : IsOrderlyZone 
   -- ---- below a name
 
   -- what is so of a delegation at or above the name, and of names that are left open, is so of the question
-  pub lowered_so : (n : Name) (x : Told) → at_or_above (apex_of z.zone) n ≡ true → at_or_above n q ≡ true → (same n q && (t == 43)) ≡ false → IsCutSo algorithms z n x → IsToldSo algorithms z q t (at_cut x)
+  pub lowered_so : (n : Name) (x : StepSeen) → at_or_above (apex_of z.zone) n ≡ true → at_or_above n q ≡ true → (same n q && (t == 43)) ≡ false → IsCutSo algorithms z n x → IsToldSo algorithms z q t (at_cut x)
   lowered_so n (TellsDown c ds) inside a other s =
       (refers z.zone q t (low n) (cut_down z.zone n q s.1 a) other ∙ ap (λ d. Some d) (sym s.0), s.2)
   lowered_so n (TellsUnsigned c) inside a other s =
@@ -146,7 +146,7 @@ module _ (algorithms : List ℕ) (h : Handing) (v : Version) (o : IsOrderlyZone 
 
 -- ---- searches
 
-sees_so : (table : List Checked) (h : Handing) (v : Version) (x : Seen) → IsSearched table h (Sees x) → AreOfZone table h v → IsSo h (v ∷ []) x
+sees_so : (table : List Checked) (h : JudgeInput) (v : Version) (x : Seen) → IsSearched table h (Sees x) → AreOfZone table h v → IsSo h (v ∷ []) x
 sees_so table h v x s of = go s.found s.is_found s.is
   where
     go : (found : Found) → IsFound table h found → Sees x ≡ search_of found → IsSo h (v ∷ []) x
@@ -157,7 +157,7 @@ sees_so table h v x s of = go s.found s.is_found s.is
     go (f.Asks asks) is e = absurd cc
 
 -- what is so of a delegation
-pub cut_truly : (algorithms : List ℕ) (table : List Checked) (h : Handing) (said : Told) → IsCutTold algorithms table h said → TellsCutTruly algorithms table h said
+pub cut_truly : (algorithms : List ℕ) (table : List Checked) (h : JudgeInput) (said : StepSeen) → IsCutTold algorithms table h said → TellsCutTruly algorithms table h said
 cut_truly algorithms table h said is v ds of = subst (IsCutSo algorithms (zone_of_version h.apex v) h.asked.name) (sym is.is) (go is.came is.searched)
   where
     go : (came : Search) → IsSearched table h came → IsCutSo algorithms (zone_of_version h.apex v) h.asked.name (cut_searched algorithms h.asked.name came)
@@ -166,7 +166,7 @@ cut_truly algorithms table h said is v ds of = subst (IsCutSo algorithms (zone_o
     go (Wants asks) s = tt
 
 -- a question at or above the case's name
-pub aside_of : (table : List Checked) (h : Handing) (v : Version) (c : Name) → at_or_above c h.asked.name ≡ true → at_or_above h.apex c ≡ true → AreOfZone table h v → AreOfZone table (aside h (asking h c 43)) v
+pub aside_of : (table : List Checked) (h : JudgeInput) (v : Version) (c : Name) → at_or_above c h.asked.name ≡ true → at_or_above h.apex c ≡ true → AreOfZone table h v → AreOfZone table (aside h (asking h c 43)) v
 aside_of table h v c above inside of = record {
   passes = of.passes;
   true_are = of.true_are;
@@ -177,7 +177,7 @@ aside_of table h v c above inside of = record {
   in_order = of.in_order;
 }
 
-told_at_cut : (algorithms : List ℕ) (table : List Checked) (h : Handing) (v : Version) (c : Name) (said : Told) → IsSo h (v ∷ []) (SeesDelegated (Some c)) → AreOfZone table h v → IsToldAt algorithms table h c said
+told_at_cut : (algorithms : List ℕ) (table : List Checked) (h : JudgeInput) (v : Version) (c : Name) (said : StepSeen) → IsSo h (v ∷ []) (SeesDelegated (Some c)) → AreOfZone table h v → IsToldAt algorithms table h c said
     → IsToldSo algorithms (zone_of_version h.apex v) h.asked.name h.asked.rtype said
 told_at_cut algorithms table h v c said s of is =
     let z : TreeZone = zone_of_version h.apex v in
@@ -192,11 +192,11 @@ told_at_cut algorithms table h v c said s of is =
     let so : IsCutSo algorithms z c is.0 = cut_truly algorithms table (aside h (asking h c 43)) is.0 is.1 v refl (aside_of table h v c above inside of) in
     subst (IsToldSo algorithms z q h.asked.rtype) (sym is.2) (lowered_so algorithms h v of.in_order c is.0 (lowered_above h.apex c ∙ inside) above other so)
 
-by_seen : (algorithms : List ℕ) (h : Handing) (v : Version) (said : Told) (x : Seen) → IsSo h (v ∷ []) x → IsOrderlyZone (zone_of_version h.apex v) → said ≡ seen_told algorithms h.asked x
+by_seen : (algorithms : List ℕ) (h : JudgeInput) (v : Version) (said : StepSeen) (x : Seen) → IsSo h (v ∷ []) x → IsOrderlyZone (zone_of_version h.apex v) → said ≡ seen_told algorithms h.asked x
     → IsToldSo algorithms (zone_of_version h.apex v) h.asked.name h.asked.rtype said
 by_seen algorithms h v said x s o is = subst (IsToldSo algorithms (zone_of_version h.apex v) h.asked.name h.asked.rtype) (sym is) (seen_so algorithms h v o x s)
 
-seen_truly : (algorithms : List ℕ) (table : List Checked) (h : Handing) (v : Version) (said : Told) (x : Seen) → IsSo h (v ∷ []) x → AreOfZone table h v → IsSeenTold algorithms table h x said
+seen_truly : (algorithms : List ℕ) (table : List Checked) (h : JudgeInput) (v : Version) (said : StepSeen) (x : Seen) → IsSo h (v ∷ []) x → AreOfZone table h v → IsSeenTold algorithms table h x said
     → IsToldSo algorithms (zone_of_version h.apex v) h.asked.name h.asked.rtype said
 seen_truly algorithms table h v said (SeesDelegated (Some c)) s of is = told_at_cut algorithms table h v c said s of is
 seen_truly algorithms table h v said (SeesDelegated None) s of is = by_seen algorithms h v said (SeesDelegated None) s of.in_order is
@@ -208,7 +208,7 @@ seen_truly algorithms table h v said (SeesDname owner lead) s of is = by_seen al
 seen_truly algorithms table h v said (SeesReferral c datas) s of is = by_seen algorithms h v said (SeesReferral c datas) s of.in_order is
 
 -- what is so of a question
-pub told_truly : (algorithms : List ℕ) (table : List Checked) (h : Handing) (said : Told) → IsTold algorithms table h said → TellsTruly algorithms table h said
+pub told_truly : (algorithms : List ℕ) (table : List Checked) (h : JudgeInput) (said : StepSeen) → IsTold algorithms table h said → TellsTruly algorithms table h said
 told_truly algorithms table h said is v of = go is.came is.searched is.is
   where
     go : (came : Search) → IsSearched table h came → IsSearchTold algorithms table h came said → IsToldSo algorithms (zone_of_version h.apex v) h.asked.name h.asked.rtype said
@@ -218,20 +218,20 @@ told_truly algorithms table h said is v of = go is.came is.searched is.is
 
 -- ---- as it is kept
 
-pub cut_in : (algorithms : List ℕ) (table : List Checked) (h : Handing) (found : Found) → IsFound table h found → (n : Name) → n ≡ h.asked.name → (r : Result Step AllocError)
+pub cut_in : (algorithms : List ℕ) (table : List Checked) (h : JudgeInput) (found : Found) → IsFound table h found → (n : Name) → n ≡ h.asked.name → (r : Result Step AllocError)
     → IfOk r (λ s. told s ≡ cut_searched algorithms n (search_of found)) → IfOk r (λ s. IsCutTold algorithms table h (told s))
 cut_in algorithms table h found is n at (Ok s) e = record { came = search_of found; searched = record { found = found; is_found = is; is = refl }; is = e ∙ ap (λ m. cut_searched algorithms m (search_of found)) at }
 cut_in algorithms table h found is n at (Err e) k = tt
 
-pub cut_honest : (algorithms : List ℕ) (table : List Checked) (h : Handing) (r : Result Step AllocError) → IfOk r (λ s. IsCutTold algorithms table h (told s)) → IfOk r (λ s. TellsCutTruly algorithms table h (told s))
+pub cut_honest : (algorithms : List ℕ) (table : List Checked) (h : JudgeInput) (r : Result Step AllocError) → IfOk r (λ s. IsCutTold algorithms table h (told s)) → IfOk r (λ s. TellsCutTruly algorithms table h (told s))
 cut_honest algorithms table h (Ok s) is = cut_truly algorithms table h (told s) is
 cut_honest algorithms table h (Err e) is = tt
 
-pub told_in : (algorithms : List ℕ) (table : List Checked) (h : Handing) (found : Found) → IsFound table h found → (r : Result Step AllocError)
+pub told_in : (algorithms : List ℕ) (table : List Checked) (h : JudgeInput) (found : Found) → IsFound table h found → (r : Result Step AllocError)
     → IfOk r (λ s. IsSearchTold algorithms table h (search_of found) (told s)) → IfOk r (λ s. IsTold algorithms table h (told s))
 told_in algorithms table h found is (Ok s) e = record { came = search_of found; searched = record { found = found; is_found = is; is = refl }; is = e }
 told_in algorithms table h found is (Err e) k = tt
 
-pub told_honest : (algorithms : List ℕ) (table : List Checked) (h : Handing) (r : Result Step AllocError) → IfOk r (λ s. IsTold algorithms table h (told s)) → IfOk r (λ s. TellsTruly algorithms table h (told s))
+pub told_honest : (algorithms : List ℕ) (table : List Checked) (h : JudgeInput) (r : Result Step AllocError) → IfOk r (λ s. IsTold algorithms table h (told s)) → IfOk r (λ s. TellsTruly algorithms table h (told s))
 told_honest algorithms table h (Ok s) is = told_truly algorithms table h (told s) is
 told_honest algorithms table h (Err e) is = tt

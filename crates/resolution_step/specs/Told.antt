@@ -6,7 +6,7 @@ use Rattle.definitions.specs.Zone.{Verdict, Records, NoType, NoName, StarRecords
 use Rattle.denial_laws.specs.Leading.{Lead, To}
 use Rattle.messages.specs.Message.{Asked}
 use Rattle.answer_judge_rules.specs.Rules.{verdict_of}
-use Rattle.answer_judge_keys.specs.Judging.{Handing}
+use Rattle.answer_judge_keys.specs.Judging.{JudgeInput}
 use Rattle.answer_judge_keys.specs.declared.verdict.Refusal.{Refusal}
 use Rattle.answer_findings.specs.Table.{Checked, Tried}
 use Rattle.answer_findings.specs.declared.finding.Found.{Found}
@@ -19,17 +19,17 @@ use Rattle.resolution_step.specs.declared.telling.Step.{Step}
 use Rattle.resolution_step.specs.declared.telling.Step.TheVariants as s
 
 -- a step, without how it is kept
-pub data Told : Type 0 where
-  TellsVerdict : Verdict → Told
-  TellsLead : Lead → Told
-  TellsDown : Name → List Ds → Told
-  TellsUnsigned : Name → Told
-  TellsOpen : Told
-  TellsNoCut : Told
-  TellsNothing : Option Refusal → Told
-  AsksFor : List Tried → Told
+pub data StepSeen : Type 0 where
+  TellsVerdict : Verdict → StepSeen
+  TellsLead : Lead → StepSeen
+  TellsDown : Name → List Ds → StepSeen
+  TellsUnsigned : Name → StepSeen
+  TellsOpen : StepSeen
+  TellsNoCut : StepSeen
+  TellsNothing : Option Refusal → StepSeen
+  AsksFor : List Tried → StepSeen
 
-abbrev pub told : Step → Told
+abbrev pub told : Step → StepSeen
 told (s.Answer v) = TellsVerdict (verdict_of v)
 told (s.Leads l) = TellsLead (lead_seen l)
 told (s.Down c ds) = TellsDown c ds.items
@@ -53,7 +53,7 @@ search_of (f.Refused refusal verifications hashes) = Refuses refusal
 search_of (f.Asks asks) = Wants asks.items
 
 -- a search of a case's messages comes to this
-pub record IsSearched (table : List Checked) (h : Handing) (came : Search) : Type 0 where
+pub record IsSearched (table : List Checked) (h : JudgeInput) (came : Search) : Type 0 where
   pub found : Found
   pub is_found : IsFound table h found
   pub is : came ≡ search_of found
@@ -61,14 +61,14 @@ pub record IsSearched (table : List Checked) (h : Handing) (came : Search) : Typ
 -- ---- DS at a name
 
 -- the delegation at a name with these DS data: the way down by those of a known kind, or without one nothing that is signed
-abbrev pub by_known : Name → List Ds → Told
+abbrev pub by_known : Name → List Ds → StepSeen
 by_known c [] = TellsUnsigned c
 by_known c (d ∷ ds) = TellsDown c (d ∷ ds)
 
-abbrev pub bound_told : List ℕ → Name → List (List ℕ) → Told
+abbrev pub bound_told : List ℕ → Name → List (List ℕ) → StepSeen
 bound_told algorithms c datas = by_known (low c) (known_ds algorithms datas)
 
-abbrev pub cut_said : List ℕ → Name → Verdict → Told
+abbrev pub cut_said : List ℕ → Name → Verdict → StepSeen
 cut_said algorithms n (Records datas) = bound_told algorithms n datas
 cut_said algorithms n NoName = TellsNoCut
 cut_said algorithms n (StarRecords datas) = TellsNoCut
@@ -77,7 +77,7 @@ cut_said algorithms n Open = TellsOpen
 cut_said algorithms n _ = TellsNothing None
 
 -- What is found of DS at a name tells of a delegation there. A name that has no DS record may be one; an alias is none.
-abbrev pub cut_told : List ℕ → Name → Seen → Told
+abbrev pub cut_told : List ℕ → Name → Seen → StepSeen
 cut_told algorithms n (SeesVerdict v) = cut_said algorithms n v
 cut_told algorithms n (SeesNoDs true) = TellsUnsigned (low n)
 cut_told algorithms n (SeesNoDs false) = TellsNoCut
@@ -86,30 +86,30 @@ cut_told algorithms n (SeesStarAlias target) = TellsNoCut
 cut_told algorithms n (SeesDname owner lead) = TellsNoCut
 cut_told algorithms n _ = TellsNothing None
 
-abbrev pub cut_searched : List ℕ → Name → Search → Told
+abbrev pub cut_searched : List ℕ → Name → Search → StepSeen
 cut_searched algorithms n (Sees x) = cut_told algorithms n x
 cut_searched algorithms n (Refuses e) = TellsNothing (Some e)
 cut_searched algorithms n (Wants asks) = AsksFor asks
 
 -- what a message tells of a delegation at the name whose DS it is judged for
-pub record IsCutTold (algorithms : List ℕ) (table : List Checked) (h : Handing) (said : Told) : Type 0 where
+pub record IsCutTold (algorithms : List ℕ) (table : List Checked) (h : JudgeInput) (said : StepSeen) : Type 0 where
   pub came : Search
   pub searched : IsSearched table h came
   pub is : said ≡ cut_searched algorithms h.asked.name came
 
 -- ---- the question itself
 
-abbrev pub verdict_told : Verdict → Told
+abbrev pub verdict_told : Verdict → StepSeen
 verdict_told Delegated = TellsNothing None
 verdict_told Open = TellsOpen
 verdict_told Unsigned = TellsNothing None
 verdict_told v = TellsVerdict v
 
 -- A referral that is proved is none for DS at the delegation itself, which the zone would answer.
-abbrev pub referral_told : List ℕ → Asked → Name → List (List ℕ) → Told
+abbrev pub referral_told : List ℕ → Asked → Name → List (List ℕ) → StepSeen
 referral_told algorithms asked c datas = if same c asked.name && (asked.rtype == 43) then TellsNothing None else bound_told algorithms c datas
 
-abbrev pub seen_told : List ℕ → Asked → Seen → Told
+abbrev pub seen_told : List ℕ → Asked → Seen → StepSeen
 seen_told algorithms asked (SeesVerdict v) = verdict_told v
 seen_told algorithms asked (SeesDelegated c) = TellsNothing None
 seen_told algorithms asked (SeesNoDs d) = TellsVerdict NoType
@@ -119,7 +119,7 @@ seen_told algorithms asked (SeesDname owner lead) = TellsLead lead
 seen_told algorithms asked (SeesReferral c datas) = referral_told algorithms asked c datas
 
 -- at a delegation that is proved, what the message tells of its DS
-abbrev pub at_cut : Told → Told
+abbrev pub at_cut : StepSeen → StepSeen
 at_cut (TellsDown c ds) = TellsDown c ds
 at_cut (TellsUnsigned c) = TellsUnsigned c
 at_cut TellsOpen = TellsOpen
@@ -127,21 +127,21 @@ at_cut (TellsNothing e) = TellsNothing e
 at_cut (AsksFor asks) = AsksFor asks
 at_cut _ = TellsNothing None
 
-abbrev pub IsToldAt : List ℕ → List Checked → Handing → Name → Told → Type 0
-IsToldAt algorithms table h c said = (below : Told) × IsCutTold algorithms table (aside h (asking h c 43)) below × (said ≡ at_cut below)
+abbrev pub IsToldAt : List ℕ → List Checked → JudgeInput → Name → StepSeen → Type 0
+IsToldAt algorithms table h c said = (below : StepSeen) × IsCutTold algorithms table (aside h (asking h c 43)) below × (said ≡ at_cut below)
 
 -- The message of a name that is delegated is judged for DS at the delegation.
-abbrev pub IsSeenTold : List ℕ → List Checked → Handing → Seen → Told → Type 0
+abbrev pub IsSeenTold : List ℕ → List Checked → JudgeInput → Seen → StepSeen → Type 0
 IsSeenTold algorithms table h (SeesDelegated (Some c)) said = IsToldAt algorithms table h c said
 IsSeenTold algorithms table h x said = said ≡ seen_told algorithms h.asked x
 
-abbrev pub IsSearchTold : List ℕ → List Checked → Handing → Search → Told → Type 0
+abbrev pub IsSearchTold : List ℕ → List Checked → JudgeInput → Search → StepSeen → Type 0
 IsSearchTold algorithms table h (Sees x) said = IsSeenTold algorithms table h x said
 IsSearchTold algorithms table h (Refuses e) said = said ≡ TellsNothing (Some e)
 IsSearchTold algorithms table h (Wants asks) said = said ≡ AsksFor asks
 
 -- what a message tells of the question that it is judged for
-pub record IsTold (algorithms : List ℕ) (table : List Checked) (h : Handing) (said : Told) : Type 0 where
+pub record IsTold (algorithms : List ℕ) (table : List Checked) (h : JudgeInput) (said : StepSeen) : Type 0 where
   pub came : Search
   pub searched : IsSearched table h came
   pub is : IsSearchTold algorithms table h came said

@@ -7,13 +7,13 @@ use Rattle.definitions.specs.Zone.{cut, is_open, data_at}
 use Rattle.definitions.specs.ZoneChain.{optout_of}
 use Rattle.denial_laws.specs.Aliases.{is_aliased}
 use Rattle.answer_findings.specs.Versions.{Version, zone_in}
-use Rattle.answer_judge_keys.specs.Judging.{Handing}
+use Rattle.answer_judge_keys.specs.Judging.{JudgeInput}
 use Rattle.answer_findings.specs.Table.{AreTrue, Checked, Tried, answers_with, passes_in}
 pub use Rattle.answer_findings.specs.Truth.{AreHonestBeside}
 use Rattle.resolution_tree.specs.Tree.{TreeZone, Secure, Unsigned, LeftOpen, Leads, SaysItself, is_bound, refers_to}
 use Rattle.resolution_tree.specs.Orderly.{IsOrderlyZone}
 use Rattle.resolution_step.specs.KnownDs.{known_ds, knows}
-use Rattle.resolution_step.specs.Told.{Told, TellsVerdict, TellsLead, TellsDown, TellsUnsigned, TellsOpen, TellsNoCut}
+use Rattle.resolution_step.specs.Told.{StepSeen, TellsVerdict, TellsLead, TellsDown, TellsUnsigned, TellsOpen, TellsNoCut}
 
 -- the zone of a version, as one of a tree
 abbrev pub zone_of_version : Name → Version → TreeZone
@@ -25,7 +25,7 @@ pub record IsWayDown (algorithms : List ℕ) (z : TreeZone) (c : Name) (ds : Lis
   pub ds_are : ds ≡ known_ds algorithms (data_at z.zone c 43)
 
 -- of a name at which a delegation is sought
-abbrev pub IsCutSo : List ℕ → TreeZone → Name → Told → Type 0
+abbrev pub IsCutSo : List ℕ → TreeZone → Name → StepSeen → Type 0
 IsCutSo algorithms z n (TellsDown c ds) = (c ≡ low n) × (cut z.zone (low n) ≡ Some (low n)) × IsWayDown algorithms z c ds
 IsCutSo algorithms z n (TellsUnsigned c) = (c ≡ low n) × (cut z.zone (low n) ≡ Some (low n)) × (is_bound (knows algorithms) z.zone c ≡ false)
 IsCutSo algorithms z n TellsOpen = (is_open z.zone z.optout (low n) ≡ true) × (is_aliased z.zone z.optout n 43 ≡ false)
@@ -33,7 +33,7 @@ IsCutSo algorithms z n TellsNoCut = cut z.zone (low n) ≡ None
 IsCutSo algorithms z n _ = Unit {0}
 
 -- of a question
-abbrev pub IsToldSo : List ℕ → TreeZone → Name → ℕ → Told → Type 0
+abbrev pub IsToldSo : List ℕ → TreeZone → Name → ℕ → StepSeen → Type 0
 IsToldSo algorithms z q t (TellsVerdict v) = SaysItself (knows algorithms) q t z (Secure z.zone.name v)
 IsToldSo algorithms z q t (TellsLead lead) = SaysItself (knows algorithms) q t z (Leads lead)
 IsToldSo algorithms z q t (TellsDown c ds) = (refers_to z.zone q t ≡ Some c) × IsWayDown algorithms z c ds
@@ -43,16 +43,16 @@ IsToldSo algorithms z q t _ = Unit {0}
 
 -- Messages in which nothing is forged, of a zone that is in order and doesn't change, whatever signatures truly pass, those that
 -- pass in the table among them.
-pub record AreOfZone (table : List Checked) (h : Handing) (v : Version) : Type 0 where
+pub record AreOfZone (table : List Checked) (h : JudgeInput) (v : Version) : Type 0 where
   pub passes : Tried → Bool
   pub true_are : AreTrue (passes_in table) passes
   pub honest : AreHonestBeside (answers_with passes) pointer_limit h (v ∷ [])
   pub in_order : IsOrderlyZone (zone_of_version h.apex v)
 
 -- of such messages nothing is told but what is so
-abbrev pub TellsTruly : List ℕ → List Checked → Handing → Told → Type 0
+abbrev pub TellsTruly : List ℕ → List Checked → JudgeInput → StepSeen → Type 0
 TellsTruly algorithms table h said = (v : Version) → AreOfZone table h v → IsToldSo algorithms (zone_of_version h.apex v) h.asked.name h.asked.rtype said
 
 -- nor of a delegation, where they are judged for DS
-abbrev pub TellsCutTruly : List ℕ → List Checked → Handing → Told → Type 0
+abbrev pub TellsCutTruly : List ℕ → List Checked → JudgeInput → StepSeen → Type 0
 TellsCutTruly algorithms table h said = (v : Version) → h.asked.rtype ≡ 43 → AreOfZone table h v → IsCutSo algorithms (zone_of_version h.apex v) h.asked.name said

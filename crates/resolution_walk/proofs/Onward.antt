@@ -11,8 +11,8 @@ use Rattle.denial_laws.specs.Leading.{To, TooLong}
 use Rattle.denial_laws.proofs.NameFacts.{above_trans, strictly_at}
 use Rattle.messages.specs.Message.{Asked}
 use Rattle.resolution_tree.specs.Tree.{Said, Secure, Unsigned, LeftOpen, Leads, leads_on}
-use Rattle.answer_judge_keys.specs.Judging.{Handing}
-use Rattle.resolution_evidence.specs.Told.{Told, IsCutTold, IsTold, at_cut, told}
+use Rattle.answer_judge_keys.specs.Judging.{JudgeInput}
+use Rattle.resolution_evidence.specs.Told.{StepSeen, IsCutTold, IsTold, at_cut, told}
 use Rattle.resolution_evidence.specs.Step.{Step}
 use Rattle.resolution_evidence.specs.Given.{Given, IsOf}
 use Rattle.resolution_evidence.specs.Walking.{Onward, GoesDown, EndsIn, Stops, IsOnward, ByQuestion, ByName, IsOwnStep, IsNameStep, Tells, Ends, Goes, Follows, AtOnce, Led, ds_at, is_asked_of, onward, renamed}
@@ -33,19 +33,19 @@ module _ (e : Given) (asked : Asked) (zone : Name) (ds : List Ds) where
   pub nowhere : (o : Option Said) → o ≡ None → IsWay e asked zone ds (ends_in o)
   nowhere o n = subst (λ x. IsWay e asked zone ds (ends_in x)) (sym n) tt
 
-  pub by_question : (said : Told) (o : Onward) → IsOwnStep e zone ds asked said → o ≡ onward zone said → IsWay e asked zone ds o
+  pub by_question : (said : StepSeen) (o : Onward) → IsOwnStep e zone ds asked said → o ≡ onward zone said → IsWay e asked zone ds o
   by_question said o k is = any_way o (ByQuestion said k is)
 
-  pub by_name : (n : Name) (q : Asked) (said cut_said : Told) (o : Onward) → q ≡ ds_at asked n → strictly_above zone n ≡ true → at_or_above n asked.name ≡ true → (same n asked.name && (asked.rtype == 43)) ≡ false
+  pub by_name : (n : Name) (q : Asked) (said cut_said : StepSeen) (o : Onward) → q ≡ ds_at asked n → strictly_above zone n ≡ true → at_or_above n asked.name ≡ true → (same n asked.name && (asked.rtype == 43)) ≡ false
       → IsNameStep e zone ds q said → cut_said ≡ at_cut said → o ≡ onward zone cut_said → IsWay e asked zone ds o
   by_name n q said cut_said o by below above other k at is = any_way o (ByName n said below above other (subst (λ x. IsNameStep e zone ds x said) by k) (is ∙ ap (onward zone) at))
 
-  pub turned_own : (h : Handing) (said now : Told) (r : Result Turn AllocError) → IsOf e zone ds asked h → IsTold e.algorithms e.table h said → now ≡ said
+  pub turned_own : (h : JudgeInput) (said now : StepSeen) (r : Result Turn AllocError) → IsOf e zone ds asked h → IsTold e.algorithms e.table h said → now ≡ said
       → IfOk r (λ t. onward_of t ≡ onward zone now) → IfOk r (IsTurn e asked zone ds)
   turned_own h said now (Ok t) of is same leads = by_question said (onward_of t) (record { judged = h; of = of; told_is = is }) (leads ∙ ap (onward zone) same)
   turned_own h said now (Err x) of is same leads = tt
 
-  pub turned_at : (q : Asked) (h : Handing) (said now : Told) (r : Result (Option Turn) AllocError) → IsBetween zone asked q → IsOf e zone ds q h → IsCutTold e.algorithms e.table h said → now ≡ at_cut said
+  pub turned_at : (q : Asked) (h : JudgeInput) (said now : StepSeen) (r : Result (Option Turn) AllocError) → IsBetween zone asked q → IsOf e zone ds q h → IsCutTold e.algorithms e.table h said → now ≡ at_cut said
       → IfOk r (λ o. IfSome o (λ t. onward_of t ≡ onward zone now)) → IfOk r (λ o. IfSome o (IsTurn e asked zone ds))
   turned_at q h said now (Ok (Some t)) k of is cut leads =
       by_name k.name q said now (onward_of t) k.is k.below k.above k.other (record { judged = h; of = of; told_is = is }) cut leads
@@ -142,11 +142,11 @@ parent_in n parent (Err x) some is copy = tt
 -- ---- what is judged
 
 -- by evidence as it is kept, and unless memory lacked
-pub own_told : (e kept : Given) (h : Handing) (said : Told) (r : Result Step AllocError) → kept ≡ e → IsTold kept.algorithms kept.table h said → IfOk r (λ s. told s ≡ said) → IfOk r (λ s. IsTold e.algorithms e.table h (told s))
+pub own_told : (e kept : Given) (h : JudgeInput) (said : StepSeen) (r : Result Step AllocError) → kept ≡ e → IsTold kept.algorithms kept.table h said → IfOk r (λ s. told s ≡ said) → IfOk r (λ s. IsTold e.algorithms e.table h (told s))
 own_told e kept h said (Ok s) at is k = subst (IsTold e.algorithms e.table h) (sym k) (subst (λ (g : Given). IsTold g.algorithms g.table h said) at is)
 own_told e kept h said (Err x) at is k = tt
 
-pub name_told : (e kept : Given) (h : Handing) (said : Told) (r : Result Step AllocError) → kept ≡ e → IsCutTold kept.algorithms kept.table h said → IfOk r (λ s. told s ≡ said) → IfOk r (λ s. IsCutTold e.algorithms e.table h (told s))
+pub name_told : (e kept : Given) (h : JudgeInput) (said : StepSeen) (r : Result Step AllocError) → kept ≡ e → IsCutTold kept.algorithms kept.table h said → IfOk r (λ s. told s ≡ said) → IfOk r (λ s. IsCutTold e.algorithms e.table h (told s))
 name_told e kept h said (Ok s) at is k = subst (IsCutTold e.algorithms e.table h) (sym k) (subst (λ (g : Given). IsCutTold g.algorithms g.table h said) at is)
 name_told e kept h said (Err x) at is k = tt
 

@@ -2,7 +2,7 @@
 use Rattle.std.specs.Prelude.{◌≡◌, ◌⊎◌, ℕ, List, Option, Result, Ok, Err, Some, None}
 use Rattle.definitions.specs.Limits.{pointer_limit}
 use Rattle.answer_publisher.specs.Replacing.{noted}
-use Rattle.server_queries.specs.Queries.{Queried, Refused, query_at}
+use Rattle.server_queries.specs.Queries.{Queried, RefusedRequest, query_at}
 use Rattle.server_queries.specs.Replies.{error_octets}
 use Rattle.server_responses.specs.Limits.{size_limit}
 use Rattle.server_responses.specs.declared.transport.Transport.{Transport}
@@ -16,13 +16,13 @@ abbrev pub IsOrWasNoted : ℕ → Option ℕ → Option ℕ → Type 0
 IsOrWasNoted at old new = (new ≡ old) ⊎ (new ≡ noted old at)
 
 -- what answers a refusal: nothing, or a reply
-abbrev pub IsReplyTo : ℕ → Option Refused → Response → Type 0
+abbrev pub IsReplyTo : ℕ → Option RefusedRequest → Response → Type 0
 IsReplyTo size None Nothing = Unit {0}
 IsReplyTo size (Some r) (Reply v) = v.items ≡ error_octets size r
 IsReplyTo size refused response = ⊥
 
 -- what answers what a request was read as: a query, under the limit of its transport, or none
-abbrev pub AnswersRead : Serving → Transport → Option ℕ → Option ℕ → Response → Result Queried (Option Refused) → Type 0
+abbrev pub AnswersRead : Serving → Transport → Option ℕ → Option ℕ → Response → Result Queried (Option RefusedRequest) → Type 0
 AnswersRead s transport old new response (Ok q) = AnswersQueried (record s { limit = size_limit transport q.edns }) q old new response
 AnswersRead s transport old new response (Err refused) = IsReplyTo s.size refused response × (new ≡ old)
 

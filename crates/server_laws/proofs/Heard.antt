@@ -22,7 +22,7 @@ use Rattle.answer_shared.specs.Asking.{is_allowed}
 use Rattle.answer_shared.specs.GroupView.{GroupView, Presents, view_of}
 use Rattle.answer_shared.specs.Hashing.{hash_in}
 use Rattle.answer_shared.specs.Served.{Group, Served, answer_groups, key_group, served_of, ttl_among}
-use Rattle.answer_judge_keys.specs.Judging.{Answer, Handing, Refuses, Says, is_judged, message_refusal}
+use Rattle.answer_judge_keys.specs.Judging.{Answer, JudgeInput, Refuses, Says, is_judged, message_refusal}
 use Rattle.answer_judge_keys.specs.declared.verdict.Refusal.{Refusal}
 use Rattle.answer_judge_keys.specs.declared.verdict.Refusal.TheVariants as r
 use Rattle.answer_judge_facts.specs.Judged.{AnswersAs, judged, judged_bytes}
@@ -95,7 +95,7 @@ nothing true = refl
 nothing false = refl
 
 -- no question for OPT records is judged
-opt_unjudged : (h : Handing) → h.asked.rtype ≡ 41 → is_judged h ≡ false
+opt_unjudged : (h : JudgeInput) → h.asked.rtype ≡ 41 → is_judged h ≡ false
 opt_unjudged h e =
     (λ i. (h.other_question && (among (5 ∷ 39 ∷ []) (e i) && eqb h.asked.class 1 && at_or_above h.apex h.asked.name)) || is_allowed h.apex h.asked)
     ∙ ap (λ b. b || is_allowed h.apex h.asked) (nothing h.other_question)
@@ -108,7 +108,7 @@ judged_by asked none later answer = elim (if not asked then Some r.QuestionNotAl
   | None ↦ if none then Says Unsigned else answer
 ]
 
-unjudged : (a : Answers) (h : Handing) → is_judged h ≡ false → judged a pointer_limit h ≡ Refuses r.QuestionNotAllowed
+unjudged : (a : Answers) (h : JudgeInput) → is_judged h ≡ false → judged a pointer_limit h ≡ Refuses r.QuestionNotAllowed
 unjudged a h e = ap (λ b. judged_by b (nat_eq (length h.ds) 0) (message_refusal pointer_limit h) (judged_bytes a pointer_limit h)) e
 
 seen_judged : (m n : List ℕ) → ((t : ℕ) → eqb 41 t ≡ false → SeenAlike pointer_limit t m n) → IsJudgedAs m n
@@ -117,7 +117,7 @@ seen_judged m n seen = record {
   keys = λ a h. keys_alike a pointer_limit h m n (seen 48 refl);
 }
   where
-    of_type : (a : Answers) (h : Handing) (b : Bool) → eqb 41 h.asked.rtype ≡ b → judged a pointer_limit (record h { answer_bytes = m }) ≡ judged a pointer_limit (record h { answer_bytes = n })
+    of_type : (a : Answers) (h : JudgeInput) (b : Bool) → eqb 41 h.asked.rtype ≡ b → judged a pointer_limit (record h { answer_bytes = m }) ≡ judged a pointer_limit (record h { answer_bytes = n })
     of_type a h true e =
         let opt : is_judged h ≡ false = opt_unjudged h (sym (eqb-true 41 h.asked.rtype e)) in
         unjudged a (record h { answer_bytes = m }) opt ∙ sym (unjudged a (record h { answer_bytes = n }) opt)

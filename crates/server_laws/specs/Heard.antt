@@ -12,7 +12,7 @@ use Rattle.messages.specs.WrittenLaws.{IsQuestion}
 use Rattle.answer_scheme.specs.Answers.{Answers}
 use Rattle.answer_shared.specs.Accepted.{IsAccepted}
 use Rattle.answer_shared.specs.Accepting.{sorted_records, zone_of}
-use Rattle.answer_judge_keys.specs.Judging.{Answer, Handing, Says}
+use Rattle.answer_judge_keys.specs.Judging.{Answer, JudgeInput, Says}
 use Rattle.answer_judge_facts.specs.Judged.{AnswersAs, judged}
 use Rattle.answer_alike.specs.Meeting.{WasGiven}
 use Rattle.server_answers.specs.World.{World}
@@ -46,8 +46,8 @@ pub record IsWhole (s : Serving) (q : Queried) (octets : List ℕ) : Type 0 wher
 
 -- of one message a judge says what it says of another, as an answer and as a DNSKEY answer, beside whatever else
 pub record IsJudgedAs (one other : List ℕ) : Type 0 where
-  pub answers : (a : Answers) (h : Handing) → judged a pointer_limit (record h { answer_bytes = one }) ≡ judged a pointer_limit (record h { answer_bytes = other })
-  pub keys : (a : Answers) (h : Handing) → judged a pointer_limit (record h { dnskey_bytes = one }) ≡ judged a pointer_limit (record h { dnskey_bytes = other })
+  pub answers : (a : Answers) (h : JudgeInput) → judged a pointer_limit (record h { answer_bytes = one }) ≡ judged a pointer_limit (record h { answer_bytes = other })
+  pub keys : (a : Answers) (h : JudgeInput) → judged a pointer_limit (record h { dnskey_bytes = one }) ≡ judged a pointer_limit (record h { dnskey_bytes = other })
 
 -- a response, and the message that it is made of
 abbrev pub ResponsesJudgedAlike : Type 0
@@ -59,6 +59,6 @@ abbrev pub ClientsAreTold : Type 0
 ClientsAreTold =
     (s t : Serving) (q p : Queried) (old new before behind : Option ℕ) (key_octets octets : List ℕ)
     → IsWhole s q key_octets → (d : IsAnswered s q old new key_octets) → IsWhole t p octets → (r : IsAnswered t p before behind octets)
-    → (a : Answers) (h : Handing) (mode : Mode) (rs : List HandedRr) → h.limit < 65536 → WasGiven a pointer_limit (record h { dnskey_bytes = d.m; answer_bytes = r.m }) mode rs
+    → (a : Answers) (h : JudgeInput) (mode : Mode) (rs : List HandedRr) → h.limit < 65536 → WasGiven a pointer_limit (record h { dnskey_bytes = d.m; answer_bytes = r.m }) mode rs
     → (answer : Answer) → AnswersAs answer (judged a pointer_limit (record h { dnskey_bytes = key_octets; answer_bytes = octets }))
     → AnswersAs answer (Says (verdict (zone_of h.apex rs) (optout_of mode) h.asked.name h.asked.rtype))

@@ -21,7 +21,7 @@ pub record Queried : Type 0 where
   pub edns : Option Edns
 
 -- what a reply says to a request that is refused
-pub record Refused : Type 0 where
+pub record RefusedRequest : Type 0 where
   pub header : RequestHeader
   pub rcode : Rcode
   pub asked : Option Asked
@@ -66,14 +66,14 @@ abbrev pub edns_at : ℕ → List ℕ → Option Edns
 edns_at k m = elim (message k m) [ Err e ↦ None | Ok r ↦ first_edns (opts r.records) ]
 
 -- what a reply says to a request that is refused
-abbrev pub refused_at : ℕ → List ℕ → RequestHeader → Rcode → Refused
+abbrev pub refused_at : ℕ → List ℕ → RequestHeader → Rcode → RefusedRequest
 refused_at k m h rcode = record { header = h; rcode = rcode; asked = option_map (λ q. q.0) (question_at k m); edns = edns_at k m }
 
-abbrev pub answered_at : ℕ → List ℕ → RequestHeader → Result Queried (Option Refused)
+abbrev pub answered_at : ℕ → List ℕ → RequestHeader → Result Queried (Option RefusedRequest)
 answered_at k m h = elim (accepted_at k m h) [ Ok q ↦ Ok q | Err rcode ↦ Err (Some (refused_at k m h rcode)) ]
 
 -- The query that octets are, or what answers them: None where nothing does, since they have no header or are a reply.
-abbrev pub query_at : ℕ → List ℕ → Result Queried (Option Refused)
+abbrev pub query_at : ℕ → List ℕ → Result Queried (Option RefusedRequest)
 query_at k m = elim (read_header m) [
   | None ↦ Err None
   | Some h ↦ elim (is_reply h) [ true ↦ Err None | false ↦ answered_at k m h ]

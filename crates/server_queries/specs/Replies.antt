@@ -4,7 +4,7 @@ use Rattle.std.specs.Int.{w16, w32, to_be_bytes}
 use Rattle.messages.specs.Message.{Asked}
 use Rattle.messages.specs.Written.{question_octets, record_octets, written}
 use Rattle.server_queries.specs.Headers.{opcode_of}
-use Rattle.server_queries.specs.Queries.{Refused}
+use Rattle.server_queries.specs.Queries.{RefusedRequest}
 use Rattle.server_queries.specs.Rcodes.{rcode_number}
 use Rattle.server_queries.specs.declared.edns.Edns.{Edns}
 use Rattle.server_queries.specs.declared.header.RequestHeader.{RequestHeader}
@@ -40,6 +40,6 @@ edns_octets size rcode None = []
 edns_octets size rcode (Some e) = opt_octets size rcode e.dnssec_ok
 
 -- the reply to a request that is refused, by a server that takes so many octets by UDP
-abbrev pub error_octets : ℕ → Refused → List ℕ
+abbrev pub error_octets : ℕ → RefusedRequest → List ℕ
 error_octets size r =
     header_octets r.header (rcode_number r.rcode) (one_if_some r.asked) (one_if_some r.edns) ++ asked_octets r.asked ++ edns_octets size (rcode_number r.rcode) r.edns

@@ -14,7 +14,7 @@ use Rattle.server_zone_text.specs.Texts.{applied_text, refusal_text}
 use Rattle.server_zone_octets.specs.declared.code.ZoneCode.{ZoneCode}
 use Rattle.server_zone_octets.specs.declared.code.ZoneCode.TheVariants as c
 use Rattle.server_zone_octets.specs.declared.report.ZoneReport.{ZoneReport}
-use Rattle.server_zone_octets.specs.Telling.{IsShown, IsUnknown, Told, is_known, only, telling, told_report}
+use Rattle.server_zone_octets.specs.Telling.{IsShown, IsUnknown, CodeAndOctets, is_known, only, telling, told_report}
 
 abbrev pub is_memory : Refusal → Bool
 is_memory refusal.Memory = true
@@ -23,17 +23,17 @@ is_memory _ = false
 -- ---- what is told
 
 -- of an accepted line what the bench prints; or that memory ran out for that
-abbrev pub IsToldApplied : Applied → Told → Type 0
+abbrev pub IsToldApplied : Applied → CodeAndOctets → Type 0
 IsToldApplied a said = (said ≡ telling c.Done (applied_text a)) ⊎ (said ≡ only c.Untold)
 
 -- of a refusal the same; want of memory has a code of its own, and may come for the text, too
-abbrev pub IsToldRefused : Refusal → Told → Type 0
+abbrev pub IsToldRefused : Refusal → CodeAndOctets → Type 0
 IsToldRefused f said = ((is_memory f ≡ false) × (said ≡ telling c.Refused (refusal_text f))) ⊎ (said ≡ only c.OutOfMemory)
 
 -- ---- a line
 
 -- an accepted line: the state is that behind it, and nothing else of the zone has changed
-pub record SaysAccepted {S H : Type 0} (digest : Digest) (hash : Hasher) (line : List ℕ) (old new : Zone S H) (said : Told) : Type 0 where
+pub record SaysAccepted {S H : Type 0} (digest : Digest) (hash : Hasher) (line : List ℕ) (old new : Zone S H) (said : CodeAndOctets) : Type 0 where
   pub a : Applied
   pub follows : OfLine (λ l. Follows digest hash old.publisher.latest (state_of old) l a (state_of new)) (state_line line)
   pub behind : applied_line digest (state_of old) line ≡ Some (state_of new)
@@ -41,19 +41,19 @@ pub record SaysAccepted {S H : Type 0} (digest : Digest) (hash : Hasher) (line :
   pub told : IsToldApplied a said
 
 -- a refused line: the state and the publisher are as before
-pub record SaysRefused {S H : Type 0} (digest : Digest) (hash : Hasher) (line : List ℕ) (old new : Zone S H) (said : Told) : Type 0 where
+pub record SaysRefused {S H : Type 0} (digest : Digest) (hash : Hasher) (line : List ℕ) (old new : Zone S H) (said : CodeAndOctets) : Type 0 where
   pub f : Refusal
   pub refuses : RefusesLine digest hash old.publisher.latest (state_of old) line f
   pub state : state_of new ≡ state_of old
   pub publisher : new.publisher ≡ old.publisher
   pub told : IsToldRefused f said
 
-abbrev pub SaysApplied : {S H : Type 0} → Digest → Hasher → List ℕ → Zone S H → Zone S H → Told → Type 0
+abbrev pub SaysApplied : {S H : Type 0} → Digest → Hasher → List ℕ → Zone S H → Zone S H → CodeAndOctets → Type 0
 SaysApplied digest hash line old new said = SaysAccepted digest hash line old new said ⊎ SaysRefused digest hash line old new said
 
 -- what is told, in front of what was there if there is room
 pub record IsLineTold {S H : Type 0} (digest : Digest) (hash : Hasher) (line : List ℕ) (old new : Zone S H) (report : ZoneReport) (before after : List ℕ) (code : ZoneCode) : Type 0 where
-  pub said : Told
+  pub said : CodeAndOctets
   pub says : SaysApplied digest hash line old new said
   pub code_is : code ≡ said.code
   pub report_is : report ≡ told_report (length said.octets)
@@ -78,7 +78,7 @@ pub record OpensAs {S H : Type 0} (digest : Digest) (scheme : S) (hasher : H) (j
 pub record SaysUnopened (digest : Digest) (hash : Hasher) (journal : List ℕ) (report : ZoneReport) (before after : List ℕ) (code : ZoneCode) : Type 0 where
   pub e : OpenError
   pub is_error : IsOpenError digest hash journal e
-  pub said : Told
+  pub said : CodeAndOctets
   pub told : IsToldRefused e.reason said
   pub code_is : code ≡ said.code
   pub report_is : report ≡ record (told_report (length said.octets)) { line = e.number }

@@ -13,7 +13,7 @@ use Rattle.server_responses.specs.declared.transport.Transport.{Transport}
 use Rattle.server_responses.specs.declared.transport.Transport.TheVariants as transport
 use Rattle.server_answers.specs.Table.{Made}
 use Rattle.server_zone_octets.specs.Entries.{FitsMade, asked, entries_of, made_octets}
-use Rattle.server_zone_octets.specs.Telling.{IsHandedOut, IsUnknown, Told, is_known, only, telling}
+use Rattle.server_zone_octets.specs.Telling.{IsHandedOut, IsUnknown, CodeAndOctets, is_known, only, telling}
 use Rattle.server_zone_octets.specs.declared.code.ZoneCode.{ZoneCode}
 use Rattle.server_zone_octets.specs.declared.code.ZoneCode.TheVariants as c
 use Rattle.server_zone_octets.specs.declared.report.ZoneReport.{ZoneReport}
@@ -42,14 +42,14 @@ abbrev pub serving_of : World → ZoneKeys → List Made → OctetRequest → Se
 serving_of w keys table r = serving w keys table (moment_of r) 0 r.udp_size
 
 -- what is told of a response; for entries memory may run out
-abbrev pub IsToldResponse : Response → Told → Type 0
+abbrev pub IsToldResponse : Response → CodeAndOctets → Type 0
 IsToldResponse response.Nothing said = said ≡ only c.NoResponse
 IsToldResponse (response.Reply v) said = said ≡ telling c.Response v.items
 IsToldResponse (response.Sign v) said =
     ((said ≡ telling c.Sign (entries_of v.items)) × AllByRecursion FitsMade (map asked v.items)) ⊎ (said ≡ only c.OutOfMemory)
 
 -- a request of whose signatures there is a list, and what answers it
-pub record IsResponded (w : World) (keys : ZoneKeys) (r : OctetRequest) (latest latest' : Option ℕ) (said : Told) : Type 0 where
+pub record IsResponded (w : World) (keys : ZoneKeys) (r : OctetRequest) (latest latest' : Option ℕ) (said : CodeAndOctets) : Type 0 where
   pub transport : Transport
   pub carried : transport_of r ≡ Some transport
   pub table : List Made
@@ -66,12 +66,12 @@ IsUnanswered r latest latest' c.BadSignatures = ((table : List Made) → IsList 
 IsUnanswered r latest latest' c.OutOfMemory = IsOrWasNoted (moment_of r) latest latest'
 IsUnanswered r latest latest' _ = ⊥
 
-abbrev pub TellsResponse : World → ZoneKeys → OctetRequest → Option ℕ → Option ℕ → Told → Type 0
+abbrev pub TellsResponse : World → ZoneKeys → OctetRequest → Option ℕ → Option ℕ → CodeAndOctets → Type 0
 TellsResponse w keys r latest latest' said = IsResponded w keys r latest latest' said ⊎ ((said ≡ only said.code) × IsUnanswered r latest latest' said.code)
 
 -- what is told, in front of what was there if there is room
 pub record IsAnswerTold (w : World) (keys : ZoneKeys) (r : OctetRequest) (latest latest' : Option ℕ) (report : ZoneReport) (before after : List ℕ) (code : ZoneCode) : Type 0 where
-  pub said : Told
+  pub said : CodeAndOctets
   pub tells : TellsResponse w keys r latest latest' said
   pub handed_out : IsHandedOut said before after report code
 

@@ -8,7 +8,7 @@ use Rattle.answer_publisher_keys.specs.Bindings.{ZoneKeys, cdnskey_set, cds_set,
 use Rattle.server_zone_octets.specs.declared.code.ZoneCode.{ZoneCode}
 use Rattle.server_zone_octets.specs.declared.code.ZoneCode.TheVariants as c
 use Rattle.server_zone_octets.specs.declared.report.ZoneReport.{ZoneReport}
-use Rattle.server_zone_octets.specs.Telling.{IsHandedOut, IsUnknown, Told, is_known, only}
+use Rattle.server_zone_octets.specs.Telling.{IsHandedOut, IsUnknown, CodeAndOctets, is_known, only}
 
 -- the data of the records of a type, each behind its length; None for another type
 abbrev pub set_data : ZoneKeys → ℕ → Option (List ℕ)
@@ -22,15 +22,15 @@ set_data keys rtype =
 abbrev pub IsSetRefused : ZoneKeys → ℕ → ZoneCode → Type 0
 IsSetRefused keys rtype code = (code ≡ c.OutOfMemory) ⊎ ((code ≡ c.BadCall) × (set_data keys rtype ≡ None))
 
-pub record IsSet (keys : ZoneKeys) (rtype : ℕ) (said : Told) : Type 0 where
+pub record IsSet (keys : ZoneKeys) (rtype : ℕ) (said : CodeAndOctets) : Type 0 where
   pub octets_are : set_data keys rtype ≡ Some said.octets
   pub code_is : said.code ≡ c.Done
 
-abbrev pub TellsSet : ZoneKeys → ℕ → Told → Type 0
+abbrev pub TellsSet : ZoneKeys → ℕ → CodeAndOctets → Type 0
 TellsSet keys rtype said = IsSet keys rtype said ⊎ ((said ≡ only said.code) × IsSetRefused keys rtype said.code)
 
 pub record IsSetTold (keys : ZoneKeys) (rtype : ℕ) (report : ZoneReport) (before after : List ℕ) (code : ZoneCode) : Type 0 where
-  pub said : Told
+  pub said : CodeAndOctets
   pub tells : TellsSet keys rtype said
   pub handed_out : IsHandedOut said before after report code
 

@@ -3,21 +3,21 @@ use Rattle.std.specs.Prelude.{◌≡◌, ℕ, ◌<◌, ◌≤◌, ◌==◌, Bool
 use Rattle.server_zone_octets.specs.declared.code.ZoneCode.{ZoneCode}
 use Rattle.server_zone_octets.specs.declared.code.ZoneCode.TheVariants as c
 use Rattle.server_zone_octets.specs.declared.report.ZoneReport.{ZoneReport}
-use Rattle.server_zone_octets.specs.declared.told.Told.{Told as CodeTold}
+use Rattle.server_zone_octets.specs.declared.told.CodeAndOctets.{CodeAndOctets as CodeTold}
 
 -- a code and octets
-pub record Told : Type 0 where
+pub record CodeAndOctets : Type 0 where
   pub code : ZoneCode
   pub octets : List ℕ
 
-abbrev pub telling : ZoneCode → List ℕ → Told
+abbrev pub telling : ZoneCode → List ℕ → CodeAndOctets
 telling code octets = record { code = code; octets = octets }
 
 -- a code alone
-abbrev pub only : ZoneCode → Told
+abbrev pub only : ZoneCode → CodeAndOctets
 only code = telling code []
 
-abbrev pub told_seen : CodeTold → Told
+abbrev pub told_seen : CodeTold → CodeAndOctets
 told_seen t = telling t.code t.octets.items
 
 -- the size of a report, the only one that is known
@@ -43,7 +43,7 @@ pub record IsShown (octets old new : List ℕ) : Type 0 where
 
 -- what is told in front of what was there, where there is room for it all; the report says of how
 -- many octets
-pub record IsHandedOut (t : Told) (old new : List ℕ) (report : ZoneReport) (code : ZoneCode) : Type 0 where
+pub record IsHandedOut (t : CodeAndOctets) (old new : List ℕ) (report : ZoneReport) (code : ZoneCode) : Type 0 where
   pub report_is : report ≡ told_report (length t.octets)
   pub room : length t.octets ≤ length old → (code ≡ t.code) × (new ≡ t.octets ++ drop (length t.octets) old)
   pub small : length old < length t.octets → (code ≡ c.BufferTooSmall) × (new ≡ old)

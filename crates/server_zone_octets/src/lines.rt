@@ -7,7 +7,7 @@ ghost use Rattle.server_zone_octets.specs.Telling.{is_known, told_seen};
 
 use crate::code::ZoneCode;
 use crate::report::ZoneReport;
-use crate::told::{Told, put};
+use crate::told::{CodeAndOctets, put};
 use answer_scheme::Scheme;
 use denial_nsec3_hash::hasher::Nsec3Hasher;
 use server_zone::{Applied, Refusal, Zone};
@@ -81,7 +81,7 @@ fn told_line<S: Scheme, H: Nsec3Hasher>(
     alloc: Global,
     zone: &mut Zone<'_, S, H>,
     line: &[u8],
-) -> Told
+) -> CodeAndOctets
     ensures { let p = zone.old.publisher in
         let digest = S.digest_of p.scheme.now in let hash = H.hash_of p.zone.hasher in
         SaysApplied digest hash line.now zone.old zone.new (told_seen result) }
@@ -93,33 +93,33 @@ fn told_line<S: Scheme, H: Nsec3Hasher>(
 }
 
 /// What an accepted line answers.
-fn told_applied(alloc: Global, applied: &Applied) -> Told
+fn told_applied(alloc: Global, applied: &Applied) -> CodeAndOctets
     ensures { IsToldApplied applied.now (told_seen result) }
 {
     let mut text = String::new(alloc);
     match push_applied(&mut text, applied) {
-        Ok(()) => Told {
+        Ok(()) => CodeAndOctets {
             code: ZoneCode::Done,
             octets: text.into_bytes(),
         },
-        Err(_) => Told::only(alloc, ZoneCode::Untold),
+        Err(_) => CodeAndOctets::only(alloc, ZoneCode::Untold),
     }
 }
 
 /// Why a line is refused.
-fn told_refusal(alloc: Global, refusal: &Refusal) -> Told
+fn told_refusal(alloc: Global, refusal: &Refusal) -> CodeAndOctets
     ensures { IsToldRefused refusal.now (told_seen result) }
 {
     if is_memory(refusal) {
-        return Told::only(alloc, ZoneCode::OutOfMemory);
+        return CodeAndOctets::only(alloc, ZoneCode::OutOfMemory);
     }
     let mut text = String::new(alloc);
     match push_refusal(&mut text, refusal) {
-        Ok(()) => Told {
+        Ok(()) => CodeAndOctets {
             code: ZoneCode::Refused,
             octets: text.into_bytes(),
         },
-        Err(_) => Told::only(alloc, ZoneCode::OutOfMemory),
+        Err(_) => CodeAndOctets::only(alloc, ZoneCode::OutOfMemory),
     }
 }
 

@@ -10,7 +10,7 @@ ghost use Rattle.server_zone_octets.specs.Telling.{told_seen};
 use crate::code::ZoneCode;
 use crate::parts::put_short;
 use crate::report::ZoneReport;
-use crate::told::{Told, hand_out};
+use crate::told::{CodeAndOctets, hand_out};
 use answer_scheme::Scheme;
 use answer_shared::dnskey::{Dnskey, ZoneKey};
 use denial_data::Ds;
@@ -46,15 +46,19 @@ pub fn records_octets<S: Scheme, H: Nsec3Hasher>(
 }
 
 /// What is told of a set.
-fn told_set<S: Scheme, H: Nsec3Hasher>(alloc: Global, zone: &Zone<'_, S, H>, rtype: u16) -> Told
+fn told_set<S: Scheme, H: Nsec3Hasher>(
+    alloc: Global,
+    zone: &Zone<'_, S, H>,
+    rtype: u16,
+) -> CodeAndOctets
     ensures { TellsSet zone.now.publisher.keys rtype (told_seen result) }
 {
     match set_of(alloc, zone, rtype) {
-        Ok(octets) => Told {
+        Ok(octets) => CodeAndOctets {
             code: ZoneCode::Done,
             octets,
         },
-        Err(code) => Told::only(alloc, code),
+        Err(code) => CodeAndOctets::only(alloc, code),
     }
 }
 

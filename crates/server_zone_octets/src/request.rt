@@ -8,7 +8,7 @@ ghost use Rattle.server_zone_octets.specs.Telling.{told_seen};
 use crate::code::ZoneCode;
 use crate::entries::{asked_entries, read_made};
 use crate::report::ZoneReport;
-use crate::told::{Told, hand_out};
+use crate::told::{CodeAndOctets, hand_out};
 use answer_scheme::Scheme;
 use denial_nsec3_hash::hasher::Nsec3Hasher;
 use keyset::UnixTime;
@@ -74,7 +74,7 @@ fn reply_to<S: Scheme, H: Nsec3Hasher>(
     alloc: Global,
     zone: &mut Zone<'_, S, H>,
     handed: &OctetRequest,
-) -> Told
+) -> CodeAndOctets
     ensures told { let p = zone.old.publisher in
         let w = world_of S.signature_of S.verifies S.digest_of H.hash_of p in
         let tells = TellsResponse w p.keys handed.now p.latest zone.new.publisher.latest in
@@ -84,11 +84,11 @@ fn reply_to<S: Scheme, H: Nsec3Hasher>(
 {
     let transport = match transport_of(handed) {
         Some(transport) => transport,
-        None => return Told::only(alloc, ZoneCode::BadCall),
+        None => return CodeAndOctets::only(alloc, ZoneCode::BadCall),
     };
     let table = match read_made(alloc, handed.made) {
         Ok(table) => table,
-        Err(code) => return Told::only(alloc, code),
+        Err(code) => return CodeAndOctets::only(alloc, code),
     };
     let now = UnixTime::new(Duration::from_secs(handed.moment));
     let terms = ServerTerms {
@@ -106,26 +106,26 @@ fn reply_to<S: Scheme, H: Nsec3Hasher>(
         &terms,
     ) {
         Ok(response) => told_response(alloc, response),
-        Err(AllocError) => Told::only(alloc, ZoneCode::OutOfMemory),
+        Err(AllocError) => CodeAndOctets::only(alloc, ZoneCode::OutOfMemory),
     }
 }
 
 /// What is told of a response.
-fn told_response(alloc: Global, response: Response) -> Told
+fn told_response(alloc: Global, response: Response) -> CodeAndOctets
     ensures { IsToldResponse response (told_seen result) }
 {
     match response {
-        Response::Nothing => Told::only(alloc, ZoneCode::NoResponse),
-        Response::Reply(octets) => Told {
+        Response::Nothing => CodeAndOctets::only(alloc, ZoneCode::NoResponse),
+        Response::Reply(octets) => CodeAndOctets {
             code: ZoneCode::Response,
             octets,
         },
         Response::Sign(inputs) => match asked_entries(alloc, &inputs) {
-            Ok(octets) => Told {
+            Ok(octets) => CodeAndOctets {
                 code: ZoneCode::Sign,
                 octets,
             },
-            Err(_) => Told::only(alloc, ZoneCode::OutOfMemory),
+            Err(_) => CodeAndOctets::only(alloc, ZoneCode::OutOfMemory),
         },
     }
 }

@@ -9,17 +9,17 @@ use std::alloc::Global;
 
 /// A code, and octets.
 #[derive(Debug, Drop)]
-pub(crate) struct Told {
+pub(crate) struct CodeAndOctets {
     pub(crate) code: ZoneCode,
     pub(crate) octets: Vec<u8>,
 }
 
-impl Told {
+impl CodeAndOctets {
     /// A code alone.
     pub(crate) fn only(alloc: Global, code: ZoneCode) -> Self
         ensures { told_seen result ≡ only code }
     {
-        Told {
+        CodeAndOctets {
             code,
             octets: Vec::new(alloc),
         }
@@ -38,7 +38,7 @@ pub(crate) fn put(octets: &[u8], out: &mut [u8]) -> bool
 }
 
 /// Hands out what is told, where there is room for it.
-pub(crate) fn hand_out(told: &Told, out: &mut [u8], report: &mut ZoneReport) -> ZoneCode
+pub(crate) fn hand_out(told: &CodeAndOctets, out: &mut [u8], report: &mut ZoneReport) -> ZoneCode
     ensures { IsHandedOut (told_seen told.now) out.old out.new report.new result }
 {
     *report = ZoneReport::of(told.octets.len());

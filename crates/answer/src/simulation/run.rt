@@ -7,7 +7,7 @@ ghost use Rattle.messages.specs.HandedRr.{handed_of};
 ghost use Rattle.messages.specs.Questions.{asked_of};
 ghost use Rattle.messages.specs.WrittenLaws.{IsQuestion};
 ghost use Rattle.answer.specs.Running.{sofar_in, world_in, Serves};
-ghost use Rattle.answer_laws.specs.Simulating.{handing, JudgesThings, JudgesBytes, Replaces};
+ghost use Rattle.answer_laws.specs.Simulating.{judge_input, JudgesThings, JudgesBytes, Replaces};
 
 use crate::simulation::copies::copy_records;
 use crate::simulation::results::{Results, Thing};
@@ -191,7 +191,7 @@ impl<'a, S: Scheme, H: Nsec3Hasher> Run<'a, S, H> {
                 Some(Thing::OfParent(ds)),
                 Some(Thing::OfKeys(keys)),
                 Some(Thing::OfZone(question, octets)),
-            ) => { Outcome::Judged(self.judged(ds, keys, octets, question, at)) }
+            ) => { Outcome::Judged(self.judgement_of(ds, keys, octets, question, at)) }
             _ => Outcome::BadPlace,
         }
     }
@@ -216,14 +216,14 @@ impl<'a, S: Scheme, H: Nsec3Hasher> Run<'a, S, H> {
         question.keeps();
         match self.results.thing(ds) {
             Some(Thing::OfParent(ds)) => {
-                Outcome::Judged(self.judged(ds, dnskey_bytes, answer_bytes, question, at))
+                Outcome::Judged(self.judgement_of(ds, dnskey_bytes, answer_bytes, question, at))
             }
             _ => Outcome::BadPlace,
         }
     }
 
     /// What the judge says of things at a moment.
-    fn judged(
+    fn judgement_of(
         &self,
         ds: &[Ds<Vec<u8>>],
         dnskey_bytes: &[u8],
@@ -234,7 +234,7 @@ impl<'a, S: Scheme, H: Nsec3Hasher> Run<'a, S, H> {
         requires { self.now.limit ≡ self.now.publisher.zone.limit }
         ensures { let w = world_in S.signature_of S.verifies S.digest_of H.hash_of self.now in
             let asked = asked_of question.now in
-            let h = handing w ds.now dnskey_bytes.now answer_bytes.now asked at.now in
+            let h = judge_input w ds.now dnskey_bytes.now answer_bytes.now asked at.now in
             JudgesSo pointer_limit w.answers h result }
     {
         let case = Case {

@@ -16,13 +16,13 @@ ghost use Rattle.answer_shared.specs.EqualTags.{has_equal_tags};
 
 use crate::case::Case;
 use answer_judge_facts::facts::{Proof, read_facts};
-use answer_judge_facts::signed_keys::are_verified;
+use answer_judge_facts::key_rrset::are_verified;
+use answer_judge_keys::check_run::CheckRun;
 use answer_judge_keys::keys::{
     TaggedKey, has_equal_tags, ranked_keys, read_keys, trusted_keys, usable_keys,
 };
 use answer_judge_keys::trust::Trust;
 use answer_judge_keys::verdict::Refusal;
-use answer_judge_keys::verifier::Verifier;
 use answer_scheme::checks::Checks;
 use messages::ViewRecord;
 use messages::names::ZoneName;
@@ -57,48 +57,48 @@ pub(crate) fn read_unlike_keys<'a>(
 ///
 /// Keys that nothing at the parent vouches for are those of whoever sent the answer (RFC 4035,
 /// 5.2).
-pub(crate) fn signed_keys<'a, C: Checks>(
+pub(crate) fn keys_that_may_sign<'a, C: Checks>(
     case: &Case,
     records: &[ViewRecord],
     keys: Vec<TaggedKey<'a>>,
-    verifier: &mut Verifier<C>,
+    check_run: &mut CheckRun<C>,
     seconds: &mut u32,
 ) -> Result<Vec<TaggedKey<'a>>, Refusal>
-    requires none_yet { verifier.old.count ≡ 0 }
+    requires none_yet { check_run.old.count ≡ 0 }
     requires room { length records.now < 2 ^ 32 }
     ensures usable { IfOk result (λ ks. ks.items ≡ filter is_usable keys.entry.items) }
-    ensures signed { EachAgreeing (C.answers verifier.old.checks.now)
-        (C.agrees verifier.new.checks.now) (λ a. let rs = map spelled records.now in
-        let count = verifier.new.count in
+    ensures signed { EachAgreeing (C.answers check_run.old.checks.now)
+        (C.agrees check_run.new.checks.now) (λ a. let rs = map spelled records.now in
+        let count = check_run.new.count in
         IfOk result (λ _. FindsSigned a pointer_limit case.now rs keys.entry.items count)) }
-    ensures unsigned { EachAgreeing (C.answers verifier.old.checks.now)
-        (C.agrees verifier.new.checks.now) (λ a. let rs = map spelled records.now in
-        let count = verifier.new.count in
+    ensures unsigned { EachAgreeing (C.answers check_run.old.checks.now)
+        (C.agrees check_run.new.checks.now) (λ a. let rs = map spelled records.now in
+        let count = check_run.new.count in
         IfErr result (λ e. FindsUnsigned a pointer_limit case.now rs keys.entry.items count e)) }
-    ensures lasts { EachAgreeing (C.answers verifier.old.checks.now)
-        (C.agrees verifier.new.checks.now) (λ a. let h = case.now in
+    ensures lasts { EachAgreeing (C.answers check_run.old.checks.now)
+        (C.agrees check_run.new.checks.now) (λ a. let h = case.now in
         let ks = keys.entry.items in let w = trusting_named a h ks in
         let all = key_seconds w pointer_limit h.dnskey_bytes (map spelled records.now) ks in
         IfOk result (λ _. seconds.new ≡ least_of all)) }
-    ensures agrees { (test : SignatureTest) → C.agrees verifier.new.checks.now test
-        → C.agrees verifier.old.checks.now test }
-    ensures asked { (test : SignatureTest) → let a = C.answers verifier.old.checks.now in
+    ensures agrees { (test : SignatureTest) → C.agrees check_run.new.checks.now test
+        → C.agrees check_run.old.checks.now test }
+    ensures asked { (test : SignatureTest) → let a = C.answers check_run.old.checks.now in
         let h = case.now in let ks = keys.entry.items in let rs = map spelled records.now in
         let w = trusting_named a h ks in let sought = keys_sought h.apex ks in
         Implies (is_tried_among w pointer_limit h.dnskey_bytes sought [] rs) test
-        → C.asked_only verifier.old.checks.now test → C.asked_only verifier.new.checks.now test }
-    ensures counted { C.verified verifier.new.checks.now
-        ≡ C.verified verifier.old.checks.now + verifier.new.count }
+        → C.asked_only check_run.old.checks.now test → C.asked_only check_run.new.checks.now test }
+    ensures counted { C.verified check_run.new.checks.now
+        ≡ C.verified check_run.old.checks.now + check_run.new.count }
     ensures bound { let rs = map spelled records.now in
-        verifier.new.count ≤ length (filter is_signature rs) }
-    ensures few { verifier.new.count ≤ length records.now }
-    ensures hashed { C.hashed verifier.new.checks.now ≡ C.hashed verifier.old.checks.now }
-    ensures same { C.answers verifier.new.checks.now ≡ C.answers verifier.old.checks.now }
-    ensures same_checks { verifier.new.checks.ghost_name ≡ verifier.old.checks.ghost_name }
+        check_run.new.count ≤ length (filter is_signature rs) }
+    ensures few { check_run.new.count ≤ length records.now }
+    ensures hashed { C.hashed check_run.new.checks.now ≡ C.hashed check_run.old.checks.now }
+    ensures same { C.answers check_run.new.checks.now ≡ C.answers check_run.old.checks.now }
+    ensures same_checks { check_run.new.checks.ghost_name ≡ check_run.old.checks.ghost_name }
 {
-    verifier.octets.reserve(512)?;
-    let trusted = trusted_keys(case.apex, case.ds, &keys, verifier)?;
-    let by_tag = ranked_keys(verifier.alloc, &trusted)?;
+    check_run.octets.reserve(512)?;
+    let trusted = trusted_keys(case.apex, case.ds, &keys, check_run)?;
+    let by_tag = ranked_keys(check_run.alloc, &trusted)?;
     let trust = Trust {
         apex: case.apex,
         depth: case.apex.depth(),
@@ -106,7 +106,7 @@ pub(crate) fn signed_keys<'a, C: Checks>(
         ranked: &by_tag,
         moment: case.moment.timestamp(),
     };
-    if !are_verified(case.dnskey, records, &keys, &trust, verifier, seconds)? {
+    if !are_verified(case.dnskey, records, &keys, &trust, check_run, seconds)? {
         return Err(Refusal::NoTrustedKey);
     }
     Ok(usable_keys(keys))
@@ -117,38 +117,38 @@ pub(crate) fn read_proof<'a, C: Checks>(
     case: &Case<'a>,
     records: &[ViewRecord<'a>],
     keys: &'a [TaggedKey<'a>],
-    verifier: &mut Verifier<C>,
+    check_run: &mut CheckRun<C>,
 ) -> Result<Proof<'a>, AllocError>
-    requires room { verifier.old.count + length records.now < 2 ^ 32 }
+    requires room { check_run.old.count + length records.now < 2 ^ 32 }
     requires other { (case.now.asked.rtype == 47) ≡ false }
     requires other_too { (case.now.asked.rtype == 50) ≡ false }
-    ensures proves { EachAgreeing (C.answers verifier.old.checks.now)
-        (C.agrees verifier.new.checks.now) (λ a. let h = case.now in
+    ensures proves { EachAgreeing (C.answers check_run.old.checks.now)
+        (C.agrees check_run.new.checks.now) (λ a. let h = case.now in
         let w = trusting a h keys.now in let rs = map spelled records.now in
         let m = h.answer_bytes in let q = h.asked.name in let t = h.asked.rtype in
         IfOk result (λ p. IsVerifiedProof w pointer_limit m rs q t p
-        verifier.old.count verifier.new.count)) }
-    ensures lasts { EachAgreeing (C.answers verifier.old.checks.now)
-        (C.agrees verifier.new.checks.now) (λ a. let h = case.now in
+        check_run.old.count check_run.new.count)) }
+    ensures lasts { EachAgreeing (C.answers check_run.old.checks.now)
+        (C.agrees check_run.new.checks.now) (λ a. let h = case.now in
         let w = trusting a h keys.now in let rs = map spelled records.now in
         let m = h.answer_bytes in let q = h.asked.name in let t = h.asked.rtype in
         IfOk result (λ p. p.lasting ≡ answer_lasting w pointer_limit m rs q t)) }
-    ensures agrees { (test : SignatureTest) → C.agrees verifier.new.checks.now test
-        → C.agrees verifier.old.checks.now test }
-    ensures asked { (test : SignatureTest) → let a = C.answers verifier.old.checks.now in
+    ensures agrees { (test : SignatureTest) → C.agrees check_run.new.checks.now test
+        → C.agrees check_run.old.checks.now test }
+    ensures asked { (test : SignatureTest) → let a = C.answers check_run.old.checks.now in
         let h = case.now in let m = h.answer_bytes in let rs = map spelled records.now in
         let sought = answer_sought pointer_limit m h.apex rs h.asked.name h.asked.rtype in
         Implies (is_tried_among (trusting a h keys.now) pointer_limit m sought [] rs) test
-        → C.asked_only verifier.old.checks.now test → C.asked_only verifier.new.checks.now test }
-    ensures counted { C.verified verifier.new.checks.now + verifier.old.count
-        ≡ C.verified verifier.old.checks.now + verifier.new.count }
+        → C.asked_only check_run.old.checks.now test → C.asked_only check_run.new.checks.now test }
+    ensures counted { C.verified check_run.new.checks.now + check_run.old.count
+        ≡ C.verified check_run.old.checks.now + check_run.new.count }
     ensures bound { let rs = map spelled records.now in
-        verifier.new.count ≤ verifier.old.count + length (filter is_signature rs) }
-    ensures hashed { C.hashed verifier.new.checks.now ≡ C.hashed verifier.old.checks.now }
-    ensures same { C.answers verifier.new.checks.now ≡ C.answers verifier.old.checks.now }
-    ensures same_checks { verifier.new.checks.ghost_name ≡ verifier.old.checks.ghost_name }
+        check_run.new.count ≤ check_run.old.count + length (filter is_signature rs) }
+    ensures hashed { C.hashed check_run.new.checks.now ≡ C.hashed check_run.old.checks.now }
+    ensures same { C.answers check_run.new.checks.now ≡ C.answers check_run.old.checks.now }
+    ensures same_checks { check_run.new.checks.ghost_name ≡ check_run.old.checks.ghost_name }
 {
-    let by_tag = ranked_keys(verifier.alloc, keys)?;
+    let by_tag = ranked_keys(check_run.alloc, keys)?;
     let trust = Trust {
         apex: case.apex,
         depth: case.apex.depth(),
@@ -163,6 +163,6 @@ pub(crate) fn read_proof<'a, C: Checks>(
         &trust,
         &question.name,
         question.rtype,
-        verifier,
+        check_run,
     )
 }

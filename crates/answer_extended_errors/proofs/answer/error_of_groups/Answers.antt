@@ -9,14 +9,14 @@ use Rattle.answer_extended_errors.proofs.answer.error_of_groups.Goals as goal
 
 pub returns-then-is_empty-clause-exact : goal.returns-then-is_empty-clause-exact
 returns-then-is_empty-clause-exact g c = λ test fits.
-    let w = held_by (with_test (g.C.Checks.answers c.args.verifier.now.checks.now) test) c.args.trust.now in
+    let w = held_by (with_test (g.C.Checks.answers c.args.check_run.now.checks.now) test) c.args.trust.now in
     let gs = c.args.groups.now in
     let none : (length gs == 0) ≡ true = search rules in
     none_gathered w c.args.message.now gs (map spelled c.args.records.now) none
 
 pub returns-in-Some-clause-exact : goal.returns-in-Some-clause-exact
 returns-in-Some-clause-exact g c = λ test fits.
-    let w = held_by (with_test (g.C.Checks.answers c.args.verifier.now.checks.now) test) c.args.trust.now in
+    let w = held_by (with_test (g.C.Checks.answers c.args.check_run.now.checks.now) test) c.args.trust.now in
     let gs = c.args.groups.now in
     let some : (length gs == 0) ≡ false = search rules in
     let is = c.in-Some.ensures ∙ ap (λ vs. untimely w.now (map fields_of vs)) c.deref.ensures.value ∙ ap (untimely w.now) c.in_ok-signatures.ensures in
@@ -24,7 +24,7 @@ returns-in-Some-clause-exact g c = λ test fits.
 
 pub returns-then-is_one_verified-clause-exact : goal.returns-then-is_one_verified-clause-exact
 returns-then-is_one_verified-clause-exact g c = λ test fits.
-    let w = held_by (with_test (g.C.Checks.answers c.args.verifier.now.checks.now) test) c.args.trust.now in
+    let w = held_by (with_test (g.C.Checks.answers c.args.check_run.now.checks.now) test) c.args.trust.now in
     let gs = c.args.groups.now in
     let some : (length gs == 0) ≡ false = search rules in
     let is = c.in_default.ensures ∙ ap (λ vs. untimely w.now (map fields_of vs)) c.deref.ensures.value ∙ ap (untimely w.now) c.in_ok-signatures.ensures in
@@ -32,7 +32,7 @@ returns-then-is_one_verified-clause-exact g c = λ test fits.
 
 pub returns-clause-exact : goal.returns-clause-exact
 returns-clause-exact g c = λ test fits.
-    let w = held_by (with_test (g.C.Checks.answers c.args.verifier.now.checks.now) test) c.args.trust.now in
+    let w = held_by (with_test (g.C.Checks.answers c.args.check_run.now.checks.now) test) c.args.trust.now in
     let gs = c.args.groups.now in
     let some : (length gs == 0) ≡ false = search rules in
     let is = c.in_default.ensures ∙ ap (λ vs. untimely w.now (map fields_of vs)) c.deref.ensures.value ∙ ap (untimely w.now) c.in_ok-signatures.ensures in

@@ -36,7 +36,7 @@ error_of_groups-requires-2-clause-ranked g c =
 
 pub returns-then-is_empty-clause-exact : goal.returns-then-is_empty-clause-exact
 returns-then-is_empty-clause-exact g c = λ test fits.
-    let w = held_by (with_test (g.C.Checks.answers c.args.verifier.now.checks.now) test) c.args.trust.now in
+    let w = held_by (with_test (g.C.Checks.answers c.args.check_run.now.checks.now) test) c.args.trust.now in
     let m = c.args.message.now in
     let rs = map spelled c.args.records.now in
     let q = asked_of c.args.question.now in
@@ -52,7 +52,7 @@ returns-then-is_empty-clause-exact g c = λ test fits.
 
 pub returns-clause-exact : goal.returns-clause-exact
 returns-clause-exact g c = λ test fits.
-    let w = held_by (with_test (g.C.Checks.answers c.args.verifier.now.checks.now) test) c.args.trust.now in
+    let w = held_by (with_test (g.C.Checks.answers c.args.check_run.now.checks.now) test) c.args.trust.now in
     let m = c.args.message.now in
     let rs = map spelled c.args.records.now in
     let q = asked_of c.args.question.now in

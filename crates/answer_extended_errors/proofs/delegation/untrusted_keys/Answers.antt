@@ -21,7 +21,7 @@ signatures_over-requires g c =
 
 pub returns-clause-exact : goal.returns-clause-exact
 returns-clause-exact g c =
-    let a = g.C.Checks.answers c.args.verifier.now.checks.now in
+    let a = g.C.Checks.answers c.args.check_run.now.checks.now in
     let apex = c.args.apex.now in
     let ds = c.args.ds.now in
     let m = c.args.message.now in

@@ -3,7 +3,7 @@ use Rattle.std.specs.Prelude.{IfOk, IfSome, None, Some}
 use Rattle.definitions.specs.Limits.{pointer_limit}
 use Rattle.messages.specs.Record.{spelled}
 use Rattle.answer_scheme.specs.Answers.{with_test}
-use Rattle.answer_judge_keys.specs.Judging.{Handing, keys_in, signatures_in}
+use Rattle.answer_judge_keys.specs.Judging.{JudgeInput, keys_in, signatures_in}
 use Rattle.answer_judge_keys.specs.KeyOrder.{Ranks}
 use Rattle.answer_judge_keys.specs.Trusted.{is_signature, is_usable}
 use Rattle.answer_judge_facts.specs.Verified.{Trusting}
@@ -13,20 +13,20 @@ use Rattle.answer_extended_errors.proofs.refused.unproven.Goals as goal
 
 pub returns-in_default-clause-exact : goal.returns-in_default-clause-exact
 returns-in_default-clause-exact g c = λ test fits.
-    let a = with_test (g.C.Checks.answers c.args.verifier.now.checks.now) test in
+    let a = with_test (g.C.Checks.answers c.args.check_run.now.checks.now) test in
     let h = c.args.case.now in
     let is = c.case.view_is in
-    let none : None ≡ records_in pointer_limit h.dnskey_bytes = rw c.in_default.is at c.in_ok-key_records.ensures.exact ∙ ap (λ (h : Handing). records_in pointer_limit h.dnskey_bytes) is in
+    let none : None ≡ records_in pointer_limit h.dnskey_bytes = rw c.in_default.is at c.in_ok-key_records.ensures.exact ∙ ap (λ (h : JudgeInput). records_in pointer_limit h.dnskey_bytes) is in
     no_keys a pointer_limit h none
 
 pub returns-in_default-2-clause-exact : goal.returns-in_default-2-clause-exact
 returns-in_default-2-clause-exact g c = λ test fits.
-    let a = with_test (g.C.Checks.answers c.args.verifier.now.checks.now) test in
+    let a = with_test (g.C.Checks.answers c.args.check_run.now.checks.now) test in
     let h = c.args.case.now in
     let is = c.case.view_is in
     let keys = map spelled c.in-Some.key_records.items in
-    let first : Some keys ≡ records_in pointer_limit h.dnskey_bytes = rw c.in-Some.is at c.in_ok-key_records.ensures.exact ∙ ap (λ (h : Handing). records_in pointer_limit h.dnskey_bytes) is in
-    let none : None ≡ records_in pointer_limit h.answer_bytes = rw c.in_default-2.is at c.in_ok-records.ensures.exact ∙ ap (λ (h : Handing). records_in pointer_limit h.answer_bytes) is in
+    let first : Some keys ≡ records_in pointer_limit h.dnskey_bytes = rw c.in-Some.is at c.in_ok-key_records.ensures.exact ∙ ap (λ (h : JudgeInput). records_in pointer_limit h.dnskey_bytes) is in
+    let none : None ≡ records_in pointer_limit h.answer_bytes = rw c.in_default-2.is at c.in_ok-records.ensures.exact ∙ ap (λ (h : JudgeInput). records_in pointer_limit h.answer_bytes) is in
     no_answer a pointer_limit h keys first none
 
 pub unproven_under-requires-clause-index : goal.unproven_under-requires-clause-index
@@ -41,14 +41,14 @@ unproven_under-requires-clause-room g c =
 
 pub returns-clause-exact : goal.returns-clause-exact
 returns-clause-exact g c = λ test fits.
-    let a = with_test (g.C.Checks.answers c.args.verifier.now.checks.now) test in
+    let a = with_test (g.C.Checks.answers c.args.check_run.now.checks.now) test in
     let h = c.args.case.now in
     let is = c.case.view_is in
-    let moment = c.timestamp.ensures ∙ ap (λ (h : Handing). h.now) is in
+    let moment = c.timestamp.ensures ∙ ap (λ (h : JudgeInput). h.now) is in
     let keys = map spelled c.in-Some.key_records.items in
     let rs = map spelled c.in-Some-2.records.items in
-    let first : Some keys ≡ records_in pointer_limit h.dnskey_bytes = rw c.in-Some.is at c.in_ok-key_records.ensures.exact ∙ ap (λ (h : Handing). records_in pointer_limit h.dnskey_bytes) is in
-    let second : Some rs ≡ records_in pointer_limit h.answer_bytes = rw c.in-Some-2.is at c.in_ok-records.ensures.exact ∙ ap (λ (h : Handing). records_in pointer_limit h.answer_bytes) is in
+    let first : Some keys ≡ records_in pointer_limit h.dnskey_bytes = rw c.in-Some.is at c.in_ok-key_records.ensures.exact ∙ ap (λ (h : JudgeInput). records_in pointer_limit h.dnskey_bytes) is in
+    let second : Some rs ≡ records_in pointer_limit h.answer_bytes = rw c.in-Some-2.is at c.in_ok-records.ensures.exact ∙ ap (λ (h : JudgeInput). records_in pointer_limit h.answer_bytes) is in
     let spelled_keys : c.in_ok-read_keys.field-0.items ≡ keys_in h.dnskey_bytes h.apex keys = c.in_ok-read_keys.ensures ∙ (λ i. keys_in (is i).dnskey_bytes (is i).apex (map spelled (c.deref.ensures.value i))) in
     let usable = c.deref-3.ensures.value ∙ c.usable_keys-keys.ensures ∙ ap (filter is_usable) spelled_keys in
     let whole = ap (map spelled) c.deref-5.ensures.value in
@@ -60,7 +60,7 @@ returns-clause-bound g c =
     let h = c.args.case.now in
     let is = c.case.view_is in
     let rs = map spelled c.in-Some-2.records.items in
-    let second : Some rs ≡ records_in pointer_limit h.answer_bytes = rw c.in-Some-2.is at c.in_ok-records.ensures.exact ∙ ap (λ (h : Handing). records_in pointer_limit h.answer_bytes) is in
+    let second : Some rs ≡ records_in pointer_limit h.answer_bytes = rw c.in-Some-2.is at c.in_ok-records.ensures.exact ∙ ap (λ (h : JudgeInput). records_in pointer_limit h.answer_bytes) is in
     omega (
       arith,
       c.requires,

@@ -10,8 +10,8 @@ use Rattle.answer_judge.specs.Beyond.{SaysBeyond}
 use Rattle.answer_judge.specs.Stages.{FindsUnsigned}
 use Rattle.answer_scheme.specs.Answers.{Answers, with_test}
 use Rattle.answer_judge_facts.specs.Counted.{hashes_beyond, hashes_of_proof, tries}
-use Rattle.answer_judge_facts.specs.Judged.{AnswersAs, is_chained, judged_beyond, judged_proof, said, trusting}
-use Rattle.answer_judge_keys.specs.Judging.{Handing, IsRead, Refuses, RefusesFirst, keys_in, message_refusal}
+use Rattle.answer_judge_facts.specs.Judged.{AnswersAs, ds_authenticates_keys, judged_beyond, judged_proof, said, trusting}
+use Rattle.answer_judge_keys.specs.Judging.{JudgeInput, IsRead, Refuses, RefusesFirst, keys_in, message_refusal}
 use Rattle.answer_judge_facts.specs.Lasting.{answer_lasting}
 use Rattle.answer_judge_facts.specs.Sought.{answer_sought}
 use Rattle.answer_judge_facts.specs.Times.{are_unlike, proof_times}
@@ -32,18 +32,18 @@ read_proof-requires-clause-room g c = omega (
   arith,
   c.requires.counts,
   c.in_ok-messages.ensures.few,
-  c.signed_keys.ensures.few,
+  c.keys_that_may_sign.ensures.few,
   same_count c.in_ok-messages.messages.key_records.items c.in_ok-messages.messages.keys.records c.in_ok-messages.ensures.key_records,
   same_count c.in_ok-messages.messages.answer_records.items c.in_ok-messages.messages.answer.records c.in_ok-messages.ensures.answer_records,
 )
 
 -- what is said where the keys aren't signed: their signatures alone were tried, and no name was hashed
-module _ (a : Answers) (h : Handing) (keys answer : Message) (rs : List Spelled) (ks : List Dnskey) (count hashes : ℕ) (both : BothRead h keys answer rs ks) (zero : hashes ≡ 0) where
+module _ (a : Answers) (h : JudgeInput) (keys answer : Message) (rs : List Spelled) (ks : List Dnskey) (count hashes : ℕ) (both : BothRead h keys answer rs ks) (zero : hashes ≡ 0) where
   unsigned_says : (r : Refusal) → FindsUnsigned a pointer_limit h rs ks count r → SaysBeyond a pointer_limit h (Refuses r) count hashes
   unsigned_says r found = ⊎_elim
       (λ m. let lost = ap Refuses m in (inl lost, inl lost, inl lost))
       (λ u.
-      let chain : false ≡ is_chained a pointer_limit h keys = sym u.1 ∙ chained_as a h keys rs ks both.records_are both.keys_are in (
+      let chain : false ≡ ds_authenticates_keys a pointer_limit h keys = sym u.1 ∙ chained_as a h keys rs ks both.records_are both.keys_are in (
         subst (λ x. AnswersAs (Refuses x) (judged_beyond a pointer_limit h)) (sym u.0) (untrusted a h keys answer (beyond a pointer_limit h keys answer both.dnskey both.zone both.none) chain),
         inr (keys_alone a h keys answer count both.none both.dnskey both.zone chain (u.2 ∙ key_tries_as a h keys rs ks both.records_are both.keys_are)),
         inr (zero ∙ sym (none_hashed a h keys answer both.none both.dnskey both.zone chain)),
@@ -58,8 +58,8 @@ module _ (a : Answers) (h : Handing) (keys answer : Message) (rs : List Spelled)
 
 pub returns-in_err-usable-clause-says : goal.returns-in_err-usable-clause-says
 returns-in_err-usable-clause-says g c = λ test fits.
-    let a = with_test (g.C.Checks.answers c.args.verifier.now.checks.now) test in
-    let h : Handing = c.args.case.now in
+    let a = with_test (g.C.Checks.answers c.args.check_run.now.checks.now) test in
+    let h : JudgeInput = c.args.case.now in
     let reads = c.in_ok-messages.ensures in
     let keys = c.in_ok-messages.messages.keys in
     let answer = c.in_ok-messages.messages.answer in
@@ -68,7 +68,7 @@ returns-in_err-usable-clause-says g c = λ test fits.
     let whole = ap (map spelled) c.deref-2.ensures.value ∙ reads.key_records in
     let are = c.in_ok-keys.ensures.keys ∙ ap (λ vs. keys_in h.dnskey_bytes h.apex (map spelled vs)) (c.deref.ensures.value ∙ sym c.deref-2.ensures.value) in
     let both : BothRead h keys answer rs ks = both_read h keys answer rs ks reads.keys reads.answer reads.asks_keys reads.asks_answer whole are c.in_ok-keys.ensures.unlike in
-    let count = c.signed_keys.new.verifier.count in
+    let count = c.keys_that_may_sign.new.check_run.count in
     let from = err_from_is_err_and c.from_residual-in_err-usable.result c.from_residual-in_err-usable.ensures.1 in
     let found = subst (FindsUnsigned a pointer_limit h rs ks count) (sym from.2) (c.in_err-usable.ensures.unsigned test fits) in
     subst (λ r. SaysBeyond a pointer_limit h (said r) count c.args.hashes.now) (sym from.1)
@@ -76,9 +76,9 @@ returns-in_err-usable-clause-says g c = λ test fits.
 
 pub returns-in_err-usable-clause-refusal : goal.returns-in_err-usable-clause-refusal
 returns-in_err-usable-clause-refusal g c =
-    let own = g.C.Checks.answers c.args.verifier.now.checks.now in
+    let own = g.C.Checks.answers c.args.check_run.now.checks.now in
     let a = with_test own own.verifies in
-    let h : Handing = c.args.case.now in
+    let h : JudgeInput = c.args.case.now in
     let reads = c.in_ok-messages.ensures in
     let keys = c.in_ok-messages.messages.keys in
     let answer = c.in_ok-messages.messages.answer in
@@ -87,7 +87,7 @@ returns-in_err-usable-clause-refusal g c =
     let whole = ap (map spelled) c.deref-2.ensures.value ∙ reads.key_records in
     let are = c.in_ok-keys.ensures.keys ∙ ap (λ vs. keys_in h.dnskey_bytes h.apex (map spelled vs)) (c.deref.ensures.value ∙ sym c.deref-2.ensures.value) in
     let both : BothRead h keys answer rs ks = both_read h keys answer rs ks reads.keys reads.answer reads.asks_keys reads.asks_answer whole are c.in_ok-keys.ensures.unlike in
-    let count = c.signed_keys.new.verifier.count in
+    let count = c.keys_that_may_sign.new.check_run.count in
     let from = err_from_is_err_and c.from_residual-in_err-usable.result c.from_residual-in_err-usable.ensures.1 in
     let found = subst (FindsUnsigned a pointer_limit h rs ks count) (sym from.2) (c.in_err-usable.ensures.unsigned own.verifies (inl refl)) in
     subst (λ r. IfErr r (λ e. RefusesFirst e (message_refusal pointer_limit h))) (sym from.1)
@@ -96,9 +96,9 @@ returns-in_err-usable-clause-refusal g c =
 -- they are: what verifies of the answer decides
 pub returns-clause-says : goal.returns-clause-says
 returns-clause-says g c = λ test fits.
-    let own = g.C.Checks.answers c.args.verifier.now.checks.now in
+    let own = g.C.Checks.answers c.args.check_run.now.checks.now in
     let a = with_test own test in
-    let h : Handing = c.args.case.now in
+    let h : JudgeInput = c.args.case.now in
     let reads = c.in_ok-messages.ensures in
     let keys = c.in_ok-messages.messages.keys in
     let answer = c.in_ok-messages.messages.answer in
@@ -125,21 +125,21 @@ returns-clause-says g c = λ test fits.
     let read = proved.0 ∙ ap (λ x. verified_facts (trusting x h held) pointer_limit h.answer_bytes read_rs h.asked.name h.asked.rtype) later in
     let timed = proved.1 ∙ ap (λ x. are_unlike (proof_times (trusting x h held) pointer_limit h.answer_bytes read_rs h.asked.name h.asked.rtype)) later in
     let sought = answer_sought pointer_limit h.answer_bytes h.apex read_rs h.asked.name h.asked.rtype in
-    let more = proved.2 ∙ ap (λ x. c.signed_keys.new.verifier.count + tries (trusting x h held) pointer_limit h.answer_bytes sought [] read_rs) later in
+    let more = proved.2 ∙ ap (λ x. c.keys_that_may_sign.new.check_run.count + tries (trusting x h held) pointer_limit h.answer_bytes sought [] read_rs) later in
     let all = decided_as a h keys answer held read_rs facts unlike_times (beyond a pointer_limit h keys answer both.dnskey both.zone both.none) chain usable all_read read timed in
     let due = facts_hashed a h keys answer held read_rs facts unlike_times both.none both.dnskey both.zone chain usable all_read read timed in
     let last = c.in_ok-proof.ensures.same ∙ later_own in (
       subst (AnswersAs (said c.judge_proof.result)) (ap (λ v. judged_proof v h facts unlike_times) last ∙ all) c.judge_proof.ensures.exact,
-      inr (keys_and_answer a h keys answer held read_rs c.signed_keys.new.verifier.count c.read_proof.new.verifier.count both.none both.dnskey both.zone chain first usable all_read more),
-      counts_as (said c.judge_proof.result) c.judge_proof.new.hashes (hashes_of_proof (g.C.Checks.answers c.read_proof.new.verifier.checks.now) h facts unlike_times) (hashes_beyond a pointer_limit h)
+      inr (keys_and_answer a h keys answer held read_rs c.keys_that_may_sign.new.check_run.count c.read_proof.new.check_run.count both.none both.dnskey both.zone chain first usable all_read more),
+      counts_as (said c.judge_proof.result) c.judge_proof.new.hashes (hashes_of_proof (g.C.Checks.answers c.read_proof.new.check_run.checks.now) h facts unlike_times) (hashes_beyond a pointer_limit h)
           (ap (λ v. hashes_of_proof v h facts unlike_times) last ∙ due) c.judge_proof.ensures.hash_counts,
     )
 
 -- whatever memory is left for that
 pub returns-clause-decided : goal.returns-clause-decided
 returns-clause-decided g c =
-    let own = g.C.Checks.answers c.args.verifier.now.checks.now in
-    let h : Handing = c.args.case.now in
+    let own = g.C.Checks.answers c.args.check_run.now.checks.now in
+    let h : JudgeInput = c.args.case.now in
     let reads = c.in_ok-messages.ensures in
     let keys = c.in_ok-messages.messages.keys in
     let answer = c.in_ok-messages.messages.answer in
@@ -175,20 +175,20 @@ returns-clause-decided g c =
           let proved = c.in_ok-proof.ensures.proves test second in
           let read = proved.0 ∙ ap (λ x. verified_facts (trusting x h held) pointer_limit h.answer_bytes read_rs h.asked.name h.asked.rtype) later in
           let timed = proved.1 ∙ ap (λ x. are_unlike (proof_times (trusting x h held) pointer_limit h.answer_bytes read_rs h.asked.name h.asked.rtype)) later in
-          let more = proved.2 ∙ ap (λ x. c.signed_keys.new.verifier.count + tries (trusting x h held) pointer_limit h.answer_bytes sought [] read_rs) later in
+          let more = proved.2 ∙ ap (λ x. c.keys_that_may_sign.new.check_run.count + tries (trusting x h held) pointer_limit h.answer_bytes sought [] read_rs) later in
           let all = decided_as a h keys answer held read_rs facts unlike_times (beyond a pointer_limit h keys answer both.dnskey both.zone both.none) chain usable all_read read timed in
           let due = facts_hashed a h keys answer held read_rs facts unlike_times both.none both.dnskey both.zone chain usable all_read read timed in (
             inr all,
-            inr (keys_and_answer a h keys answer held read_rs c.signed_keys.new.verifier.count c.read_proof.new.verifier.count both.none both.dnskey both.zone chain first usable all_read more),
+            inr (keys_and_answer a h keys answer held read_rs c.keys_that_may_sign.new.check_run.count c.read_proof.new.check_run.count both.none both.dnskey both.zone chain first usable all_read more),
             inr due,
           );
     })
 
 pub returns-clause-lasts : goal.returns-clause-lasts
 returns-clause-lasts g c = λ test fits.
-    let own = g.C.Checks.answers c.args.verifier.now.checks.now in
+    let own = g.C.Checks.answers c.args.check_run.now.checks.now in
     let a = with_test own test in
-    let h : Handing = c.args.case.now in
+    let h : JudgeInput = c.args.case.now in
     let reads = c.in_ok-messages.ensures in
     let keys = c.in_ok-messages.messages.keys in
     let answer = c.in_ok-messages.messages.answer in
@@ -207,14 +207,14 @@ returns-clause-lasts g c = λ test fits.
     let second = agreed_by own _ test _ later_own at_proof in
     let later = ap (λ x. with_test x test) later_own in
     let lasting = c.in_ok-proof.ensures.lasts test second ∙ ap (λ x. answer_lasting (trusting x h held) pointer_limit h.answer_bytes read_rs h.asked.name h.asked.rtype) later in
-    on_ok c.judge_proof.result _ (ap (λ (l : Lasting). Some l) c.shortened.ensures ∙ lasts_as a h keys answer rs ks both held usable read_rs all_read c.signed_keys.new.seconds c.in_ok-proof.proof.lasting (c.in_ok-usable.ensures.lasts test at_keys) lasting)
+    on_ok c.judge_proof.result _ (ap (λ (l : Lasting). Some l) c.shortened.ensures ∙ lasts_as a h keys answer rs ks both held usable read_rs all_read c.keys_that_may_sign.new.seconds c.in_ok-proof.proof.lasting (c.in_ok-usable.ensures.lasts test at_keys) lasting)
 
 -- ---- all that are verified are tried of the messages
 
 pub returns-in_err-usable-clause-asked : goal.returns-in_err-usable-clause-asked
 returns-in_err-usable-clause-asked g c = λ test implies before.
-    let own = g.C.Checks.answers c.args.verifier.now.checks.now in
-    let h : Handing = c.args.case.now in
+    let own = g.C.Checks.answers c.args.check_run.now.checks.now in
+    let h : JudgeInput = c.args.case.now in
     let reads = c.in_ok-messages.ensures in
     let keys = c.in_ok-messages.messages.keys in
     let answer = c.in_ok-messages.messages.answer in
@@ -223,12 +223,12 @@ returns-in_err-usable-clause-asked g c = λ test implies before.
     let whole = ap (map spelled) c.deref-2.ensures.value ∙ reads.key_records in
     let are = c.in_ok-keys.ensures.keys ∙ ap (λ vs. keys_in h.dnskey_bytes h.apex (map spelled vs)) (c.deref.ensures.value ∙ sym c.deref-2.ensures.value) in
     let both : BothRead h keys answer rs ks = both_read h keys answer rs ks reads.keys reads.answer reads.asks_keys reads.asks_answer whole are c.in_ok-keys.ensures.unlike in
-    c.signed_keys.ensures.asked test (keys_pass own h keys answer both.none both.dnskey both.zone test rs ks implies both.records_are both.keys_are) before
+    c.keys_that_may_sign.ensures.asked test (keys_pass own h keys answer both.none both.dnskey both.zone test rs ks implies both.records_are both.keys_are) before
 
 pub returns-in_err-proof-clause-asked : goal.returns-in_err-proof-clause-asked
 returns-in_err-proof-clause-asked g c = λ test implies before.
-    let own = g.C.Checks.answers c.args.verifier.now.checks.now in
-    let h : Handing = c.args.case.now in
+    let own = g.C.Checks.answers c.args.check_run.now.checks.now in
+    let h : JudgeInput = c.args.case.now in
     let reads = c.in_ok-messages.ensures in
     let keys = c.in_ok-messages.messages.keys in
     let answer = c.in_ok-messages.messages.answer in
@@ -237,7 +237,7 @@ returns-in_err-proof-clause-asked g c = λ test implies before.
     let whole = ap (map spelled) c.deref-2.ensures.value ∙ reads.key_records in
     let are = c.in_ok-keys.ensures.keys ∙ ap (λ vs. keys_in h.dnskey_bytes h.apex (map spelled vs)) (c.deref.ensures.value ∙ sym c.deref-2.ensures.value) in
     let both : BothRead h keys answer rs ks = both_read h keys answer rs ks reads.keys reads.answer reads.asks_keys reads.asks_answer whole are c.in_ok-keys.ensures.unlike in
-    let first = c.signed_keys.ensures.asked test (keys_pass own h keys answer both.none both.dnskey both.zone test rs ks implies both.records_are both.keys_are) before in
+    let first = c.keys_that_may_sign.ensures.asked test (keys_pass own h keys answer both.none both.dnskey both.zone test rs ks implies both.records_are both.keys_are) before in
     let found = c.in_ok-usable.ensures.signed own.verifies (inl refl) in
     let chain = sym found.0 ∙ chained_as own h keys rs ks both.records_are both.keys_are in
     let usable = c.deref-4.ensures.value ∙ usable_as h keys rs ks c.in_ok-usable.usable.items both.records_are both.keys_are c.in_ok-usable.ensures.usable in
@@ -247,8 +247,8 @@ returns-in_err-proof-clause-asked g c = λ test implies before.
 
 pub returns-clause-asked : goal.returns-clause-asked
 returns-clause-asked g c = λ test implies before.
-    let own = g.C.Checks.answers c.args.verifier.now.checks.now in
-    let h : Handing = c.args.case.now in
+    let own = g.C.Checks.answers c.args.check_run.now.checks.now in
+    let h : JudgeInput = c.args.case.now in
     let reads = c.in_ok-messages.ensures in
     let keys = c.in_ok-messages.messages.keys in
     let answer = c.in_ok-messages.messages.answer in
@@ -257,7 +257,7 @@ returns-clause-asked g c = λ test implies before.
     let whole = ap (map spelled) c.deref-2.ensures.value ∙ reads.key_records in
     let are = c.in_ok-keys.ensures.keys ∙ ap (λ vs. keys_in h.dnskey_bytes h.apex (map spelled vs)) (c.deref.ensures.value ∙ sym c.deref-2.ensures.value) in
     let both : BothRead h keys answer rs ks = both_read h keys answer rs ks reads.keys reads.answer reads.asks_keys reads.asks_answer whole are c.in_ok-keys.ensures.unlike in
-    let first = c.signed_keys.ensures.asked test (keys_pass own h keys answer both.none both.dnskey both.zone test rs ks implies both.records_are both.keys_are) before in
+    let first = c.keys_that_may_sign.ensures.asked test (keys_pass own h keys answer both.none both.dnskey both.zone test rs ks implies both.records_are both.keys_are) before in
     let found = c.in_ok-usable.ensures.signed own.verifies (inl refl) in
     let chain = sym found.0 ∙ chained_as own h keys rs ks both.records_are both.keys_are in
     let usable = c.deref-4.ensures.value ∙ usable_as h keys rs ks c.in_ok-usable.usable.items both.records_are both.keys_are c.in_ok-usable.ensures.usable in

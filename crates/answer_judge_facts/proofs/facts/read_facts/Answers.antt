@@ -35,7 +35,7 @@ verify_groups-requires-clause-ranked g c = subst AreRanked (sym c.deref_mut.ensu
 
 pub facts_of_groups-requires : goal.facts_of_groups-requires
 facts_of_groups-requires g c =
-    let own = g.C.Checks.answers c.args.verifier.now.checks.now in
+    let own = g.C.Checks.answers c.args.check_run.now.checks.now in
     let m = c.args.message.now in
     let rs = map spelled c.args.records.now in
     let old = c.in_ok-groups.groups in
@@ -46,7 +46,7 @@ facts_of_groups-requires g c =
 
 pub returns-clause-proves : goal.returns-clause-proves
 returns-clause-proves g c = λ test h.
-    let w = held_by (with_test (g.C.Checks.answers c.args.verifier.now.checks.now) test) c.args.trust.now in
+    let w = held_by (with_test (g.C.Checks.answers c.args.check_run.now.checks.now) test) c.args.trust.now in
     let m = c.args.message.now in
     let rs = map spelled c.args.records.now in
     let q = c.args.name.now in
@@ -60,12 +60,12 @@ returns-clause-proves g c = λ test h.
     let all = over now old.items old.len len ∙ c.in_ok-verify_groups.ensures.marked test h in (
       c.in_ok-facts.ensures (map (marked w m rs) last.chains) (marked w m rs last.asked) (all ∙ marked_last w m rs q t gs last) ∙ facts_verified w m rs q t gs last,
       c.are_unlike-has_unlike_times.ensures ∙ times_verified w m rs q t gs sought c.deref-2.result.now (c.deref-2.ensures.value ∙ all),
-      c.in_ok-verify_groups.ensures.tried test h ∙ ap (λ n. c.args.verifier.now.count + n) (tries_are w m (answer_sought pointer_limit m w.apex rs q t) gs rs sought),
+      c.in_ok-verify_groups.ensures.tried test h ∙ ap (λ n. c.args.check_run.now.count + n) (tries_are w m (answer_sought pointer_limit m w.apex rs q t) gs rs sought),
     )
 
 pub returns-clause-lasts : goal.returns-clause-lasts
 returns-clause-lasts g c = λ test h.
-    let w = held_by (with_test (g.C.Checks.answers c.args.verifier.now.checks.now) test) c.args.trust.now in
+    let w = held_by (with_test (g.C.Checks.answers c.args.check_run.now.checks.now) test) c.args.trust.now in
     let m = c.args.message.now in
     let rs = map spelled c.args.records.now in
     let q = c.args.name.now in
@@ -85,7 +85,7 @@ returns-clause-lasts g c = λ test h.
 
 pub lasting_of-lasting-requires : goal.lasting_of-lasting-requires
 lasting_of-lasting-requires g c =
-    let own = g.C.Checks.answers c.args.verifier.now.checks.now in
+    let own = g.C.Checks.answers c.args.check_run.now.checks.now in
     let m = c.args.message.now in
     let rs = map spelled c.args.records.now in
     let old = c.in_ok-groups.groups in
@@ -101,18 +101,18 @@ module _ (test : SignatureTest) (w : Trusting) (m : List ℕ) (rs : List Spelled
 
 pub returns-clause-asked : goal.returns-clause-asked
 returns-clause-asked g c = λ test passes.
-    let w = held_by (g.C.Checks.answers c.args.verifier.now.checks.now) c.args.trust.now in
+    let w = held_by (g.C.Checks.answers c.args.check_run.now.checks.now) c.args.trust.now in
     c.in_ok-verify_groups.ensures.asked test
     (groups_pass test w c.args.message.now (map spelled c.args.records.now) c.args.name.now c.args.rtype c.in_ok-groups.groups.items c.deref_mut.result.now c.deref_mut.ensures.value c.in_ok-groups.ensures passes)
 
 pub returns-in_err-verify_groups-clause-asked : goal.returns-in_err-verify_groups-clause-asked
 returns-in_err-verify_groups-clause-asked g c = λ test passes.
-    let w = held_by (g.C.Checks.answers c.args.verifier.now.checks.now) c.args.trust.now in
+    let w = held_by (g.C.Checks.answers c.args.check_run.now.checks.now) c.args.trust.now in
     c.verify_groups.ensures.asked test
     (groups_pass test w c.args.message.now (map spelled c.args.records.now) c.args.name.now c.args.rtype c.in_ok-groups.groups.items c.deref_mut.result.now c.deref_mut.ensures.value c.in_ok-groups.ensures passes)
 
 pub returns-in_err-facts-clause-asked : goal.returns-in_err-facts-clause-asked
 returns-in_err-facts-clause-asked g c = λ test passes.
-    let w = held_by (g.C.Checks.answers c.args.verifier.now.checks.now) c.args.trust.now in
+    let w = held_by (g.C.Checks.answers c.args.check_run.now.checks.now) c.args.trust.now in
     c.verify_groups.ensures.asked test
     (groups_pass test w c.args.message.now (map spelled c.args.records.now) c.args.name.now c.args.rtype c.in_ok-groups.groups.items c.deref_mut.result.now c.deref_mut.ensures.value c.in_ok-groups.ensures passes)

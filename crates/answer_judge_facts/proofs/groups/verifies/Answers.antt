@@ -11,7 +11,7 @@ use Rattle.answer_judge_facts.proofs.groups.verifies.Goals as goal
 
 pub returns-then-verify-clause-signs : goal.returns-then-verify-clause-signs
 returns-then-verify-clause-signs g c = λ test fits.
-    let own = g.C.Checks.answers c.args.verifier.now.checks.now in
+    let own = g.C.Checks.answers c.args.check_run.now.checks.now in
     let trust = c.args.trust.now in
     let items = data_in c.args.group.now in
     let f = fields_read c.args.signature.now in
@@ -25,7 +25,7 @@ returns-then-verify-clause-signs g c = λ test fits.
 
 pub returns-clause-signs : goal.returns-clause-signs
 returns-clause-signs g c = λ test fits.
-    let own = g.C.Checks.answers c.args.verifier.now.checks.now in
+    let own = g.C.Checks.answers c.args.check_run.now.checks.now in
     let trust = c.args.trust.now in
     let items = data_in c.args.group.now in
     let f = fields_read c.args.signature.now in
@@ -39,7 +39,7 @@ returns-clause-signs g c = λ test fits.
 
 pub returns-then-verify-clause-asked : goal.returns-then-verify-clause-asked
 returns-then-verify-clause-asked g c = λ test passes.
-    let w = held_by (g.C.Checks.answers c.args.verifier.now.checks.now) c.args.trust.now in
+    let w = held_by (g.C.Checks.answers c.args.check_run.now.checks.now) c.args.trust.now in
     let group = c.args.group.now in
     let f = fields_read c.args.signature.now in
     let due : (not (length (data_in group) == 0) && is_due w.apex w.now group.owner f) ≡ true = due_then group c.is_empty.result c.is_due.result _ (c.is_empty.ensures ∙ ap (λ n. n == 0) group.items.ok.0) c.if-is_empty.false c.is_due.ensures c.if-not-is_due.false in
@@ -49,7 +49,7 @@ returns-then-verify-clause-asked g c = λ test passes.
 
 pub returns-clause-asked : goal.returns-clause-asked
 returns-clause-asked g c = λ test passes.
-    let w = held_by (g.C.Checks.answers c.args.verifier.now.checks.now) c.args.trust.now in
+    let w = held_by (g.C.Checks.answers c.args.check_run.now.checks.now) c.args.trust.now in
     let group = c.args.group.now in
     let f = fields_read c.args.signature.now in
     let due : (not (length (data_in group) == 0) && is_due w.apex w.now group.owner f) ≡ true = due_then group c.is_empty.result c.is_due.result _ (c.is_empty.ensures ∙ ap (λ n. n == 0) group.items.ok.0) c.if-is_empty.false c.is_due.ensures c.if-not-is_due.false in

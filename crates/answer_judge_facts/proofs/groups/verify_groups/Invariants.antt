@@ -11,8 +11,8 @@ use Rattle.answer_judge_facts.proofs.groups.verify_groups.Given as goal
 abbrev pub invariant-loop-record : goal.invariant-loop-record
 invariant-loop-record g l =
     let c = g.C.Checks in
-    let v = l.verifier in
-    let old = l.fn.verifier in
+    let v = l.check_run in
+    let old = l.fn.check_run in
     let own = c.answers old.checks.now in
     let rest = map spelled (drop l.record-index l.records) in
     let all = map spelled l.records in

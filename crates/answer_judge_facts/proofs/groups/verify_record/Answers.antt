@@ -17,47 +17,47 @@ use Rattle.definitions.specs.Limits.{pointer_limit}
 
 pub returns-then-ne-clause-marked : goal.returns-then-ne-clause-marked
 returns-then-ne-clause-marked g c = λ test h.
-    let w = held_by (with_test (g.C.Checks.answers c.args.verifier.now.checks.now) test) c.args.trust.now in
+    let w = held_by (with_test (g.C.Checks.answers c.args.check_run.now.checks.now) test) c.args.trust.now in
     let r = spelled c.args.view.now in
     let class : (r.class == 1) ≡ false = not-true _ (sym c.ne.ensures ∙ c.if-ne.true) in
     untried w c.args.message.now r c.args.groups.now (λ g. class_other w c.args.message.now r g class)
 
 pub returns-in_default-clause-marked : goal.returns-in_default-clause-marked
 returns-in_default-clause-marked g c = λ test h.
-    let w = held_by (with_test (g.C.Checks.answers c.args.verifier.now.checks.now) test) c.args.trust.now in
+    let w = held_by (with_test (g.C.Checks.answers c.args.check_run.now.checks.now) test) c.args.trust.now in
     let m = c.args.message.now in
     let r = spelled c.args.view.now in
     untried w m r c.args.groups.now (λ g. no_signature w m r g (type_unread m r _ c.covered_type.ensures c.in_default.is))
 
 pub returns-in_default-place_of-clause-marked : goal.returns-in_default-place_of-clause-marked
 returns-in_default-place_of-clause-marked g c = λ test h.
-    let w = held_by (with_test (g.C.Checks.answers c.args.verifier.now.checks.now) test) c.args.trust.now in
+    let w = held_by (with_test (g.C.Checks.answers c.args.check_run.now.checks.now) test) c.args.trust.now in
     type_none w c.args.message.now (spelled c.args.view.now) c.args.groups.now c.in-Some.covered c.in-Some.ensures c.in_default-place_of.ensures.found
 
 pub returns-in_default-place_of-clause-tried : goal.returns-in_default-place_of-clause-tried
 returns-in_default-place_of-clause-tried g c = λ test h.
-    let w = held_by (with_test (g.C.Checks.answers c.args.verifier.now.checks.now) test) c.args.trust.now in
-    let n = c.args.verifier.now.count in
+    let w = held_by (with_test (g.C.Checks.answers c.args.check_run.now.checks.now) test) c.args.trust.now in
+    let n = c.args.check_run.now.count in
     count_type_none w c.args.message.now (spelled c.args.view.now) c.args.groups.now c.in-Some.covered n n c.in-Some.ensures c.requires.signature (not-false _ (sym c.ne.ensures ∙ c.if-ne.false)) c.in_default-place_of.ensures.found refl
 
 pub returns-then-is_some-clause-marked : goal.returns-then-is_some-clause-marked
 returns-then-is_some-clause-marked g c = λ test h.
-    let w = held_by (with_test (g.C.Checks.answers c.args.verifier.now.checks.now) test) c.args.trust.now in
+    let w = held_by (with_test (g.C.Checks.answers c.args.check_run.now.checks.now) test) c.args.trust.now in
     let x = c.index-groups-place.result in
     let own = c.in-Some-place_of.ensures.found x c.index-groups-place.is in
     type_again w c.args.message.now (spelled c.args.view.now) c.args.groups.now c.in-Some-place_of.place x c.in-Some.covered c.in-Some.ensures (ranked_apart c.args.groups.now c.requires.ranked) c.in-Some-place_of.ensures.within c.index-groups-place.is own (ap (λ (y : Group). is_some y.verified) c.index-groups-place.is ∙ sym c.is_some.ensures ∙ c.if-is_some.true)
 
 pub returns-then-is_some-clause-tried : goal.returns-then-is_some-clause-tried
 returns-then-is_some-clause-tried g c = λ test h.
-    let w = held_by (with_test (g.C.Checks.answers c.args.verifier.now.checks.now) test) c.args.trust.now in
-    let n = c.args.verifier.now.count in
+    let w = held_by (with_test (g.C.Checks.answers c.args.check_run.now.checks.now) test) c.args.trust.now in
+    let n = c.args.check_run.now.count in
     let x = c.index-groups-place.result in
     let own = c.in-Some-place_of.ensures.found x c.index-groups-place.is in
     count_type_again w c.args.message.now (spelled c.args.view.now) c.args.groups.now c.in-Some-place_of.place x c.in-Some.covered n n c.in-Some.ensures c.requires.signature (not-false _ (sym c.ne.ensures ∙ c.if-ne.false)) (ranked_apart c.args.groups.now c.requires.ranked) c.in-Some-place_of.ensures.within c.index-groups-place.is own (ap (λ (y : Group). is_some y.verified) c.index-groups-place.is ∙ sym c.is_some.ensures ∙ c.if-is_some.true) refl
 
 pub returns-in_default-signature-clause-marked : goal.returns-in_default-signature-clause-marked
 returns-in_default-signature-clause-marked g c = λ test h.
-    let w = held_by (with_test (g.C.Checks.answers c.args.verifier.now.checks.now) test) c.args.trust.now in
+    let w = held_by (with_test (g.C.Checks.answers c.args.check_run.now.checks.now) test) c.args.trust.now in
     let r = spelled c.args.view.now in
     let none = sym c.signature.ensures ∙ ap (option_map signature_of) c.in_default-signature.is in
     untried w c.args.message.now r c.args.groups.now (λ g. no_signature w c.args.message.now r g none)
@@ -67,7 +67,7 @@ same_item gs i x y h = let p = sym (slice_get-get_or gs i x h) ∙ slice_get-get
 
 pub returns-clause-marked : goal.returns-clause-marked
 returns-clause-marked g c = λ test h.
-    let w = held_by (with_test (g.C.Checks.answers c.args.verifier.now.checks.now) test) c.args.trust.now in
+    let w = held_by (with_test (g.C.Checks.answers c.args.check_run.now.checks.now) test) c.args.trust.now in
     let m = c.args.message.now in
     let r = spelled c.args.view.now in
     let gs = c.args.groups.now in
@@ -85,7 +85,7 @@ returns-clause-marked g c = λ test h.
 
 pub returns-clause-tried : goal.returns-clause-tried
 returns-clause-tried g c = λ test h.
-    let w = held_by (with_test (g.C.Checks.answers c.args.verifier.now.checks.now) test) c.args.trust.now in
+    let w = held_by (with_test (g.C.Checks.answers c.args.check_run.now.checks.now) test) c.args.trust.now in
     let m = c.args.message.now in
     let r = spelled c.args.view.now in
     let gs = c.args.groups.now in
@@ -99,11 +99,11 @@ returns-clause-tried g c = λ test h.
     let own : is_of r.owner (fields_read s).covered x ≡ true = subst (λ (t : ℕ). is_of r.owner t x ≡ true) type (c.in-Some-place_of.ensures.found x c.index-groups-place-2.is) in
     let not_yet : is_some x.verified ≡ false =
     ap (λ (y : Group). is_some y.verified) (c.index-groups-place-2.is ∙ same_item gs i x c.index-groups-place.result within) ∙ sym c.is_some.ensures ∙ c.if-is_some.false in
-    count_now w m r s gs i x c.args.verifier.now.count _ read c.requires.signature class (ranked_apart c.args.groups.now c.requires.ranked) within c.index-groups-place-2.is own not_yet (c.in_ok-group.ensures.tried test h)
+    count_now w m r s gs i x c.args.check_run.now.count _ read c.requires.signature class (ranked_apart c.args.groups.now c.requires.ranked) within c.index-groups-place-2.is own not_yet (c.in_ok-group.ensures.tried test h)
 
 pub returns-clause-asked : goal.returns-clause-asked
 returns-clause-asked g c = λ test passes.
-    let w = held_by (g.C.Checks.answers c.args.verifier.now.checks.now) c.args.trust.now in
+    let w = held_by (g.C.Checks.answers c.args.check_run.now.checks.now) c.args.trust.now in
     let m = c.args.message.now in
     let r = spelled c.args.view.now in
     let gs = c.args.groups.now in
@@ -121,7 +121,7 @@ returns-clause-asked g c = λ test passes.
 
 pub returns-in_err-group-clause-asked : goal.returns-in_err-group-clause-asked
 returns-in_err-group-clause-asked g c = λ test passes.
-    let w = held_by (g.C.Checks.answers c.args.verifier.now.checks.now) c.args.trust.now in
+    let w = held_by (g.C.Checks.answers c.args.check_run.now.checks.now) c.args.trust.now in
     let m = c.args.message.now in
     let r = spelled c.args.view.now in
     let gs = c.args.groups.now in

@@ -5,6 +5,6 @@ use Rattle.answer_judge_keys.proofs.keys.trusted_keys.Given as goal
 
 abbrev pub invariant-loop-key : goal.invariant-loop-key
 invariant-loop-key g l =
-    let trusts = is_trusted (g.C.Checks.answers l.fn.verifier.checks.now) l.apex l.ds in
+    let trusts = is_trusted (g.C.Checks.answers l.fn.check_run.checks.now) l.apex l.ds in
     (l.trusted.items ++ filter trusts (drop l.key-index l.keys) ≡ filter trusts l.keys)
-    × (l.verifier ≡ record l.fn.verifier { octets = l.verifier.octets })
+    × (l.check_run ≡ record l.fn.check_run { octets = l.check_run.octets })

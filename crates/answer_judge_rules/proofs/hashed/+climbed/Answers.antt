@@ -3,7 +3,7 @@ use Rattle.std.specs.Prelude.{None, Ok}
 use Rattle.std.proofs.lemmas.Bool.{true≢false}
 use Rattle.definitions.specs.Name.{Name}
 use Rattle.denial_laws.specs.Nsec3Rules.{is_matched}
-use Rattle.answer_judge_rules.specs.Hashing.{fails_as, hash_as, Hashes}
+use Rattle.answer_judge_rules.specs.Hashing.{fails_as, hash_as, HashesInTurn}
 use Rattle.answer_judge_rules.proofs.Climbs.{child_of, climbed_out}
 use Rattle.answer_judge_rules.proofs.Steps.{found, hashed_ended, hashed_found}
 use Rattle.answer_judge_rules.proofs.hashed.+climbed.Goals as goal
@@ -37,5 +37,5 @@ returns-then-is_matched-clause-hashes g t c =
     let m : is_matched fs c.in_ok-parent.parent.hash.items ≡ true = ap (is_matched fs) (sym c.deref.ensures.value) ∙ sym c.is_matched.ensures ∙ c.if-is_matched.true in
     hashed_found c.args.chain.now.apex.now c.args.chain.now.first.now fs q p child.0 a (g.C.Checks.answers c.hash_name.new.checks) c.in_ok-parent.parent.hash.items c.hash_name.ensures.same child.1 (sym c.name_eq.ensures ∙ c.if-name_eq.false) c.in_ok-parent.ensures.hash
     (g.C.Checks.hashed c.args.checks.now) (g.C.Checks.hashed c.hash_name.new.checks) (g.C.Checks.hashed c.from_encloser.new.checks) c.in_ok-parent.parent c.from_encloser.result m
-    (subst (λ (n : Name). Hashes (fails_as a.hash c.args.chain.now.first.now) (n ∷ []) (g.C.Checks.hashed c.args.checks.now) (g.C.Checks.hashed c.hash_name.new.checks) (Ok c.in_ok-parent.parent)) (sym c.in_ok-parent.ensures.name) c.in_ok-parent.ensures.hashes)
+    (subst (λ (n : Name). HashesInTurn (fails_as a.hash c.args.chain.now.first.now) (n ∷ []) (g.C.Checks.hashed c.args.checks.now) (g.C.Checks.hashed c.hash_name.new.checks) (Ok c.in_ok-parent.parent)) (sym c.in_ok-parent.ensures.name) c.in_ok-parent.ensures.hashes)
     c.from_encloser.ensures.hashes

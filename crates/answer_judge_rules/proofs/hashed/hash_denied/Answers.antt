@@ -3,7 +3,7 @@ use Rattle.std.specs.Prelude.{Ok}
 use Rattle.definitions.specs.Name.{Name}
 use Rattle.denial_laws.specs.NsecRules.{first_some}
 use Rattle.denial_laws.specs.Nsec3Rules.{at_hash, hash_denied, hashed_denied, is_matched}
-use Rattle.answer_judge_rules.specs.Hashing.{fails_as, hash_as, Hashes}
+use Rattle.answer_judge_rules.specs.Hashing.{fails_as, hash_as, HashesInTurn}
 use Rattle.answer_judge_rules.proofs.Steps.{hashed_unmatched, matched}
 use Rattle.answer_judge_rules.proofs.hashed.hash_denied.Goals as goal
 
@@ -29,8 +29,8 @@ returns-clause-hashes g c =
     let mid = g.C.Checks.hashed c.hash_name.new.checks in
     let after = g.C.Checks.hashed c.climbed.new.checks in
     let m : is_matched fs c.in_ok-name.name.hash.items ≡ false = ap (is_matched fs) (sym c.deref.ensures.value) ∙ sym c.is_matched.ensures ∙ c.if-is_matched.false in
-    subst (λ (n : Name). Hashes (fails_as a.hash c.args.chain.now.first.now) (hashed_denied apex (hash_as a.hash c.args.chain.now.first.now) n fs) before after c.climbed.result) (c.in_ok-name.ensures.name ∙ c.for_ref.ensures)
+    subst (λ (n : Name). HashesInTurn (fails_as a.hash c.args.chain.now.first.now) (hashed_denied apex (hash_as a.hash c.args.chain.now.first.now) n fs) before after c.climbed.result) (c.in_ok-name.ensures.name ∙ c.for_ref.ensures)
     (hashed_unmatched apex c.args.chain.now.first.now fs q a (g.C.Checks.answers c.hash_name.new.checks) c.in_ok-name.name.hash.items c.hash_name.ensures.same c.in_ok-name.ensures.hash
     before mid after c.in_ok-name.name c.climbed.result m
-    (subst (λ (n : Name). Hashes (fails_as a.hash c.args.chain.now.first.now) (n ∷ []) before mid (Ok c.in_ok-name.name)) (sym c.in_ok-name.ensures.name) c.in_ok-name.ensures.hashes)
+    (subst (λ (n : Name). HashesInTurn (fails_as a.hash c.args.chain.now.first.now) (n ∷ []) before mid (Ok c.in_ok-name.name)) (sym c.in_ok-name.ensures.name) c.in_ok-name.ensures.hashes)
     c.climbed.ensures.hashes)

@@ -26,7 +26,7 @@ verify_groups-requires-clause-ranked g c = subst AreRanked (sym c.deref_mut.ensu
 
 pub numbers_of_verified-requires-clause-ranked : goal.numbers_of_verified-requires-clause-ranked
 numbers_of_verified-requires-clause-ranked g c =
-    let own = g.C.Checks.answers c.args.verifier.now.checks.now in
+    let own = g.C.Checks.answers c.args.check_run.now.checks.now in
     let m = c.args.message.now in
     let rs = map spelled c.args.records.now in
     let old = c.in_ok-groups.groups in
@@ -37,7 +37,7 @@ numbers_of_verified-requires-clause-ranked g c =
 
 pub returns-clause-exact : goal.returns-clause-exact
 returns-clause-exact g c = λ test fits.
-    let w = held_by (with_test (g.C.Checks.answers c.args.verifier.now.checks.now) test) c.args.trust.now in
+    let w = held_by (with_test (g.C.Checks.answers c.args.check_run.now.checks.now) test) c.args.trust.now in
     let m = c.args.message.now in
     let rs = map spelled c.args.records.now in
     let q = c.args.name.now in

@@ -7,7 +7,7 @@ use Rattle.messages.specs.Message.{Spelled}
 use Rattle.messages.specs.Record.{spelled}
 use Rattle.answer_scheme.specs.Answers.{Answers, SignatureTest, with_test}
 use Rattle.answer_judge.specs.Stages.{are_signed, trusting_named}
-use Rattle.answer_judge_keys.specs.Judging.{Handing}
+use Rattle.answer_judge_keys.specs.Judging.{JudgeInput}
 use Rattle.answer_judge_keys.specs.KeyOrder.{Ranks}
 use Rattle.answer_judge_keys.specs.Trusted.{is_trusted, is_usable}
 use Rattle.answer_judge_facts.specs.Verified.{Trusting, is_verified}
@@ -20,7 +20,7 @@ are_verified-requires-clause-index g c =
     (subst (λ vs. Ranks c.in_ok-trusted.trusted.items vs) (sym c.deref-4.ensures.value) (subst (λ ks. Ranks ks c.in_ok-by_tag.by_tag.items) c.deref-2.ensures.value c.in_ok-by_tag.ensures))
 
 -- what was found out of the keys, said of what is handed in
-module _ (own : Answers) (test : SignatureTest) (h now : Handing) (is : now ≡ h) (rs : List Spelled) (ks held trusted : List Dnskey) (named : trusted ≡ filter (is_trusted own h.apex h.ds) ks) (items : held ≡ ks) (checks : Answers) (same : checks ≡ own) (moment : ℕ) (at : moment ≡ h.now) where
+module _ (own : Answers) (test : SignatureTest) (h now : JudgeInput) (is : now ≡ h) (rs : List Spelled) (ks held trusted : List Dnskey) (named : trusted ≡ filter (is_trusted own h.apex h.ds) ks) (items : held ≡ ks) (checks : Answers) (same : checks ≡ own) (moment : ℕ) (at : moment ≡ h.now) where
   abbrev w : Trusting
   w = record { answers = with_test checks test; apex = now.apex; keys = trusted; now = moment }
 
@@ -32,9 +32,9 @@ module _ (own : Answers) (test : SignatureTest) (h now : Handing) (is : now ≡ 
 
 pub returns-then-branch-clause-exact : goal.returns-then-branch-clause-exact
 returns-then-branch-clause-exact g c = λ test fits.
-    let own = g.C.Checks.answers c.args.verifier.now.checks.now in
+    let own = g.C.Checks.answers c.args.check_run.now.checks.now in
     let is = c.case.view_is in
-    let moment = c.timestamp.ensures ∙ ap (λ (h : Handing). h.now) is in
+    let moment = c.timestamp.ensures ∙ ap (λ (h : JudgeInput). h.now) is in
     let rest = c.in_ok-trusted.ensures.rest in
     let same = ap (λ v. g.C.Checks.answers v.checks.now) rest in
     let named = c.deref-3.ensures.value ∙ c.in_ok-trusted.ensures.trusted ∙ (λ i. filter (is_trusted own (is i).apex (is i).ds) (c.deref.ensures.value i)) in
@@ -45,9 +45,9 @@ returns-then-branch-clause-exact g c = λ test fits.
 
 pub returns-clause-exact : goal.returns-clause-exact
 returns-clause-exact g c = λ test fits.
-    let own = g.C.Checks.answers c.args.verifier.now.checks.now in
+    let own = g.C.Checks.answers c.args.check_run.now.checks.now in
     let is = c.case.view_is in
-    let moment = c.timestamp.ensures ∙ ap (λ (h : Handing). h.now) is in
+    let moment = c.timestamp.ensures ∙ ap (λ (h : JudgeInput). h.now) is in
     let rest = c.in_ok-trusted.ensures.rest in
     let same = ap (λ v. g.C.Checks.answers v.checks.now) rest in
     let named = c.deref-3.ensures.value ∙ c.in_ok-trusted.ensures.trusted ∙ (λ i. filter (is_trusted own (is i).apex (is i).ds) (c.deref.ensures.value i)) in

@@ -11,7 +11,7 @@ use Rattle.answer_verified_records.proofs.records.verified_in_messages.Goals as 
 
 pub returns-in_default-clause-exact : goal.returns-in_default-clause-exact
 returns-in_default-clause-exact g c = λ test fits.
-    let a = with_test (g.C.Checks.answers c.args.verifier.now.checks.now) test in
+    let a = with_test (g.C.Checks.answers c.args.check_run.now.checks.now) test in
     let h = c.args.case.now in
     let r = c.args.messages in
     let rs : map spelled c.deref.result.now ≡ r.keys.view.records = ap (map spelled) c.deref.ensures.value ∙ c.requires.read.keys_listed.are in
@@ -20,7 +20,7 @@ returns-in_default-clause-exact g c = λ test fits.
 
 pub returns-clause-exact : goal.returns-clause-exact
 returns-clause-exact g c = λ test fits.
-    let own = g.C.Checks.answers c.args.verifier.now.checks.now in
+    let own = g.C.Checks.answers c.args.check_run.now.checks.now in
     let a = with_test own test in
     let h = c.args.case.now in
     let r = c.args.messages in

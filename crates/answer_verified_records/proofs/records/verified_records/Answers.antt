@@ -12,9 +12,9 @@ pub returns-clause-exact : goal.returns-clause-exact
 returns-clause-exact g c = λ test fits.
     let own = g.C.Checks.answers c.args.checks.now in
     let h = c.args.case.now in
-    let now = c.verified_in_messages.new.verifier.checks.now in
+    let now = c.verified_in_messages.new.check_run.checks.now in
     let fit : (test ≡ own.verifies) ⊎ g.C.Checks.agrees now test = ⊎_elim (λ e. inl e) (λ agrees. inr (agrees_too g.C.Checks.agrees _ now test agrees (search rules))) fits in
-    let same = ap g.C.Checks.answers c.new-verifier.ensures.checks in
+    let same = ap g.C.Checks.answers c.new-check_run.ensures.checks in
     let keys = c.in-Some.messages.keys.view in
     let answer = c.in-Some.messages.answer.view in
     let some : Some (keys, answer) ≡ messages_in pointer_limit h = rw c.in-Some.is at c.in_ok-messages.ensures.exact in

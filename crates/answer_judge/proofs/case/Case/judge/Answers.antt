@@ -21,9 +21,9 @@ returns-then-not-is_judged-clause-agreeing g c = λ test agrees.
 pub returns-in-Ok : goal.returns-in-Ok
 returns-in-Ok g c =
     let own = g.C.Checks.answers c.args.checks.now in
-    let now = c.judge_messages.new.verifier.checks.now in
-    let so = each_wholly own _ (g.C.Checks.agrees now) c.args.self.now (Says (verdict_of c.in-Ok.verdict)) c.judge_messages.new.verifier.count c.judge_messages.new.hashes
-    (omega (arith, c.limit_fits.ensures)) (ap g.C.Checks.answers c.new-verifier.ensures.checks) (search rules) (search rules) (search rules)
+    let now = c.judge_messages.new.check_run.checks.now in
+    let so = each_wholly own _ (g.C.Checks.agrees now) c.args.self.now (Says (verdict_of c.in-Ok.verdict)) c.judge_messages.new.check_run.count c.judge_messages.new.hashes
+    (omega (arith, c.limit_fits.ensures)) (ap g.C.Checks.answers c.new-check_run.ensures.checks) (search rules) (search rules) (search rules)
     c.in-Ok.ensures.says in
     let mine = so own.verifies (inl refl) in record {
       judges = search rules;
@@ -35,17 +35,17 @@ returns-in-Ok g c =
       hash_counts = mine.hash_counts;
       agreeing = λ test agrees.
           let agrees_now = agrees_too g.C.Checks.agrees _ now test agrees (search rules) in
-          (subst (λ v. g.C.Checks.agrees v test) c.new-verifier.ensures.checks (c.in-Ok.ensures.agrees test agrees_now), so test (inr agrees_now));
+          (subst (λ v. g.C.Checks.agrees v test) c.new-check_run.ensures.checks (c.in-Ok.ensures.agrees test agrees_now), so test (inr agrees_now));
       decided =
-          case_decided own _ (g.C.Checks.agrees now) _ c.args.self.now c.judge_messages.new.verifier.count c.judge_messages.new.hashes
-          (omega (arith, c.limit_fits.ensures)) (ap g.C.Checks.answers c.new-verifier.ensures.checks) (search rules) (search rules) c.in-Ok.ensures.bound
+          case_decided own _ (g.C.Checks.agrees now) _ c.args.self.now c.judge_messages.new.check_run.count c.judge_messages.new.hashes
+          (omega (arith, c.limit_fits.ensures)) (ap g.C.Checks.answers c.new-check_run.ensures.checks) (search rules) (search rules) c.in-Ok.ensures.bound
           (λ test agrees. agrees_too g.C.Checks.agrees _ now test agrees (search rules)) c.in-Ok.ensures.decided;
       lasts = λ test fits.
           let fit = ⊎_elim (λ e. inl e) (λ agrees. inr (agrees_too g.C.Checks.agrees _ now test agrees (search rules))) fits in
-          lasts_beyond own _ (g.C.Checks.agrees now) c.args.self.now c.judge_messages.new.lasting (ap g.C.Checks.answers c.new-verifier.ensures.checks) (search rules) c.in-Ok.ensures.lasts test fit;
+          lasts_beyond own _ (g.C.Checks.agrees now) c.args.self.now c.judge_messages.new.lasting (ap g.C.Checks.answers c.new-check_run.ensures.checks) (search rules) c.in-Ok.ensures.lasts test fit;
       asked = λ test implies before.
-          let passes = case_passes own _ c.args.self.now test (ap g.C.Checks.answers c.new-verifier.ensures.checks) (search rules) (search rules) implies in
-          let asked_now = c.in-Ok.ensures.asked test passes (subst (λ v. g.C.Checks.asked_only v test) (sym c.new-verifier.ensures.checks) before) in
+          let passes = case_passes own _ c.args.self.now test (ap g.C.Checks.answers c.new-check_run.ensures.checks) (search rules) (search rules) implies in
+          let asked_now = c.in-Ok.ensures.asked test passes (subst (λ v. g.C.Checks.asked_only v test) (sym c.new-check_run.ensures.checks) before) in
           agrees_too g.C.Checks.asked_only now _ test asked_now (search rules);
       verified = search rules;
       hashed = search rules;
@@ -55,9 +55,9 @@ returns-in-Ok g c =
 pub returns : goal.returns
 returns g c =
     let own = g.C.Checks.answers c.args.checks.now in
-    let now = c.judge_messages.new.verifier.checks.now in
-    let so = each_wholly own _ (g.C.Checks.agrees now) c.args.self.now (Refuses c.in-Err.refusal) c.judge_messages.new.verifier.count c.judge_messages.new.hashes
-    (omega (arith, c.limit_fits.ensures)) (ap g.C.Checks.answers c.new-verifier.ensures.checks) (search rules) (search rules) (search rules)
+    let now = c.judge_messages.new.check_run.checks.now in
+    let so = each_wholly own _ (g.C.Checks.agrees now) c.args.self.now (Refuses c.in-Err.refusal) c.judge_messages.new.check_run.count c.judge_messages.new.hashes
+    (omega (arith, c.limit_fits.ensures)) (ap g.C.Checks.answers c.new-check_run.ensures.checks) (search rules) (search rules) (search rules)
     c.in-Err.ensures.says in
     let mine = so own.verifies (inl refl) in record {
       judges = search rules;
@@ -69,15 +69,15 @@ returns g c =
       hash_counts = mine.hash_counts;
       agreeing = λ test agrees.
           let agrees_now = agrees_too g.C.Checks.agrees _ now test agrees (search rules) in
-          (subst (λ v. g.C.Checks.agrees v test) c.new-verifier.ensures.checks (c.in-Err.ensures.agrees test agrees_now), so test (inr agrees_now));
+          (subst (λ v. g.C.Checks.agrees v test) c.new-check_run.ensures.checks (c.in-Err.ensures.agrees test agrees_now), so test (inr agrees_now));
       decided =
-          case_decided own _ (g.C.Checks.agrees now) _ c.args.self.now c.judge_messages.new.verifier.count c.judge_messages.new.hashes
-          (omega (arith, c.limit_fits.ensures)) (ap g.C.Checks.answers c.new-verifier.ensures.checks) (search rules) (search rules) c.in-Err.ensures.bound
+          case_decided own _ (g.C.Checks.agrees now) _ c.args.self.now c.judge_messages.new.check_run.count c.judge_messages.new.hashes
+          (omega (arith, c.limit_fits.ensures)) (ap g.C.Checks.answers c.new-check_run.ensures.checks) (search rules) (search rules) c.in-Err.ensures.bound
           (λ test agrees. agrees_too g.C.Checks.agrees _ now test agrees (search rules)) c.in-Err.ensures.decided;
       lasts = λ test fits. tt;
       asked = λ test implies before.
-          let passes = case_passes own _ c.args.self.now test (ap g.C.Checks.answers c.new-verifier.ensures.checks) (search rules) (search rules) implies in
-          let asked_now = c.in-Err.ensures.asked test passes (subst (λ v. g.C.Checks.asked_only v test) (sym c.new-verifier.ensures.checks) before) in
+          let passes = case_passes own _ c.args.self.now test (ap g.C.Checks.answers c.new-check_run.ensures.checks) (search rules) (search rules) implies in
+          let asked_now = c.in-Err.ensures.asked test passes (subst (λ v. g.C.Checks.asked_only v test) (sym c.new-check_run.ensures.checks) before) in
           agrees_too g.C.Checks.asked_only now _ test asked_now (search rules);
       verified = search rules;
       hashed = search rules;

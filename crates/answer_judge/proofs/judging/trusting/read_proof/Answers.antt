@@ -5,7 +5,7 @@ use Rattle.definitions.specs.Limits.{pointer_limit}
 use Rattle.messages.specs.Record.{spelled}
 use Rattle.answer_scheme.specs.Answers.{with_test}
 use Rattle.answer_judge_facts.specs.Asked.{Implies, is_tried_among}
-use Rattle.answer_judge_keys.specs.Judging.{Handing}
+use Rattle.answer_judge_keys.specs.Judging.{JudgeInput}
 use Rattle.answer_judge_keys.specs.KeyOrder.{Ranks}
 use Rattle.answer_judge_facts.specs.Lasting.{answer_lasting}
 use Rattle.answer_judge_facts.specs.Sought.{answer_sought}
@@ -18,17 +18,17 @@ read_facts-requires g c =
     record {
       index = subst (λ vs. Ranks c.args.keys.now vs) (sym c.deref.ensures.value) c.in_ok-by_tag.ensures;
       room = c.requires.room;
-      other = (λ i. (ap (λ (h : Handing). nat_eq h.asked.rtype 47) is ∙ c.requires.other) i || (ap (λ (h : Handing). nat_eq h.asked.rtype 50) is ∙ c.requires.other_too) i);
+      other = (λ i. (ap (λ (h : JudgeInput). nat_eq h.asked.rtype 47) is ∙ c.requires.other) i || (ap (λ (h : JudgeInput). nat_eq h.asked.rtype 50) is ∙ c.requires.other_too) i);
     }
 
 pub returns-clause-proves : goal.returns-clause-proves
 returns-clause-proves g c = λ test fits.
     let is = c.case.view_is in
-    let moment = c.timestamp.ensures ∙ ap (λ (h : Handing). h.now) is in
-    let a = with_test (g.C.Checks.answers c.args.verifier.now.checks.now) test in
+    let moment = c.timestamp.ensures ∙ ap (λ (h : JudgeInput). h.now) is in
+    let a = with_test (g.C.Checks.answers c.args.check_run.now.checks.now) test in
     let rs = map spelled c.args.records.now in
-    let before = c.args.verifier.now.count in
-    let after = c.read_facts.new.verifier.count in
+    let before = c.args.check_run.now.count in
+    let after = c.read_facts.new.check_run.count in
     transport
     (λ i. IfOk c.read_facts.result (λ p. IsVerifiedProof (record { answers = a; apex = (is i).apex; keys = c.args.keys.now; now = moment i }) pointer_limit (is i).answer_bytes rs (is i).asked.name (is i).asked.rtype p before after))
     (c.read_facts.ensures.proves test fits)
@@ -36,8 +36,8 @@ returns-clause-proves g c = λ test fits.
 pub returns-clause-lasts : goal.returns-clause-lasts
 returns-clause-lasts g c = λ test fits.
     let is = c.case.view_is in
-    let moment = c.timestamp.ensures ∙ ap (λ (h : Handing). h.now) is in
-    let a = with_test (g.C.Checks.answers c.args.verifier.now.checks.now) test in
+    let moment = c.timestamp.ensures ∙ ap (λ (h : JudgeInput). h.now) is in
+    let a = with_test (g.C.Checks.answers c.args.check_run.now.checks.now) test in
     let rs = map spelled c.args.records.now in
     transport
     (λ i. IfOk c.read_facts.result (λ p. p.lasting ≡ answer_lasting (record { answers = a; apex = (is i).apex; keys = c.args.keys.now; now = moment i }) pointer_limit (is i).answer_bytes rs (is i).asked.name (is i).asked.rtype))
@@ -47,8 +47,8 @@ pub returns-clause-asked : goal.returns-clause-asked
 returns-clause-asked g c = λ test passes.
     let is = c.case.view_is in
     let back = sym is in
-    let moment = c.timestamp.ensures ∙ ap (λ (h : Handing). h.now) is in
-    let own = g.C.Checks.answers c.args.verifier.now.checks.now in
+    let moment = c.timestamp.ensures ∙ ap (λ (h : JudgeInput). h.now) is in
+    let own = g.C.Checks.answers c.args.check_run.now.checks.now in
     let rs = map spelled c.args.records.now in
     c.read_facts.ensures.asked test
     (transport

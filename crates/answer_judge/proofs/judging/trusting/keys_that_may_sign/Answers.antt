@@ -10,13 +10,13 @@ use Rattle.answer_judge.specs.Stages.{are_signed, tries_of_keys, trusting_named}
 use Rattle.answer_judge_facts.specs.Asked.{Implies, is_tried_among}
 use Rattle.answer_judge_facts.specs.Counted.{tries}
 use Rattle.answer_judge_keys.specs.Trusted.{is_trusted}
-use Rattle.answer_judge_keys.specs.Judging.{Handing}
+use Rattle.answer_judge_keys.specs.Judging.{JudgeInput}
 use Rattle.answer_judge_keys.specs.KeyOrder.{Ranks}
 use Rattle.answer_judge_facts.specs.Lasting.{key_seconds, least_of}
 use Rattle.answer_judge_facts.specs.Sought.{keys_sought}
 use Rattle.answer_judge_facts.specs.Verified.{Trusting, is_verified}
 use Rattle.answer_judge_facts.proofs.JudgeAsked.{agreed_by}
-use Rattle.answer_judge.proofs.judging.trusting.signed_keys.Goals as goal
+use Rattle.answer_judge.proofs.judging.trusting.keys_that_may_sign.Goals as goal
 
 pub are_verified-requires-clause-index : goal.are_verified-requires-clause-index
 are_verified-requires-clause-index g c =
@@ -24,7 +24,7 @@ are_verified-requires-clause-index g c =
     (subst (λ vs. Ranks c.in_ok-trusted.trusted.items vs) (sym c.deref-4.ensures.value) (subst (λ ks. Ranks ks c.in_ok-by_tag.by_tag.items) c.deref-2.ensures.value c.in_ok-by_tag.ensures))
 
 -- what was found out of the keys, said of what is handed in
-module _ (own : Answers) (test : SignatureTest) (h now : Handing) (is : now ≡ h) (rs : List Spelled) (ks held trusted : List Dnskey) (named : trusted ≡ filter (is_trusted own h.apex h.ds) ks) (items : held ≡ ks) (checks : Answers) (same : checks ≡ own) (moment : ℕ) (at : moment ≡ h.now) where
+module _ (own : Answers) (test : SignatureTest) (h now : JudgeInput) (is : now ≡ h) (rs : List Spelled) (ks held trusted : List Dnskey) (named : trusted ≡ filter (is_trusted own h.apex h.ds) ks) (items : held ≡ ks) (checks : Answers) (same : checks ≡ own) (moment : ℕ) (at : moment ≡ h.now) where
   abbrev w : Trusting
   w = record { answers = with_test checks test; apex = now.apex; keys = trusted; now = moment }
 
@@ -50,9 +50,9 @@ module _ (own : Answers) (test : SignatureTest) (h now : Handing) (is : now ≡ 
 
 pub returns-clause-signed : goal.returns-clause-signed
 returns-clause-signed g c = λ test fits.
-    let own = g.C.Checks.answers c.args.verifier.now.checks.now in
+    let own = g.C.Checks.answers c.args.check_run.now.checks.now in
     let is = c.case.view_is in
-    let moment = c.timestamp.ensures ∙ ap (λ (h : Handing). h.now) is in
+    let moment = c.timestamp.ensures ∙ ap (λ (h : JudgeInput). h.now) is in
     let rest = c.in_ok-trusted.ensures.rest in
     let same = ap (λ v. g.C.Checks.answers v.checks.now) rest in
     let named = c.deref-3.ensures.value ∙ c.in_ok-trusted.ensures.trusted ∙ (λ i. filter (is_trusted own (is i).apex (is i).ds) (c.deref.ensures.value i)) in
@@ -63,9 +63,9 @@ returns-clause-signed g c = λ test fits.
 
 pub returns-clause-lasts : goal.returns-clause-lasts
 returns-clause-lasts g c = λ test fits.
-    let own = g.C.Checks.answers c.args.verifier.now.checks.now in
+    let own = g.C.Checks.answers c.args.check_run.now.checks.now in
     let is = c.case.view_is in
-    let moment = c.timestamp.ensures ∙ ap (λ (h : Handing). h.now) is in
+    let moment = c.timestamp.ensures ∙ ap (λ (h : JudgeInput). h.now) is in
     let rest = c.in_ok-trusted.ensures.rest in
     let same = ap (λ v. g.C.Checks.answers v.checks.now) rest in
     let named = c.deref-3.ensures.value ∙ c.in_ok-trusted.ensures.trusted ∙ (λ i. filter (is_trusted own (is i).apex (is i).ds) (c.deref.ensures.value i)) in
@@ -74,9 +74,9 @@ returns-clause-lasts g c = λ test fits.
 
 pub returns-then-not-branch-clause-unsigned : goal.returns-then-not-branch-clause-unsigned
 returns-then-not-branch-clause-unsigned g c = λ test fits.
-    let own = g.C.Checks.answers c.args.verifier.now.checks.now in
+    let own = g.C.Checks.answers c.args.check_run.now.checks.now in
     let is = c.case.view_is in
-    let moment = c.timestamp.ensures ∙ ap (λ (h : Handing). h.now) is in
+    let moment = c.timestamp.ensures ∙ ap (λ (h : JudgeInput). h.now) is in
     let rest = c.in_ok-trusted.ensures.rest in
     let same = ap (λ v. g.C.Checks.answers v.checks.now) rest in
     let named = c.deref-3.ensures.value ∙ c.in_ok-trusted.ensures.trusted ∙ (λ i. filter (is_trusted own (is i).apex (is i).ds) (c.deref.ensures.value i)) in
@@ -89,9 +89,9 @@ returns-then-not-branch-clause-unsigned g c = λ test fits.
 
 pub returns-clause-asked : goal.returns-clause-asked
 returns-clause-asked g c = λ test passes before.
-    let own = g.C.Checks.answers c.args.verifier.now.checks.now in
+    let own = g.C.Checks.answers c.args.check_run.now.checks.now in
     let is = c.case.view_is in
-    let moment = c.timestamp.ensures ∙ ap (λ (h : Handing). h.now) is in
+    let moment = c.timestamp.ensures ∙ ap (λ (h : JudgeInput). h.now) is in
     let rest = c.in_ok-trusted.ensures.rest in
     let same = ap (λ v. g.C.Checks.answers v.checks.now) rest in
     let named = c.deref-3.ensures.value ∙ c.in_ok-trusted.ensures.trusted ∙ (λ i. filter (is_trusted own (is i).apex (is i).ds) (c.deref.ensures.value i)) in
@@ -100,9 +100,9 @@ returns-clause-asked g c = λ test passes before.
 
 pub returns-then-not-branch-clause-asked : goal.returns-then-not-branch-clause-asked
 returns-then-not-branch-clause-asked g c = λ test passes before.
-    let own = g.C.Checks.answers c.args.verifier.now.checks.now in
+    let own = g.C.Checks.answers c.args.check_run.now.checks.now in
     let is = c.case.view_is in
-    let moment = c.timestamp.ensures ∙ ap (λ (h : Handing). h.now) is in
+    let moment = c.timestamp.ensures ∙ ap (λ (h : JudgeInput). h.now) is in
     let rest = c.in_ok-trusted.ensures.rest in
     let same = ap (λ v. g.C.Checks.answers v.checks.now) rest in
     let named = c.deref-3.ensures.value ∙ c.in_ok-trusted.ensures.trusted ∙ (λ i. filter (is_trusted own (is i).apex (is i).ds) (c.deref.ensures.value i)) in
@@ -111,9 +111,9 @@ returns-then-not-branch-clause-asked g c = λ test passes before.
 
 pub returns-in_err-are_verified-clause-asked : goal.returns-in_err-are_verified-clause-asked
 returns-in_err-are_verified-clause-asked g c = λ test passes before.
-    let own = g.C.Checks.answers c.args.verifier.now.checks.now in
+    let own = g.C.Checks.answers c.args.check_run.now.checks.now in
     let is = c.case.view_is in
-    let moment = c.timestamp.ensures ∙ ap (λ (h : Handing). h.now) is in
+    let moment = c.timestamp.ensures ∙ ap (λ (h : JudgeInput). h.now) is in
     let rest = c.in_ok-trusted.ensures.rest in
     let same = ap (λ v. g.C.Checks.answers v.checks.now) rest in
     let named = c.deref-3.ensures.value ∙ c.in_ok-trusted.ensures.trusted ∙ (λ i. filter (is_trusted own (is i).apex (is i).ds) (c.deref.ensures.value i)) in

@@ -6,7 +6,7 @@ use Rattle.answer_shared.specs.GroupView.{Presents, canonical_view}
 use Rattle.answer_shared.specs.Links.{group_of}
 use Rattle.answer_shared.specs.Served.{written_rr}
 use Rattle.answer_shared.proofs.ZoneData.{if_ok_map, label_count-low}
-use Rattle.answer_zone_records.proofs.chain.ChainLinkLink.group.Goals as goal
+use Rattle.answer_zone_records.proofs.chain.ChainLinkKeptLink.group.Goals as goal
 
 pub returns : goal.returns
 returns c =

@@ -10,21 +10,21 @@ use std::alloc::Global;
 /// The buffer is borrowed, since a struct that owns memory would keep what a caller's proof knows
 /// of its checks.
 #[derive(Drop)]
-pub struct Verifier<'a, C: Checks> {
+pub struct CheckRun<'a, C: Checks> {
     pub alloc: Global,
     pub checks: &'a mut C,
     pub octets: &'a mut Vec<u8>,
     pub count: u32,
 }
 
-impl<'a, C: Checks> Verifier<'a, C> {
-    /// A verifier that has verified nothing yet.
+impl<'a, C: Checks> CheckRun<'a, C> {
+    /// A run that has verified nothing yet.
     pub fn new(alloc: Global, checks: &'a mut C, octets: &'a mut Vec<u8>) -> Self
         ensures same_checks { result.checks.ghost_name ≡ checks.entry.ghost_name }
         ensures checks { result.checks.now ≡ checks.old }
         ensures count { result.count ≡ 0 }
     {
-        Verifier {
+        CheckRun {
             alloc,
             checks,
             octets,

@@ -1,5 +1,5 @@
 use Rattle.answer_judge_rules.proofs.Closest.{wildcard_given}
-use Rattle.answer_judge_rules.proofs.facts.Link.wildcard.Goals as goal
+use Rattle.answer_judge_rules.proofs.facts.NsecLink.wildcard.Goals as goal
 
 pub returns-in-Some : goal.returns-in-Some
 returns-in-Some c =

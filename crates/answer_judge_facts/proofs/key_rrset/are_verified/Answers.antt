@@ -17,11 +17,11 @@ use Rattle.answer_judge_facts.proofs.JudgeLasting.{key_seconds_are}
 use Rattle.answer_judge_facts.proofs.JudgeSought.{keys_are}
 use Rattle.answer_judge_facts.specs.Ranked.{AreRanked}
 use Rattle.answer_judge_facts.proofs.GroupPlaces.{one_ranked}
-use Rattle.answer_judge_facts.proofs.signed_keys.are_verified.Goals as goal
+use Rattle.answer_judge_facts.proofs.key_rrset.are_verified.Goals as goal
 
 pub returns-clause-tried : goal.returns-clause-tried
 returns-clause-tried g c = λ test h.
-    let a = held_by (with_test (g.C.Checks.answers c.args.verifier.now.checks.now) test) c.args.trust.now in
+    let a = held_by (with_test (g.C.Checks.answers c.args.check_run.now.checks.now) test) c.args.trust.now in
     let apex = c.args.trust.now.apex.now in
     let m = c.args.message.now in
     let ks = c.args.keys.now in
@@ -30,11 +30,11 @@ returns-clause-tried g c = λ test h.
     let e = c.in_ok-key_group.ensures in
     let old : c.deref_mut.result.now ≡ x ∷ [] = c.deref_mut.ensures.value ∙ c.in_ok-push.ensures.items ∙ ap (λ gs. gs ++ x ∷ []) c.in_ok-groups.ensures.items in
     c.in_ok-verify_groups.ensures.tried test h
-    ∙ ap (λ n. c.args.verifier.now.count + n) (ap (λ ys. tries_in a m ys rs) old ∙ tries_are a m (keys_sought apex ks) (x ∷ []) rs (keys_are apex ks x e.owner e.rtype e.items e.unverified))
+    ∙ ap (λ n. c.args.check_run.now.count + n) (ap (λ ys. tries_in a m ys rs) old ∙ tries_are a m (keys_sought apex ks) (x ∷ []) rs (keys_are apex ks x e.owner e.rtype e.items e.unverified))
 
 pub returns-clause-exact : goal.returns-clause-exact
 returns-clause-exact g c = λ test h.
-    let a = held_by (with_test (g.C.Checks.answers c.args.verifier.now.checks.now) test) c.args.trust.now in
+    let a = held_by (with_test (g.C.Checks.answers c.args.check_run.now.checks.now) test) c.args.trust.now in
     let m = c.args.message.now in
     let rs = map spelled c.args.records.now in
     let x = c.in_ok-key_group.field-0 in
@@ -51,7 +51,7 @@ returns-clause-exact g c = λ test h.
 
 pub returns-clause-lasts : goal.returns-clause-lasts
 returns-clause-lasts g c = λ test h.
-    let w = held_by (with_test (g.C.Checks.answers c.args.verifier.now.checks.now) test) c.args.trust.now in
+    let w = held_by (with_test (g.C.Checks.answers c.args.check_run.now.checks.now) test) c.args.trust.now in
     let m = c.args.message.now in
     let rs = map spelled c.args.records.now in
     let x = c.in_ok-key_group.field-0 in
@@ -66,7 +66,7 @@ returns-clause-lasts g c = λ test h.
 
 pub seconds_of-requires : goal.seconds_of-requires
 seconds_of-requires g c =
-    let own = g.C.Checks.answers c.args.verifier.now.checks.now in
+    let own = g.C.Checks.answers c.args.check_run.now.checks.now in
     let w = held_by own c.args.trust.now in
     let m = c.args.message.now in
     let rs = map spelled c.args.records.now in
@@ -86,7 +86,7 @@ verify_groups-requires-clause-ranked g c =
 
 pub returns-clause-asked : goal.returns-clause-asked
 returns-clause-asked g c = λ test passes.
-    let w = held_by (g.C.Checks.answers c.args.verifier.now.checks.now) c.args.trust.now in
+    let w = held_by (g.C.Checks.answers c.args.check_run.now.checks.now) c.args.trust.now in
     let m = c.args.message.now in
     let ks = c.args.keys.now in
     let rs = map spelled c.args.records.now in
@@ -98,7 +98,7 @@ returns-clause-asked g c = λ test passes.
 
 pub returns-in_err-verify_groups-clause-asked : goal.returns-in_err-verify_groups-clause-asked
 returns-in_err-verify_groups-clause-asked g c = λ test passes.
-    let w = held_by (g.C.Checks.answers c.args.verifier.now.checks.now) c.args.trust.now in
+    let w = held_by (g.C.Checks.answers c.args.check_run.now.checks.now) c.args.trust.now in
     let m = c.args.message.now in
     let ks = c.args.keys.now in
     let rs = map spelled c.args.records.now in

@@ -17,9 +17,9 @@ ghost use Rattle.answer_judge_facts.specs.Verified.{is_verified};
 
 use crate::groups::{Group, verify_groups};
 use crate::lasting::seconds_of;
+use answer_judge_keys::check_run::CheckRun;
 use answer_judge_keys::keys::TaggedKey;
 use answer_judge_keys::trust::Trust;
-use answer_judge_keys::verifier::Verifier;
 use answer_scheme::checks::Checks;
 use messages::ViewRecord;
 use messages::names::{Name, cow_name};
@@ -33,45 +33,45 @@ pub fn are_verified<C: Checks>(
     records: &[ViewRecord],
     keys: &[TaggedKey],
     trust: &Trust,
-    verifier: &mut Verifier<C>,
+    check_run: &mut CheckRun<C>,
     seconds: &mut u32,
 ) -> Result<bool, AllocError>
     requires index { Ranks trust.now.keys.now trust.now.ranked.now }
-    requires room { verifier.old.count + length records.now < 2 ^ 32 }
-    ensures exact { EachAgreeing (C.answers verifier.old.checks.now)
-        (C.agrees verifier.new.checks.now) (λ a. let w = held_by a trust.now in
+    requires room { check_run.old.count + length records.now < 2 ^ 32 }
+    ensures exact { EachAgreeing (C.answers check_run.old.checks.now)
+        (C.agrees check_run.new.checks.now) (λ a. let w = held_by a trust.now in
         let items = sorted_data (map dnskey_data keys.now) in let rs = map spelled records.now in
         IfOk result (λ b. b ≡ is_verified w pointer_limit message.now rs w.apex 48 items)) }
-    ensures tried { EachAgreeing (C.answers verifier.old.checks.now)
-        (C.agrees verifier.new.checks.now) (λ a. let w = held_by a trust.now in
+    ensures tried { EachAgreeing (C.answers check_run.old.checks.now)
+        (C.agrees check_run.new.checks.now) (λ a. let w = held_by a trust.now in
         let sought = keys_sought w.apex keys.now in let rs = map spelled records.now in
-        let count = verifier.old.count + tries w pointer_limit message.now sought [] rs in
-        IfOk result (λ _. verifier.new.count ≡ count)) }
-    ensures lasts { EachAgreeing (C.answers verifier.old.checks.now)
-        (C.agrees verifier.new.checks.now) (λ a. let w = held_by a trust.now in
+        let count = check_run.old.count + tries w pointer_limit message.now sought [] rs in
+        IfOk result (λ _. check_run.new.count ≡ count)) }
+    ensures lasts { EachAgreeing (C.answers check_run.old.checks.now)
+        (C.agrees check_run.new.checks.now) (λ a. let w = held_by a trust.now in
         let m = message.now in let rs = map spelled records.now in
         let all = key_seconds w pointer_limit m rs keys.now in
         IfOk result (λ _. seconds.new ≡ least_of all)) }
-    ensures agrees { (test : SignatureTest) → C.agrees verifier.new.checks.now test
-        → C.agrees verifier.old.checks.now test }
-    ensures asked { (test : SignatureTest) → let a = C.answers verifier.old.checks.now in
+    ensures agrees { (test : SignatureTest) → C.agrees check_run.new.checks.now test
+        → C.agrees check_run.old.checks.now test }
+    ensures asked { (test : SignatureTest) → let a = C.answers check_run.old.checks.now in
         let w = held_by a trust.now in let rs = map spelled records.now in
         let sought = keys_sought w.apex keys.now in
         Implies (is_tried_among w pointer_limit message.now sought [] rs) test
-        → C.asked_only verifier.old.checks.now test → C.asked_only verifier.new.checks.now test }
-    ensures counted { C.verified verifier.new.checks.now + verifier.old.count
-        ≡ C.verified verifier.old.checks.now + verifier.new.count }
+        → C.asked_only check_run.old.checks.now test → C.asked_only check_run.new.checks.now test }
+    ensures counted { C.verified check_run.new.checks.now + check_run.old.count
+        ≡ C.verified check_run.old.checks.now + check_run.new.count }
     ensures bound { let rs = map spelled records.now in
-        verifier.new.count ≤ verifier.old.count + length (filter is_signature rs) }
-    ensures few { verifier.new.count ≤ verifier.old.count + length records.now }
-    ensures hashed { C.hashed verifier.new.checks.now ≡ C.hashed verifier.old.checks.now }
-    ensures same { C.answers verifier.new.checks.now ≡ C.answers verifier.old.checks.now }
-    ensures same_checks { verifier.new.checks.ghost_name ≡ verifier.old.checks.ghost_name }
+        check_run.new.count ≤ check_run.old.count + length (filter is_signature rs) }
+    ensures few { check_run.new.count ≤ check_run.old.count + length records.now }
+    ensures hashed { C.hashed check_run.new.checks.now ≡ C.hashed check_run.old.checks.now }
+    ensures same { C.answers check_run.new.checks.now ≡ C.answers check_run.old.checks.now }
+    ensures same_checks { check_run.new.checks.ghost_name ≡ check_run.old.checks.ghost_name }
 {
-    let alloc = verifier.alloc;
+    let alloc = check_run.alloc;
     let mut groups = Vec::with_capacity(alloc, 1)?;
     groups.push(key_group(alloc, trust.apex, keys)?)?;
-    verify_groups(message, records, trust, &mut groups, verifier)?;
+    verify_groups(message, records, trust, &mut groups, check_run)?;
     *seconds = seconds_of(message, records, &groups, trust.moment);
     Ok(was_verified(groups.pop()))
 }

@@ -1,6 +1,6 @@
 use Rattle.std.proofs.Common.{true, false, sym, ap, ◌∙◌}
 use Rattle.answer_judge_rules.proofs.Closest.{first_shown, closest_behind, shown_so}
-use Rattle.answer_judge_rules.proofs.facts.Link.closest.Goals as goal
+use Rattle.answer_judge_rules.proofs.facts.NsecLink.closest.Goals as goal
 
 pub loop-ancestor-init : goal.loop-ancestor-init
 loop-ancestor-init c =
