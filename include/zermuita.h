@@ -102,8 +102,8 @@ struct zermuita_octets {
  * 1035, 3.1).
  *
  * Of `ds` those records count that are of one of the `algorithms` and have a digest of SHA-256 or SHA-384. Where there are
- * others alone the zone is insecure (RFC 4035, 5.2). That there is no DS record is said by `no_ds`: no octets without it are
- * refused, and so are octets beside it.
+ * others alone the zone is insecure (RFC 4035, 5.2). That there is no DS record is said by `no_ds`: no octets without it bring
+ * ZERMUITA_BAD_CASE, and so do octets beside it.
  */
 struct zermuita_case {
     size_t size;                       /* sizeof(struct zermuita_case) */

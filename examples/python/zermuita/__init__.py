@@ -87,7 +87,7 @@ class Ask:
 class Case:
     """What is judged. Names are in wire form, messages as they came, DS records by their data.
 
-    A set of no DS records is refused, unless `no_ds` says that the parent proved that there is none.
+    A set of no DS records raises `ValueError`, unless `no_ds` says that the parent proved that there is none.
     """
 
     apex: bytes
