@@ -28,22 +28,27 @@ extern "C" {
 /* What a call answers. The comment behind each is what zermuita_strerror says of it. */
 enum zermuita_reply {
     /*
-     * Verdicts: secure, but for ZERMUITA_OPTOUT and ZERMUITA_INSECURE. What is written:
+     * Verdicts: secure, but for ZERMUITA_OPTOUT and ZERMUITA_INSECURE, which are insecure, and for ZERMUITA_DELEGATED and
+     * ZERMUITA_REFERRAL, which prove where the zone ends and leave open whether the name is secure. The output, which is what is
+     * written to `out`:
      *
      *   ZERMUITA_RECORDS, ZERMUITA_WILDCARD      the records' data (zermuita_next_record)
      *   ZERMUITA_ALIAS, ZERMUITA_WILDCARD_ALIAS  the target, a name in wire form (zermuita_next_name)
-     *   ZERMUITA_DNAME                           the DNAME's owner, and the name that the question's becomes; the owner alone where
-     *                                            that name would have more than 255 octets: YXDOMAIN (RFC 6672, 2.2)
+     *   ZERMUITA_DNAME                           the DNAME's owner, and the name that `name` of the case becomes; the owner alone
+     *                                            where that would have more than 255 octets: YXDOMAIN (RFC 6672, 2.2)
      *   ZERMUITA_REFERRAL                        the cut's name, and behind it its DS set, in the form of `ds`
      *   ZERMUITA_DELEGATED                       the name of the topmost delegation, where the answer proves which; else nothing
      *   others                                   nothing
      *
-     * With `places` 1 the places of the records that the verdict vouches for stand in front of that (zermuita_take_places), with
-     * each verdict but ZERMUITA_INSECURE.
+     * With `places` 1 the places of the records that are verified for the verdict stand in front of that (zermuita_take_places),
+     * with each verdict but ZERMUITA_INSECURE.
      *
-     * A verdict vouches for the RRset that was asked for, for that of an alias or a DNAME, for the DS set of a referral and for NSEC
-     * and NSEC3 records alone: no SOA record beside a denial and no NS set of a referral is verified, nor the CNAME that servers
-     * make of a DNAME. Of an alias nothing is said but where it leads: ask for the target next.
+     * A verdict but ZERMUITA_INSECURE vouches for the NSEC and NSEC3 records whose signatures pass and for the DNSKEY set;
+     * ZERMUITA_RECORDS and ZERMUITA_WILDCARD also for the RRset that was asked for, the replies of an alias for its CNAME or DNAME
+     * record, ZERMUITA_REFERRAL for its DS set; and none for anything else: no SOA record beside a denial and no NS set of a
+     * referral is verified, nor the CNAME that servers make of a DNAME. Of an alias nothing is said but where it leads: ask for the
+     * target next, from the root down. It is the target of `name` alone: where that is not the client's name, as in a search for a
+     * delegation above that, do not follow it.
      */
     ZERMUITA_RECORDS = 0,         /* the name has records of the type */
     ZERMUITA_NODATA = 1,          /* the name has no records of the type */
@@ -97,8 +102,8 @@ struct zermuita_octets {
  * 1035, 3.1).
  *
  * Of `ds` those records count that are of one of the `algorithms` and have a digest of SHA-256 or SHA-384. Where there are
- * others alone the zone is insecure (RFC 4035, 5.2). That there is no DS record is said by `no_ds`: no octets without it are
- * refused, and so are octets beside it.
+ * others alone the zone is insecure (RFC 4035, 5.2). That there is no DS record is said by `no_ds`: no octets without it bring
+ * ZERMUITA_BAD_CASE, and so do octets beside it.
  */
 struct zermuita_case {
     size_t size;                       /* sizeof(struct zermuita_case) */
@@ -118,10 +123,10 @@ struct zermuita_case {
     uint32_t max_signatures;           /* how many signatures of both messages are to be checked at most; 0: 16 */
     uint32_t other_question;           /* 1: the answer may be one to another question of the zone; 0: to this one */
     uint32_t no_ds;                    /* 1: the parent proved a delegation without DS records; 0: `ds` has some */
-    uint32_t places;                   /* 1: a verdict says which records of `answer` it vouches for; 0: it does not */
+    uint32_t places;                   /* 1: a verdict says which records of `answer` are verified for it; 0: it does not */
 };
 
-/* Whether a name that has no DS record is a delegation. */
+/* Whether a name that has no DS record is a delegation: promised of a zone that does not change, whatever `one_moment` is. */
 enum zermuita_delegates {
     ZERMUITA_DELEGATES_UNKNOWN = 0, /* nothing is said of it */
     ZERMUITA_DELEGATES_YES = 1,     /* the name is a delegation, to a zone that is not signed */
@@ -138,7 +143,7 @@ enum zermuita_delegates {
  */
 struct zermuita_report {
     size_t size;            /* sizeof(struct zermuita_report), set before the call */
-    size_t len;             /* how many octets the reply has; of one that there is no room for, what all else here is of too */
+    size_t len;             /* how many octets the output has; of one that there is no room for, what all else here is of too */
     uint64_t until;         /* the last second, since 1970, in which the verdict stands */
     uint64_t verifications; /* with a verdict or a refusal: how many signatures were looked up in `checked`, not for places */
     uint64_t hashes;        /* with a verdict or a refusal: how many names were hashed */
@@ -180,7 +185,7 @@ static inline int zermuita_octets_are(struct zermuita_octets *octets) {
 #define ZERMUITA_REPORT_ROOM 128
 
 /*
- * Judges a case. Where the reply's `report->len` octets are at most `out_len`, they are written to the front of `out`; else nothing
+ * Judges a case. Where the output's `report->len` octets are at most `out_len`, they are written to the front of `out`; else nothing
  * is, and the reply is ZERMUITA_BUFFER_TOO_SMALL. `out` may be null where `out_len` is 0, and `report` where it is not wanted.
  * Nothing that the library reads may overlap `out` or `report`.
  *
@@ -243,8 +248,8 @@ static inline int zermuita_next_part(struct zermuita_octets *rest, size_t width,
 }
 
 /*
- * Takes the data of one record off the front of `rest`, which begins as the octets of a reply that is ZERMUITA_RECORDS or
- * ZERMUITA_WILDCARD, or behind the name of a ZERMUITA_REFERRAL. Gives 0 where there are no more. Records come in canonical order.
+ * Takes the data of one record off the front of `rest`, which begins as the output of ZERMUITA_RECORDS or ZERMUITA_WILDCARD, or
+ * behind the name of a ZERMUITA_REFERRAL. Gives 0 where there are no more. Records come in canonical order.
  */
 static inline int zermuita_next_record(struct zermuita_octets *rest, struct zermuita_octets *rdata) {
     return zermuita_next_part(rest, 2, rdata);
@@ -273,9 +278,10 @@ static inline int zermuita_next_name(struct zermuita_octets *rest, struct zermui
 }
 
 /*
- * Takes the places of the records that a verdict vouches for off the front of `rest`, which begins as the octets of the reply to
- * a case with `places` 1: how many there are in four octets, and each in four. What is behind them is what the reply writes with
- * `places` 0. Gives 0 where there are none, as with ZERMUITA_INSECURE.
+ * Takes the places of the records that are verified for a verdict off the front of `rest`, which begins as the output of a case
+ * with `places` 1: how many there are in four octets, and each in four. What is behind them is the output with `places` 0. Gives 0
+ * where there are none, as with ZERMUITA_INSECURE. With ZERMUITA_OPTOUT they may be those of a wildcard's records under `name`,
+ * which are insecure there.
  */
 static inline int zermuita_take_places(struct zermuita_octets *rest, struct zermuita_octets *places) {
     size_t count = rest->len < 4 ? 0 : zermuita_number(rest->data, 4);
@@ -304,7 +310,7 @@ static inline int zermuita_next_place(struct zermuita_octets *places, uint32_t *
     return 1;
 }
 
-/* A signature that is to be checked. Its octets are those of the reply, and valid until `out` is written or freed. */
+/* A signature that is to be checked. Its octets are those of the output, and valid until `out` is written or freed. */
 struct zermuita_ask {
     struct zermuita_octets dnskey;    /* the data of the DNSKEY record: flags, protocol, algorithm and key (RFC 4034, 2.1) */
     struct zermuita_octets key;       /* the key alone, as its algorithm writes it */

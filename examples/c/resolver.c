@@ -70,8 +70,9 @@ static const struct kept *answered(struct zone zone, struct zermuita_octets name
         const struct kept *it = said(&zone, name, rtype), *ds = it;
         struct zermuita_octets rest = {it->octets, it->report.len}, cut = name;
         bool has_cut = (it->reply == ZERMUITA_REFERRAL || it->reply == ZERMUITA_DELEGATED) && zermuita_next_name(&rest, &cut);
-        struct zermuita_octets at = cut;
-        /* A denial does not say whether the zone below is signed, and a server may answer from that at once: then DS sets do. */
+        const size_t first = rtype == DS_TYPE && cut.len == name.len ? 1 + (size_t)name.data[0] : 0;
+        struct zermuita_octets at = {cut.data + first, cut.len - first};
+        /* A server may hide the zone below or answer from it: then DS sets tell. Aliases of shorter names lead elsewhere. */
         while ((ds->reply == ZERMUITA_DELEGATED || ds->reply == ZERMUITA_NOT_PROVEN) && at.len > zone.apex.len && judged < most) {
             ds = said(&zone, cut = at, DS_TYPE);
             rest = (struct zermuita_octets){ds->octets, ds->report.len};

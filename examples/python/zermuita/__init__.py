@@ -47,7 +47,7 @@ class Verdict(enum.IntEnum):
 
 
 class Refused(Exception):
-    """No verdict, which is bogus for most reasons: docs/use/CALLING.md has the table of replies.
+    """No verdict: docs/use/CALLING.md has the table of replies, and which of them are bogus.
 
     `reply` is the number of the reason, and `ede` the code of an extended error (RFC 8914), or 0 where there is none.
     """
@@ -78,7 +78,7 @@ class Ask:
         return self.dnskey[4:]
 
     def entry(self, passes: bool) -> bytes:
-        """The answered entry of a list of checked signatures."""
+        """The entry of a list of checked signatures, with whether this one passes."""
         parts = behind_length(self.dnskey), behind_length(self.octets, 4), behind_length(self.signature)
         return b"".join(parts) + bytes([passes])
 
@@ -87,7 +87,7 @@ class Ask:
 class Case:
     """What is judged. Names are in wire form, messages as they came, DS records by their data.
 
-    A set of no DS records is refused, unless `no_ds` says that the parent proved that there is none.
+    A set of no DS records raises `ValueError`, unless `no_ds` says that the parent proved that there is none.
     """
 
     apex: bytes
@@ -110,7 +110,7 @@ class Case:
     """Whether the answer may be one to another question of the zone."""
     no_ds: bool = False
     places: bool = False
-    """Whether a judgement says which records of `answer` it vouches for."""
+    """Whether a judgement says which records of `answer` are verified for it."""
 
 
 @dataclasses.dataclass(frozen=True)
@@ -131,8 +131,8 @@ class Judgement:
     checked: bytes
     """The signatures that were checked: entries, which another call may begin with."""
     target: bytes | None = None
-    """With ALIAS and WILDCARD_ALIAS, the name that the alias leads to. With DNAME, the name that the question's becomes, or None where
-    that would be too long (RFC 6672, 2.2)."""
+    """With ALIAS and WILDCARD_ALIAS, the name that the alias leads to. With DNAME, the name that `name` of the case becomes, or None
+    where that would be too long (RFC 6672, 2.2). Where DS was asked for at a name above the client's, do not follow it."""
     owner: bytes | None = None
     """With DNAME, its owner."""
     cut: bytes | None = None
@@ -142,8 +142,9 @@ class Judgement:
     delegates: bool | None = None
     """With NODATA for DS, whether the name is a delegation, where the answer proves that; else None."""
     places: list[int] | None = None
-    """The numbers of the records of `answer` that the verdict vouches for, counted from 0 over all its sections, ascending; RRSIG
-    records have none. None with INSECURE, and where the case does not want them."""
+    """The numbers of the records of `answer` that are verified for the verdict, counted from 0 over all its sections, ascending; RRSIG
+    records have none. With OPTOUT they may be those of a wildcard's records, which are insecure. None with INSECURE, and where the
+    case does not want them."""
 
 
 class _Octets(ctypes.Structure):
@@ -210,13 +211,13 @@ def _names(octets: bytes, count: int) -> tuple[list[bytes], bytes]:
 
 
 def _places(octets: bytes) -> tuple[list[int], bytes]:
-    """The places in front of the octets of a verdict, behind how many there are, each in four octets, and what is behind them."""
+    """The places in front of the output of a verdict, behind how many there are, each in four octets, and what is behind them."""
     count, *places = (int.from_bytes(octets[at : at + 4], "big") for at in range(0, 4 + 4 * int.from_bytes(octets[:4], "big"), 4))
     return places, octets[4 + 4 * count :]
 
 
 def _said(verdict: Verdict, octets: bytes) -> dict[str, Any]:
-    """What the octets of a verdict say, as fields of a judgement."""
+    """What the output of a verdict says, as fields of a judgement."""
     if verdict in (Verdict.RECORDS, Verdict.WILDCARD):
         return {"records": [row[0] for row in _parts(octets, (2,))]}
     names, rest = _names(octets, 2 if verdict == Verdict.DNAME else 1)
@@ -283,7 +284,7 @@ class Library:
         return Judgement(verdict, checked=checked, **numbers, **_said(verdict, octets), delegates=delegates, places=places)
 
     def _call(self, case: Case, now: int, checked: bytes) -> tuple[int, bytes, _Report]:
-        """One call, made again where the reply has more octets than there is room for."""
+        """One call, made again where the output has more octets than there is room for."""
         ds = b"".join(map(behind_length, case.ds))
         octets = [_Octets(it, len(it)) for it in (case.apex, ds, case.dnskey, case.answer, case.name, checked)]
         numbers = now, case.rtype, case.rclass, case.max_nsec3_iterations, case.one_moment, case.as_received
