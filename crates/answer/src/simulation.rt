@@ -19,7 +19,6 @@ use messages::names::Name;
 use messages::record::ZoneRecord;
 use std::alloc::Global;
 
-mod copies;
 mod results;
 mod run;
 

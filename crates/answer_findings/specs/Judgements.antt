@@ -38,7 +38,7 @@ IsMade table h m = IsJudgedBy table (aside h (question_of m)) m.said
 abbrev pub IsMadeInMemory : Made → Type 0
 IsMadeInMemory m = is_out_of_memory (answer_of m.said) ≡ false
 
--- That of a question, if one is wanted. One that memory ran out for says nothing of what the answer proves: it is none.
+-- The judgement of a question, if one is wanted. One that memory ran out for says nothing of what the answer proves: it is none.
 pub record IsMadeOf (table : List Checked) (h : JudgeInput) (wanted : Option Asked) (made : Option Made) : Type 0 where
   pub asked : asked_in made ≡ wanted
   pub judged : IfSome made (IsMade table h)

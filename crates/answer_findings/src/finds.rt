@@ -24,8 +24,8 @@ use std::alloc::{AllocError, Global};
 /// where that is the case's own, by the one that the answer suggests besides, which wants those of
 /// the case too where the answer is one about an alias or a referral.
 ///
-/// Of messages in which nothing is forged, whichever of these questions they are judged for, what
-/// is found is so of a version of the zone: an alias leads there, the DS records are at the cut.
+/// What is found in messages in which nothing is forged, whichever of these questions they are
+/// judged for, is so of a version of the zone: an alias leads there, the DS records are at the cut.
 /// What rests on two judgements, the cut and whether a name without DS is delegated, is so of a
 /// zone that does not change.
 pub fn find(alloc: Global, case: &Case, table: &[CheckedSignature]) -> Result<Found, AllocError>

@@ -179,7 +179,7 @@ abbrev pub SaysOneOf : JudgeInput → List Version → Answer → Type 0
 SaysOneOf h versions (Says w) = IsSaidByOne h versions w
 SaysOneOf h versions (Refuses e) = Unit {0}
 
--- Of honest messages a judge says the verdict of one version, or refuses: never one that a mixture of them brings.
+-- A judge says of honest messages the verdict of one version, or refuses: never one that a mixture of them brings.
 abbrev pub AnswersHonest : Answers → ℕ → JudgeInput → Answer → Type 0
 AnswersHonest a k h answer = (versions : List Version) → AreHonest a k h versions → SaysOneOf h versions answer
 

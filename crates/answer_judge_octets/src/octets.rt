@@ -98,8 +98,8 @@ pub struct Report {
     /// The extended error that the reply brings (RFC 8914, 4), or 0: code 0 of the RFC, which says
     /// nothing, is never brought.
     pub ede: u16,
-    /// Of a name that has no DS record: 1 where it is a delegation, 2 where it is none; 0 where
-    /// nothing is said of it.
+    /// Whether a name without DS records is delegated: 1 where it is, 2 where it is not, 0 where
+    /// the reply says nothing of it.
     pub delegates: u16,
 }
 
@@ -136,9 +136,9 @@ struct ReadCase<'a> {
 /// signed stand the numbers of the records that it vouches for, counted from 0 over the sections of
 /// the answer, ascending, in four octets each, behind how many there are in four.
 ///
-/// Of messages in which nothing is forged, in the form that is judged, nothing is said but what is
-/// so of a version of the zone: of a zone in order (nothing beside a CNAME, nothing below a DNAME),
-/// whoever signs and serves it, and whichever question the answer was given to.
+/// What it says of messages in which nothing is forged, in the form that is judged, is so of a
+/// version of the zone: of a zone in order (nothing beside a CNAME, nothing below a DNAME), whoever
+/// signs and serves it, and whichever question the answer was given to.
 ///
 /// A refusal brings its extended error, for which the signatures of the answer may be looked up
 /// once more.

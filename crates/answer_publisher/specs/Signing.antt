@@ -10,7 +10,7 @@ use Rattle.answer_publisher_keys.specs.declared.keys.Publication.TheVariants.{Si
 abbrev pub is_for_parent : Name → Asked → Bool
 is_for_parent apex asked = among (59 ∷ 60 ∷ []) asked.rtype && same asked.name apex
 
--- Which keys sign an answer that has so many RRsets of those asked for: those that sign the zone. The parent takes such an RRset
+-- The keys that sign an answer with a number of RRsets of those asked for: those that sign the zone. The parent takes such an RRset
 -- from a key of its DS set, so those that sign keys sign it, too; the answer has no other (RFC 7344, 4.1).
 abbrev pub signing : Name → Asked → ℕ → Publication
 signing apex asked found = if is_for_parent apex asked && nat_lt 0 found then Signs else SignsZone

@@ -23,7 +23,7 @@ abbrev pub AreOf : {X : Type 0} → (Dnskey → Option (List ℕ)) → ZoneKeys 
 AreOf {X} digest s p make xs =
     (x : X) → Contains xs x ↔ ((q : Reference) × (b : BoundKey) × IsPublishedAs digest s p q b × (x ≡ make b))
 
--- Of each role the references of what is published are those that the key set lists. The DS set has the DS of type 2 of
+-- The references of what is published in each role are those that the key set lists. The DS set has the DS of type 2 of
 -- each key at the parent, the DNSKEY set the data of each key that is present, and the lists of what signs keys and of
 -- what signs the zone have the DNSKEY of each key that does; none has anything else.
 pub record PublishesKeySet (digest : Dnskey → Option (List ℕ)) (s : ZoneKeys) : Type 0 where

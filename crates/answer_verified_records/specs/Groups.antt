@@ -1,4 +1,4 @@
--- The same of RRsets that were gathered, as contracts see them.
+-- RRsets that were gathered, as contracts see them.
 use Rattle.std.specs.Prelude.{ℕ, Bool, ◌&&◌, ◌==◌, List, is_some}
 use Rattle.std.specs.List.{list_any}
 use Rattle.definitions.specs.Limits.{pointer_limit}

@@ -4,6 +4,7 @@
 
 pub mod chain;
 pub mod chains;
+pub mod copies;
 pub mod fault;
 pub mod faults;
 pub mod group;

@@ -63,7 +63,7 @@ pub record Session : Type 0 where
   pub records : List HandedRr
   pub events : List EventLine
 
--- So many lines were read, which say this; the session of these and the rest, or the number of the first line that
+-- The session of the lines that were read, counted, and of the rest, or the number of the first line that
 -- can't be read. Without a zone that is the line behind the last. What is gathered at the end is passed over.
 abbrev pub session_behind : ℕ → Lines → List (List ℕ) → Result Session ℕ
 session_behind n s [] = elim s.zone [ None ↦ Err (n + 1) | Some z ↦ Ok (record { zone = z; records = s.records; events = s.events }) ]

@@ -20,7 +20,7 @@ use std::alloc::{AllocError, Global};
 /// insecure. An alias at the name means that no delegation is there (RFC 4035, 3.1.4.1).
 /// `algorithms` names those that signatures are checked of; none stands for all.
 ///
-/// Of messages in which nothing is forged this is so of the zone, if it is in order and does not
+/// Where nothing in the messages is forged this is so of the zone, if it is in order and does not
 /// change.
 pub fn cut_step(
     alloc: Global,

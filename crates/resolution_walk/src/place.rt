@@ -110,7 +110,7 @@ pub(crate) fn wanting(
     Ok(Turn::Ends(Ending::Wants(wanted)))
 }
 
-/// Of a zone's keys and its answer to a question those that are not there.
+/// What is not there of a zone's keys and its answer to a question.
 fn lacking(
     alloc: Global,
     evidence: &Evidence,

@@ -38,7 +38,7 @@ pub struct Limits {
 /// to: of its keys and its answer. For one name a message is judged once, so that the judgements
 /// grow with the messages and not with their square.
 ///
-/// Of evidence in which nothing is forged zone by zone, beside an anchor of the tree, this is what
+/// Where nothing in the evidence is forged, zone by zone, beside an anchor of the tree, this is what
 /// the tree says: secure with the verdict of the zone that has the name, insecure below a
 /// delegation that the tree leaves unsigned or where opt-out leaves the name open, through the
 /// aliases that the tree has. The tree's zones are in order and do not change.

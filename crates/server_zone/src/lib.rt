@@ -7,7 +7,6 @@ pub mod line;
 mod lines;
 pub mod open_zone;
 pub mod opening;
-mod records;
 pub mod refusals;
 
 pub use crate::open_zone::{Applied, Zone};

@@ -9,11 +9,11 @@ ghost use Rattle.server_zone.specs.States.{Follows, IsRestKept, OfLine, RefusesL
 
 use crate::line::{Line, read_line};
 use crate::lines::has_feed;
-use crate::records::copy_records;
 use crate::refusals::Refusal;
 use answer_events::event::KeyCall;
 use answer_publisher::publishing::Publisher;
 use answer_scheme::scheme::Scheme;
+use answer_zone_records::copies::copy_records;
 use denial_nsec3_hash::hasher::Nsec3Hasher;
 use keyset::{Action, RollType, UnixTime};
 use keyset_due::{Due, due_of};

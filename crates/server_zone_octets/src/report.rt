@@ -10,11 +10,11 @@ pub struct ZoneReport {
     pub size: usize,
     /// How many octets are told.
     pub len: usize,
-    /// Of a journal that is refused: the line, counted from 1 on; else 0.
+    /// The line at which a journal is refused, counted from 1 on; else 0.
     pub line: usize,
-    /// Of a journal: how many octets its whole lines have.
+    /// How many octets the whole lines of a journal have.
     pub whole: usize,
-    /// Of a journal: how many octets stand up to the last line behind which no records wait for
+    /// How many octets of a journal stand up to the last line behind which no records wait for
     /// their replacement.
     pub settled: usize,
 }

@@ -52,14 +52,14 @@ impl Asked {
         }
     }
 
-    /// That case, where signatures may be of any moments.
+    /// The case of a line, where signatures may be of any moments.
     pub fn of_any_moments<'a>(&'a self, dnskey: &'a [u8], answer: &'a [u8]) -> Case<'a> {
         let mut case = self.of(dnskey, answer);
         case.one_moment = false;
         case
     }
 
-    /// That case, where the answer may be one to another question.
+    /// The case of a line, where the answer may be one to another question.
     fn of_any_question<'a>(&'a self, dnskey: &'a [u8], answer: &'a [u8]) -> Case<'a> {
         let mut case = self.of(dnskey, answer);
         case.other_question = true;

@@ -9,7 +9,6 @@ ghost use Rattle.messages.specs.WrittenLaws.{IsQuestion};
 ghost use Rattle.answer.specs.Running.{sofar_in, world_in, Serves};
 ghost use Rattle.answer_laws.specs.Simulating.{judge_input, JudgesThings, JudgesBytes, Replaces};
 
-use crate::simulation::copies::copy_records;
 use crate::simulation::results::{Results, Thing};
 use answer_events::event::{Act, Event};
 use answer_judge::{Case, Judgement, Refused, judge_with};
@@ -17,6 +16,7 @@ use answer_outcomes::outcome::Outcome;
 use answer_publisher::fault::ReplaceFault;
 use answer_publisher::publishing::Publisher;
 use answer_scheme::scheme::Scheme;
+use answer_zone_records::copies::copy_records;
 use answer_zone_records::fault::ZoneFault;
 use denial_data::Ds;
 use denial_nsec3_hash::hasher::Nsec3Hasher;

@@ -11,11 +11,8 @@ use plain::soa::Soa;
 use plain::zone_data::ZoneRecordData;
 use std::alloc::{AllocError, Global};
 
-/// Records that spell the same.
-pub(crate) fn copy_records(
-    alloc: Global,
-    records: &[ZoneRecord],
-) -> Result<Vec<ZoneRecord>, AllocError>
+/// Copies of records that spell the same: a refused replacement leaves the caller its own.
+pub fn copy_records(alloc: Global, records: &[ZoneRecord]) -> Result<Vec<ZoneRecord>, AllocError>
     ensures { IfOk result (λ v. map handed_of v.items ≡ map handed_of records.now) }
 {
     let mut copies = Vec::with_capacity(alloc, records.len())?;
