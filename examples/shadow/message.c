@@ -110,9 +110,9 @@ bool is_signed_by(const struct message *message, const struct name *signer) {
 }
 
 /*
- * Whether a signature is of what a message has of a name: of its records in the answer section or of a DNAME record above it, or
- * one in the authority section; but there NSEC and NSEC3 records beside records of the name are those of a wildcard, and of
- * another name where the message has aliases.
+ * Whether a signature says something of a name: it is over records of the name in the answer section, over a DNAME record above
+ * it, or over records of the authority section. NSEC and NSEC3 records there say something of the name where the answer section
+ * has nothing of it; else they stand beside a wildcard of another name (RFC 4035, 3.1.3.3).
  */
 static bool is_of_name(const struct record *record, uint16_t covered, const struct name *name, bool is_denied) {
     if (record->section == ANSWER) {
