@@ -109,18 +109,45 @@ bool is_signed_by(const struct message *message, const struct name *signer) {
     return false;
 }
 
+/*
+ * Whether a signature says something of a name: it is over records of the name in the answer section, over a DNAME record above
+ * it, or over records of the authority section. NSEC and NSEC3 records there say something of the name where the answer section
+ * has nothing of it; else they stand beside a wildcard of another name (RFC 4035, 3.1.3.3).
+ */
+static bool is_of_name(const struct record *record, uint16_t covered, const struct name *name, bool is_denied) {
+    if (record->section == ANSWER) {
+        return names_equal(&record->owner, name) || (covered == TYPE_DNAME && is_at_or_below(name, &record->owner));
+    }
+    return is_denied || (covered != TYPE_NSEC && covered != TYPE_NSEC3);
+}
+
+/* Whether the answer section has no record of a name. */
+static bool has_none_of(const struct message *message, const struct name *name) {
+    struct record record;
+    for (struct walk walk = walk_of(message); next_record(&walk, &record) && record.section == ANSWER;) {
+        if (names_equal(&record.owner, name)) {
+            return false;
+        }
+    }
+    return true;
+}
+
 bool find_signer(const struct message *message, const struct name *name, struct name *signer) {
     struct record record;
     struct signature signature;
-    bool is_found = false;
+    struct name denying = {0};
+    bool is_found = false, is_denied = has_none_of(message, name);
     for (struct walk walk = walk_of(message); next_record(&walk, &record) && record.section != ADDITIONAL;) {
+        if (record.rtype == TYPE_SOA && record.section == AUTHORITY && is_at_or_below(name, &record.owner)) {
+            denying = record.owner;
+        }
         if (read_signature(message, &record, &signature) && is_at_or_below(name, &signature.signer)
-            && (!is_found || signature.signer.len > signer->len)) {
+            && is_of_name(&record, signature.covered, name, is_denied) && (!is_found || signature.signer.len > signer->len)) {
             is_found = true;
             *signer = signature.signer;
         }
     }
-    return is_found;
+    return is_found && denying.len <= signer->len;
 }
 
 static uint32_t lesser(uint32_t one, uint32_t other) {

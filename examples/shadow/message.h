@@ -71,7 +71,10 @@ struct signature {
 bool read_signature(const struct message *message, const struct record *record, struct signature *signature);
 /* Whether a message has a signature, outside of the additional section, by a signer; by any where that is null. */
 bool is_signed_by(const struct message *message, const struct name *signer);
-/* The signer furthest down of those at or above a name. Gives false where there is none. */
+/*
+ * The zone that signed what a message has of a name: the signer furthest down. What is signed of the aliases that led to the name
+ * says nothing of it. Gives false where there is none, or where a SOA record says that an unsigned zone further down answered.
+ */
 bool find_signer(const struct message *message, const struct name *name, struct name *signer);
 /* How long all records of a message may be kept together, in seconds (RFC 4035, 5.3.3; RFC 2308, 5). */
 uint32_t least_ttl(const struct message *message, uint64_t now);

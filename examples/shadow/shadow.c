@@ -340,6 +340,36 @@ static bool is_step_judged(struct shadow *shadow, struct way *way, struct place 
     }
 }
 
+/*
+ * Beside aliases alone a client may get the denial of what the last one leads to, which the resolver has judged, too (PowerDNS
+ * Recursor, to questions for DS). Where that is by opt-out the answer is insecure, and has no AD (RFC 5155, 9.2).
+ */
+static void judge_denial(struct shadow *shadow, const struct message *client, struct place *place, struct trial *trial,
+                         struct verdict *verdict) {
+    static uint8_t room[MESSAGE_ROOM];
+    static const struct name no_zone;
+    struct trial further = *trial;
+    struct place behind;
+    struct message answer;
+    struct verdict found;
+    enum reason reason;
+    further.qname = verdict->target;
+    size_t len = has_opt_out(client) ? write_answer_for(client, &further.qname, room, sizeof room) : 0;
+    chain_descend(shadow->chain, &further.qname, further.qtype, further.now, &behind);
+    further.answer = (struct octets){room, len};
+    if (len == 0 || behind.standing != SIGNED || !read_message(further.answer, &answer)) {
+        return;
+    }
+    further.apex = behind.apex;
+    further.ds = (struct octets){behind.ds, behind.ds_len};
+    if (is_judged(shadow, &behind, &answer, &no_zone, &further, &found, &reason) && found.finding == FOUND_OPTOUT) {
+        *place = behind;
+        *trial = further;
+        trial->ds.data = place->ds;
+        *verdict = found;
+    }
+}
+
 /* Finds what is to be compared with what was told, from alias to alias. Gives false where nothing is, and why. */
 static bool find_verdict(struct shadow *shadow, const struct message *client, const struct told *told, struct place *place,
                          struct trial *trial, struct verdict *verdict, enum reason *reason) {
@@ -348,8 +378,11 @@ static bool find_verdict(struct shadow *shadow, const struct message *client, co
         if (!is_step_judged(shadow, &way, place, trial, verdict, reason)) {
             return false;
         }
-        bool is_end = told->is_alias_alone && !has_answer(client, &verdict->target, TYPE_CNAME);
-        if (verdict->finding != FOUND_ALIAS || is_end) {
+        if (verdict->finding != FOUND_ALIAS) {
+            return true;
+        }
+        if (told->is_alias_alone && !has_answer(client, &verdict->target, TYPE_CNAME)) {
+            judge_denial(shadow, client, place, trial, verdict);
             return true;
         }
         trial->qname = verdict->target;
