@@ -7,6 +7,12 @@ mod held;
 mod loose;
 mod opened;
 
+ghost use Rattle.std.specs.Prelude.{◌≡◌};
+ghost use Rattle.server_zone_octets.specs.Codes.{number_of};
+ghost use Rattle.server_zone_octets.specs.declared.code.ZoneCode.TheVariants as c;
+ghost use Rattle.zermuita_zone.specs.Calls.{AnswersFrom, AppliesTo, ForgetsIn, OpensFrom};
+ghost use Rattle.zermuita_zone.specs.Calls.{TellsDueOf, TellsSetOf, zone_in};
+
 use denial_nsec3_sha1::hasher::Sha1Hasher;
 use handle::ZoneHandle;
 use opened::OpenZone;
@@ -25,7 +31,10 @@ pub extern "C" fn zermuita_zone_open(
     journal: &[u8],
     out: &mut [u8],
     report: &mut ZoneReport,
-) -> u32 {
+) -> u32
+    ensures { let opens = OpensFrom journal.now (zone_in handle.old) (zone_in handle.new) in
+        opens report.old report.new out.old out.new result }
+{
     if handle.is_open() {
         return ZoneCode::IsOpen.number();
     }
@@ -49,7 +58,10 @@ pub extern "C" fn zermuita_zone_apply(
     line: &[u8],
     out: &mut [u8],
     report: &mut ZoneReport,
-) -> u32 {
+) -> u32
+    ensures { let applies = AppliesTo line.now (zone_in handle.old) (zone_in handle.new) in
+        applies report.old report.new out.old out.new result }
+{
     let Some(mut open) = handle.take(alloc) else {
         return ZoneCode::NotOpen.number();
     };
@@ -60,7 +72,9 @@ pub extern "C" fn zermuita_zone_apply(
 
 /// Drops the records that wait for their replacement.
 #[unsafe(no_mangle)]
-pub extern "C" fn zermuita_zone_forget(alloc: Global, handle: &mut ZoneHandle) -> u32 {
+pub extern "C" fn zermuita_zone_forget(alloc: Global, handle: &mut ZoneHandle) -> u32
+    ensures { ForgetsIn (zone_in handle.old) (zone_in handle.new) result }
+{
     let Some(mut open) = handle.take(alloc) else {
         return ZoneCode::NotOpen.number();
     };
@@ -71,7 +85,10 @@ pub extern "C" fn zermuita_zone_forget(alloc: Global, handle: &mut ZoneHandle) -
 
 /// Closes a zone, and frees all that it holds.
 #[unsafe(no_mangle)]
-pub extern "C" fn zermuita_zone_close(alloc: Global, handle: &mut ZoneHandle) -> u32 {
+pub extern "C" fn zermuita_zone_close(alloc: Global, handle: &mut ZoneHandle) -> u32
+    ensures closed { zone_in handle.new ≡ None }
+    ensures done { result ≡ number_of c.Done }
+{
     let _ = handle.take(alloc);
     ZoneCode::Done.number()
 }
@@ -84,7 +101,10 @@ pub extern "C" fn zermuita_zone_due(
     roll: u32,
     out: &mut [u8],
     due: &mut OctetDue,
-) -> u32 {
+) -> u32
+    ensures { let tells = TellsDueOf roll (zone_in handle.old) (zone_in handle.new) in
+        tells due.old due.new out.old out.new result }
+{
     let Some(open) = handle.take(alloc) else {
         return ZoneCode::NotOpen.number();
     };
@@ -101,7 +121,10 @@ pub extern "C" fn zermuita_zone_records(
     rtype: u16,
     out: &mut [u8],
     report: &mut ZoneReport,
-) -> u32 {
+) -> u32
+    ensures { let tells = TellsSetOf rtype (zone_in handle.old) (zone_in handle.new) in
+        tells report.old report.new out.old out.new result }
+{
     let Some(open) = handle.take(alloc) else {
         return ZoneCode::NotOpen.number();
     };
@@ -118,7 +141,10 @@ pub extern "C" fn zermuita_zone_respond_to(
     request: &OctetRequest,
     out: &mut [u8],
     report: &mut ZoneReport,
-) -> u32 {
+) -> u32
+    ensures { let answers = AnswersFrom request.now (zone_in handle.old) (zone_in handle.new) in
+        answers report.old report.new out.old out.new result }
+{
     let Some(mut open) = handle.take(alloc) else {
         return ZoneCode::NotOpen.number();
     };
