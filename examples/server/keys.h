@@ -77,6 +77,12 @@ static bool read_octets(struct key *key) {
     }
 }
 
+/* A file with a password is not read: nobody is there to type it. */
+static int no_password(char *room, int len, int is_new, void *context) {
+    (void)room, (void)len, (void)is_new, (void)context;
+    return -1;
+}
+
 /* The key of a name, from NAME.pem where it was not read yet. */
 static struct key *key_named(struct keys *keys, const char *name) {
     char path[512];
@@ -94,13 +100,13 @@ static struct key *key_named(struct keys *keys, const char *name) {
     if (file == NULL) {
         return NULL;
     }
-    key->pair = PEM_read_PrivateKey(file, NULL, NULL, NULL);
+    key->pair = PEM_read_PrivateKey(file, NULL, no_password, NULL);
     fclose(file);
     if (key->pair == NULL || !read_octets(key)) {
         EVP_PKEY_free(key->pair);
         return NULL;
     }
-    strcpy(key->name, name);
+    memcpy(key->name, name, strlen(name) + 1);
     keys->count++;
     return key;
 }

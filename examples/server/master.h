@@ -45,11 +45,20 @@ static bool put_octets(struct master *master, const void *octets, size_t len) {
     return true;
 }
 
-static bool put_number(struct master *master, const char *text, size_t width) {
+/* A number of at most so many octets, in digits alone. */
+static bool read_number(const char *text, size_t width, unsigned long *number) {
     char *end;
-    unsigned long number = strtoul(text, &end, 10);
+    *number = strtoul(text, &end, 10);
+    return isdigit((unsigned char)text[0]) && *end == 0 && strlen(text) <= 10 && *number >> (8 * width) == 0;
+}
+
+static bool put_number(struct master *master, const char *text, size_t width) {
+    unsigned long number;
+    if (!read_number(text, width, &number)) {
+        return false;
+    }
     uint8_t octets[4] = {(uint8_t)(number >> 24), (uint8_t)(number >> 16), (uint8_t)(number >> 8), (uint8_t)number};
-    return end != text && *end == 0 && put_octets(master, octets + 4 - width, width);
+    return put_octets(master, octets + 4 - width, width);
 }
 
 /* A name in wire form, each label behind its length. */
@@ -86,17 +95,20 @@ static bool put_texts(struct master *master, size_t from) {
 
 /* Data as octets: \# LENGTH DIGITS.. */
 static bool put_digits(struct master *master, size_t from) {
-    size_t wanted = strtoul(master->fields[from + 1], NULL, 10);
+    unsigned long wanted;
     for (size_t i = from + 2; i < master->count; i++) {
-        unsigned octet;
         for (const char *digits = master->fields[i]; *digits != 0; digits += 2) {
-            uint8_t one = sscanf(digits, "%2x", &octet) == 1 ? (uint8_t)octet : 0;
-            if (!isxdigit((unsigned char)digits[0]) || !isxdigit((unsigned char)digits[1]) || !put_octets(master, &one, 1)) {
+            if (!isxdigit((unsigned char)digits[0]) || !isxdigit((unsigned char)digits[1])) {
+                return false;
+            }
+            char pair[3] = {digits[0], digits[1], 0};
+            uint8_t octet = (uint8_t)strtoul(pair, NULL, 16);
+            if (!put_octets(master, &octet, 1)) {
                 return false;
             }
         }
     }
-    return master->len == wanted;
+    return read_number(master->fields[from + 1], 2, &wanted) && master->len == wanted;
 }
 
 /* Reads the data behind the type at `from`, and gives the type's number; 0 where they are not known. */
@@ -105,7 +117,8 @@ static unsigned put_data(struct master *master, size_t from) {
     size_t count = master->count - from - 1;
     master->len = 0;
     if (count >= 2 && strcmp(data[0], "\\#") == 0 && strncmp(type, "TYPE", 4) == 0) {
-        return put_digits(master, from + 1) ? (unsigned)strtoul(type + 4, NULL, 10) : 0;
+        unsigned long number;
+        return read_number(type + 4, 2, &number) && put_digits(master, from + 1) ? (unsigned)number : 0;
     } else if (strcmp(type, "A") == 0 && count == 1) {
         return put_address(master, AF_INET, data[0]) ? 1 : 0;
     } else if (strcmp(type, "NS") == 0 && count == 1) {
@@ -155,10 +168,15 @@ static bool write_entry(struct master *master, bool has_owner, FILE *out) {
     if (has_owner && !full_name(master, master->fields[at++], master->owner)) {
         return false;
     }
-    if (at < master->count && isdigit((unsigned char)master->fields[at][0])) {
-        master->ttl = strtoul(master->fields[at++], NULL, 10);
+    for (int i = 0; i < 2 && at < master->count; i++) {
+        if (isdigit((unsigned char)master->fields[at][0])) {
+            if (!read_number(master->fields[at++], 4, &master->ttl)) {
+                return false;
+            }
+        } else if (strcmp(master->fields[at], "IN") == 0) {
+            at++;
+        }
     }
-    at += at < master->count && strcmp(master->fields[at], "IN") == 0;
     unsigned type = at < master->count ? put_data(master, at) : 0;
     if (type == 0 || master->owner[0] == 0) {
         return false;
@@ -176,6 +194,9 @@ static size_t write_lines(FILE *file, char apex[256], FILE *out) {
     char line[MASTER_TEXT];
     apex[0] = 0;
     for (size_t number = 1; fgets(line, sizeof line, file) != NULL; number++) {
+        if (strlen(line) == sizeof line - 1 && line[sizeof line - 2] != '\n') {
+            return number;
+        }
         bool has_owner = !isspace((unsigned char)line[0]);
         cut_fields(&master, line);
         if (master.count == 0) {
@@ -185,12 +206,14 @@ static size_t write_lines(FILE *file, char apex[256], FILE *out) {
             if (!full_name(&master, master.fields[1], origin)) {
                 return number;
             }
-            strcpy(master.origin, origin);
+            memcpy(master.origin, origin, sizeof origin);
             if (apex[0] == 0) {
-                strcpy(apex, origin);
+                memcpy(apex, origin, sizeof origin);
             }
         } else if (strcmp(master.fields[0], "$TTL") == 0 && master.count == 2) {
-            master.ttl = strtoul(master.fields[1], NULL, 10);
+            if (!read_number(master.fields[1], 4, &master.ttl)) {
+                return number;
+            }
         } else if (!write_entry(&master, has_owner, out)) {
             return number;
         }

@@ -4,8 +4,8 @@
 
 #include "cache.h"
 #include "journal.h"
+#include "limits.h"
 #include "master.h"
-#include <errno.h>
 #include <time.h>
 
 enum { OUT_ROOM = 1 << 20, TEXT_ROOM = 1024 };
@@ -15,7 +15,9 @@ struct served {
     struct journal journal;
     struct keys keys;
     struct cache cache;
+    struct limits limits;
     const char *folder;
+    char path[512], key_folder[512]; /* of the journal, and of the keys */
     uint32_t backdate; /* everything is of the moment so many seconds before the clock */
     uint32_t step;     /* answers are of moments that are multiples of it, so that signatures serve again */
     uint64_t floor;    /* no moment is before this one */
@@ -191,18 +193,16 @@ static bool replace_records(struct served *served, const char *path, FILE *said)
     return is_done;
 }
 
-/* Begins a journal with the records of a master file. */
-static bool begin_journal(struct served *served, const char *path, const char *chain) {
-    char apex[256] = "", head[512];
+/* Begins the journal with the records of a master file. */
+static bool begin_served(struct served *served, const char *path, const char *chain) {
+    char apex[256] = "", *all = NULL;
+    size_t len = 0;
     char *lines = lines_of(path, apex, "", stderr);
-    snprintf(head, sizeof head, "zone %s %s\n", apex, chain);
-    size_t head_len = strlen(head), len = lines == NULL ? 0 : strlen(lines);
-    char *all = lines == NULL ? NULL : malloc(head_len + len);
+    FILE *out = lines == NULL ? NULL : open_memstream(&all, &len);
     bool is_begun = false;
-    if (all != NULL) {
-        memcpy(all, head, head_len);
-        memcpy(all + head_len, lines, len);
-        is_begun = append_lines(&served->journal, all, head_len + len);
+    if (out != NULL) {
+        bool is_whole = fprintf(out, "zone %s %s\n%s", apex, chain, lines) > 0;
+        is_begun = fclose(out) == 0 && is_whole && begin_journal(&served->journal, served->folder, served->path, all, len);
     }
     free(all);
     free(lines);
@@ -222,6 +222,26 @@ static bool make_all(struct served *served, uint64_t moment, size_t len) {
     return true;
 }
 
+/* Writes a reply that has a header and the question alone, with flags (RFC 1035, 4.1.1). Gives how many octets it has, or 0. */
+static size_t write_header(uint8_t *out, const uint8_t *query, size_t len, uint8_t flags, uint8_t rcode) {
+    size_t end = 12;
+    if (len < 12 || query[2] & 0x80) {
+        return 0;
+    }
+    bool is_asked = query[4] == 0 && query[5] == 1;
+    while (is_asked && end < len && query[end] != 0) {
+        is_asked = query[end] < 64;
+        end += 1 + (size_t)query[end];
+    }
+    is_asked = is_asked && end < len && len - end >= 5 && end <= 12 + 254;
+    memcpy(out, query, is_asked ? end + 5 : 12);
+    out[2] = (uint8_t)(0x80 | (query[2] & 0x79) | flags);
+    out[3] = rcode;
+    memset(out + 4, 0, 8);
+    out[5] = is_asked;
+    return is_asked ? end + 5 : 12;
+}
+
 /* Answers a query. Gives how many octets of `out` the response has, or 0. */
 static size_t respond(struct served *served, const uint8_t *query, size_t len, bool is_stream) {
     uint64_t moment = answer_moment(served);
@@ -238,15 +258,7 @@ static size_t respond(struct served *served, const uint8_t *query, size_t len, b
     if (reply == ZERMUITA_ZONE_RESPONSE) {
         return report.len;
     }
-    if (reply == ZERMUITA_ZONE_NO_RESPONSE || len < 12) {
-        return 0;
-    }
-    /* SERVFAIL alone. */
-    memcpy(served->out, query, 4);
-    memset(served->out + 4, 0, 8);
-    served->out[2] = (uint8_t)(0x80 | (query[2] & 0x79));
-    served->out[3] = 2;
-    return 12;
+    return reply == ZERMUITA_ZONE_NO_RESPONSE ? 0 : write_header(served->out, query, len, 0, 2);
 }
 
 #endif
