@@ -35,7 +35,7 @@ IsNotOpen new said said' before after reply = IsUnchanged None new said said' be
 -- the zone of a journal, what the report says of it, and no octets
 pub record GivesZone (journal : List ℕ) (report report' : ZoneReport) (before after : List ℕ) (z : OpenZone) : Type 0 where
   pub known : is_known report ≡ true
-  pub opens : OpensAs digest (record { }) (record { }) journal report' z.zone
+  pub opens : OpensAs digest (record {}) (record {}) journal report' z.zone
   pub octets_are : after ≡ before
 
 -- a zone is opened

@@ -30,11 +30,11 @@ impl ZoneHandle {
     }
 
     /// A zone that is open.
-    pub(crate) fn of(open: Box<OpenZone>) -> Self
-        ensures { result.held.value ≡ Some open.value }
+    pub(crate) fn of(zone: Box<OpenZone>) -> Self
+        ensures { result.held.value ≡ Some zone.value }
     {
         ZoneHandle {
-            held: Held::of(Loose::of(open)),
+            held: Held::of(Loose::of(zone)),
             is_open: 1,
         }
     }
