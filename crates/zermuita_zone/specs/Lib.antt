@@ -1,0 +1,4 @@
+pub mod Calls
+pub mod Handles
+pub mod Holding
+pub mod Terms

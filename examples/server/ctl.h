@@ -1,0 +1,89 @@
+/* Commands, a line each, that a socket brings. */
+#ifndef CTL_H
+#define CTL_H
+
+#include "zone.h"
+#include <inttypes.h>
+
+enum { COMMAND_ROOM = 2048 };
+
+static const char *const rolls[] = {
+    "", "ksk-roll", "ksk-double-ds-roll", "zsk-roll", "zsk-double-signature-roll", "csk-roll", "algorithm-roll",
+};
+
+static const char *const phases[] = {"", "report1", "wait1", "report2", "wait2", "done"};
+
+/* What is due of each roll that runs. */
+static void say_status(struct served *served, FILE *said) {
+    for (uint32_t roll = ZERMUITA_KSK_ROLL; roll <= ZERMUITA_ALGORITHM_ROLL; roll++) {
+        char names[TEXT_ROOM];
+        struct zermuita_due due = {.size = sizeof due};
+        uint32_t reply = zermuita_zone_due(&served->zone, roll, (uint8_t *)names, sizeof names, &due);
+        if (reply != ZERMUITA_ZONE_DONE || due.phase == ZERMUITA_NO_ROLL) {
+            continue;
+        }
+        fprintf(said, "%s: %s is next", rolls[roll], phases[due.phase]);
+        if (due.from != UINT64_MAX) {
+            fprintf(said, " from %" PRIu64 " on, %s", due.from, due.from <= line_moment(served) ? "now" : "not yet");
+        }
+        for (size_t i = 0; i < due.len; i++) {
+            names[i] = names[i] == '\n' ? ' ' : names[i];
+        }
+        fprintf(said, "%s%.*s\n", due.len > 0 ? "; " : "", (int)due.len, names);
+    }
+    fprintf(said, "journal: %zu octets; signatures: %" PRIu64 " made, %" PRIu64 " found again; over the rate: %" PRIu64 " told to use TCP, %"
+            PRIu64 " dropped\n", served->journal.len, served->cache.made, served->cache.found, served->limits.said_tcp,
+            served->limits.dropped);
+}
+
+/* Says the records of a set, as master files have them. */
+static bool say_records(struct served *served, uint16_t rtype, const char *type, FILE *said) {
+    struct zermuita_zone_report report = {.size = sizeof report};
+    uint32_t reply = zermuita_zone_records(&served->zone, rtype, served->out, OUT_ROOM, &report);
+    struct zermuita_octets rest = {served->out, report.len}, rdata;
+    if (reply != ZERMUITA_ZONE_DONE) {
+        fprintf(said, "%s\n", zermuita_zone_strerror(reply));
+        return false;
+    }
+    while (zermuita_next_record(&rest, &rdata)) {
+        fprintf(said, "%s %zu %u %u ", type, zermuita_number(rdata.data, 2), rdata.data[2], rdata.data[3]);
+        for (size_t i = 4; i < rdata.len; i++) {
+            fprintf(said, "%02X", rdata.data[i]);
+        }
+        fputc('\n', said);
+    }
+    return true;
+}
+
+/* Does a command, if it can be done. */
+static bool do_command(struct served *served, char *line, FILE *said, bool *is_stopping) {
+    static const char *const calls[] = {"start", "report1", "wait1", "report2", "wait2", "done", "delete"};
+    char copy[COMMAND_ROOM], *rest = copy;
+    snprintf(copy, sizeof copy, "%s", line);
+    const char *word = strsep(&rest, " "), *first = strsep(&rest, " "), *second = strsep(&rest, " ");
+    if (strcmp(word, "stop") == 0) {
+        *is_stopping = true;
+        return true;
+    } else if (strcmp(word, "status") == 0) {
+        say_status(served, said);
+        return true;
+    } else if (strcmp(word, "ds") == 0) {
+        return say_records(served, 43, "DS", said);
+    } else if (strcmp(word, "cds") == 0) {
+        return say_records(served, 59, "CDS", said);
+    } else if (strcmp(word, "key") == 0 && second != NULL) {
+        return add_key(served, first, second, said);
+    } else if (strcmp(word, "reload") == 0 && first != NULL) {
+        return replace_records(served, line + strlen("reload "), said);
+    }
+    for (size_t i = 0; i < sizeof calls / sizeof *calls; i++) {
+        if (strcmp(word, calls[i]) == 0) {
+            return accept_line(served, line, said);
+        }
+    }
+    fputs("commands: status, ds, cds, key KIND NAME, start ROLL OLD NEW, report1 ROLL TTL, wait1 ROLL, report2 ROLL TTL, wait2 ROLL, "
+          "done ROLL, delete NAME, reload FILE, stop\n", said);
+    return false;
+}
+
+#endif

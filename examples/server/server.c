@@ -1,0 +1,419 @@
+/*
+ * A name server of one zone, whose keys are PEM files: it answers by UDP and TCP, signs by OpenSSL as it answers, and its keys roll as
+ * a socket says. docs/use/SERVER.md is about it.
+ *
+ * usage: server [--address=A] [--port=N] [--backdate=SECONDS] [--step=SECONDS] [--rate=N] [--chain=WORDS] FOLDER [MASTER-FILE]
+ *        server --ctl FOLDER COMMAND..
+ *
+ * FOLDER has keys/NAME.pem, and gets the journal and the socket. A journal that is new begins with the records of MASTER-FILE.
+ * To build it: cc server.c $(pkg-config --cflags --libs zermuita) -lcrypto
+ */
+#define _GNU_SOURCE
+#include <dirent.h>
+#include <errno.h>
+#include <netdb.h>
+#include <netinet/in.h>
+#include <poll.h>
+#include <signal.h>
+#include <sys/socket.h>
+#include <sys/un.h>
+#include "ctl.h"
+
+enum { CONNECTIONS = 64, OF_NETWORK = 16, QUERY_SECONDS = 10, DATAGRAMS = 64, FIRST = 3 };
+
+/* A TCP connection: octets of a query behind its length, then those of its response. */
+struct connection {
+    uint8_t in[2 + 65535], *out;
+    size_t have, len, sent;
+    time_t until; /* when the query has to be whole, or the response to be read */
+    uint64_t network;
+};
+
+struct server {
+    struct served served;
+    struct connection *connections[CONNECTIONS];
+    struct pollfd polled[FIRST + CONNECTIONS]; /* datagrams, the listener, commands, connections */
+    bool is_stopping;
+};
+
+static volatile sig_atomic_t is_told_to_stop;
+
+static void on_signal(int number) {
+    (void)number;
+    is_told_to_stop = 1;
+}
+
+static void fail(const char *what) {
+    perror(what);
+    exit(EXIT_FAILURE);
+}
+
+static int bound(int type, const char *address, const char *port) {
+    struct addrinfo wanted = {.ai_flags = AI_NUMERICHOST | AI_NUMERICSERV | AI_PASSIVE, .ai_socktype = type}, *at = NULL;
+    if (getaddrinfo(address, port, &wanted, &at) != 0) {
+        fprintf(stderr, "%s: no address, or no port %s\n", address, port);
+        exit(EXIT_FAILURE);
+    }
+    int fd = socket(at->ai_family, type | SOCK_NONBLOCK | SOCK_CLOEXEC, 0), yes = 1;
+    if (fd < 0 || setsockopt(fd, SOL_SOCKET, SO_REUSEADDR, &yes, sizeof yes) != 0 || bind(fd, at->ai_addr, at->ai_addrlen) != 0
+        || (type == SOCK_STREAM && listen(fd, 64) != 0)) {
+        fail(address);
+    }
+    freeaddrinfo(at);
+    return fd;
+}
+
+static struct sockaddr_un socket_in(const char *folder) {
+    struct sockaddr_un at = {.sun_family = AF_UNIX};
+    int len = snprintf(at.sun_path, sizeof at.sun_path, "%s/ctl", folder);
+    if (len < 0 || (size_t)len >= sizeof at.sun_path) {
+        errno = ENAMETOOLONG;
+        fail(folder);
+    }
+    return at;
+}
+
+static int bound_in(const char *folder) {
+    struct sockaddr_un at = socket_in(folder);
+    int fd = socket(AF_UNIX, SOCK_STREAM | SOCK_CLOEXEC, 0);
+    unlink(at.sun_path);
+    mode_t mask = umask(077);
+    if (bind(fd, (struct sockaddr *)&at, sizeof at) != 0 || listen(fd, 8) != 0) {
+        fail(at.sun_path);
+    }
+    umask(mask);
+    return fd;
+}
+
+static void answer_datagrams(struct server *server) {
+    uint8_t query[65535];
+    struct served *served = &server->served;
+    for (int i = 0; i < DATAGRAMS; i++) {
+        struct sockaddr_storage from = {0};
+        socklen_t from_len = sizeof from;
+        ssize_t len = recvfrom(server->polled[0].fd, query, sizeof query, 0, (struct sockaddr *)&from, &from_len);
+        if (len < 0) {
+            return;
+        }
+        enum turn turn = turn_of(&served->limits, &from, time(NULL));
+        size_t count = turn == ANSWER ? respond(served, query, (size_t)len, false)
+            : turn == SAY_TCP         ? write_header(served->out, query, (size_t)len, 0x02, 0)
+                                      : 0;
+        if (count > 0) {
+            sendto(server->polled[0].fd, served->out, count, 0, (struct sockaddr *)&from, from_len);
+        }
+    }
+}
+
+static void close_connection(struct server *server, size_t at) {
+    close(server->polled[FIRST + at].fd);
+    server->polled[FIRST + at].fd = -1;
+    free(server->connections[at]->out);
+    free(server->connections[at]);
+    server->connections[at] = NULL;
+}
+
+/* Takes a connection, if there is a place and its network does not have too many. */
+static void accept_connection(struct server *server) {
+    struct sockaddr_storage from = {0};
+    socklen_t from_len = sizeof from;
+    int fd = accept4(server->polled[1].fd, (struct sockaddr *)&from, &from_len, SOCK_NONBLOCK | SOCK_CLOEXEC);
+    size_t place = CONNECTIONS, same = 0;
+    if (fd < 0) {
+        return;
+    }
+    for (size_t i = 0; i < CONNECTIONS; i++) {
+        struct connection *connection = server->connections[i];
+        place = connection == NULL && place == CONNECTIONS ? i : place;
+        same += connection != NULL && connection->network == network_of(&from);
+    }
+    struct connection *made = place < CONNECTIONS && same < OF_NETWORK ? calloc(1, sizeof *made) : NULL;
+    if (made == NULL) {
+        close(fd);
+        return;
+    }
+    made->until = time(NULL) + QUERY_SECONDS;
+    made->network = network_of(&from);
+    server->connections[place] = made;
+    server->polled[FIRST + place] = (struct pollfd){.fd = fd, .events = POLLIN};
+}
+
+/* Sends what is left of a response. Gives false where the connection is over. */
+static bool send_rest(struct connection *connection, int fd) {
+    ssize_t count = send(fd, connection->out + connection->sent, connection->len - connection->sent, MSG_NOSIGNAL);
+    if (count < 0) {
+        return errno == EAGAIN || errno == EINTR;
+    }
+    connection->sent += (size_t)count;
+    if (connection->sent == connection->len) {
+        free(connection->out);
+        connection->out = NULL;
+        connection->len = connection->sent = 0;
+        connection->until = time(NULL) + QUERY_SECONDS;
+    }
+    return true;
+}
+
+/* Answers the query that stands in front of what has come, if it is whole. Gives false where the connection is over. */
+static bool answer_stream(struct server *server, struct connection *connection) {
+    size_t len = connection->have < 2 ? 0 : zermuita_number(connection->in, 2);
+    if (connection->out != NULL || connection->have < 2 || connection->have < 2 + len) {
+        return true;
+    }
+    size_t count = respond(&server->served, connection->in + 2, len, true);
+    if (count == 0 || count > 65535 || (connection->out = malloc(2 + count)) == NULL) {
+        return false;
+    }
+    connection->out[0] = (uint8_t)(count >> 8);
+    connection->out[1] = (uint8_t)count;
+    memcpy(connection->out + 2, server->served.out, count);
+    connection->len = 2 + count;
+    connection->until = time(NULL) + QUERY_SECONDS;
+    connection->have -= 2 + len;
+    memmove(connection->in, connection->in + 2 + len, connection->have);
+    return true;
+}
+
+/* Goes on with a connection. Gives false where it is over. */
+static bool go_on(struct server *server, struct connection *connection, struct pollfd *polled) {
+    if (connection->out != NULL) {
+        if (polled->revents & (POLLOUT | POLLHUP | POLLERR) && !send_rest(connection, polled->fd)) {
+            return false;
+        }
+    } else if (polled->revents & (POLLIN | POLLHUP | POLLERR)) {
+        ssize_t count = recv(polled->fd, connection->in + connection->have, sizeof connection->in - connection->have, 0);
+        if (count == 0 || (count < 0 && errno != EAGAIN && errno != EINTR)) {
+            return false;
+        }
+        connection->have += count > 0 ? (size_t)count : 0;
+    }
+    if (!answer_stream(server, connection)) {
+        return false;
+    }
+    polled->events = connection->out != NULL ? POLLOUT : POLLIN;
+    return true;
+}
+
+static void answer_connections(struct server *server) {
+    for (size_t i = 0; i < CONNECTIONS; i++) {
+        struct connection *connection = server->connections[i];
+        struct pollfd *polled = &server->polled[FIRST + i];
+        if (connection == NULL) {
+            continue;
+        }
+        bool goes_on = polled->revents == 0 || go_on(server, connection, polled);
+        if (!goes_on || time(NULL) >= connection->until) {
+            close_connection(server, i);
+        }
+    }
+}
+
+/* Reads a line within a second. */
+static bool read_command(int fd, char *line, size_t room) {
+    size_t have = 0;
+    struct timespec begun, now;
+    clock_gettime(CLOCK_MONOTONIC, &begun);
+    for (;;) {
+        struct pollfd polled = {.fd = fd, .events = POLLIN};
+        clock_gettime(CLOCK_MONOTONIC, &now);
+        long passed = (now.tv_sec - begun.tv_sec) * 1000 + (now.tv_nsec - begun.tv_nsec) / 1000000;
+        ssize_t count = passed < 1000 && poll(&polled, 1, 1000 - (int)passed) == 1 ? recv(fd, line + have, room - 1 - have, 0) : 0;
+        if (count <= 0) {
+            return false;
+        }
+        have += (size_t)count;
+        line[have] = 0;
+        char *end = strchr(line, '\n');
+        if (end != NULL || have == room - 1) {
+            line[end != NULL ? (size_t)(end - line) : 0] = 0;
+            return end != NULL;
+        }
+    }
+}
+
+/* Takes a command, a line, and says what came of it: `+`, or `-` where it was not done, and text. */
+static void answer_command(struct server *server) {
+    char line[COMMAND_ROOM], *text = NULL;
+    size_t len = 0;
+    struct timeval second = {.tv_sec = 1};
+    int fd = accept4(server->polled[2].fd, NULL, NULL, SOCK_CLOEXEC);
+    FILE *said = fd >= 0 && read_command(fd, line, sizeof line) ? open_memstream(&text, &len) : NULL;
+    if (said != NULL) {
+        fputc('-', said);
+        bool is_done = do_command(&server->served, line, said, &server->is_stopping);
+        if (fclose(said) == 0 && setsockopt(fd, SOL_SOCKET, SO_SNDTIMEO, &second, sizeof second) == 0) {
+            text[0] = is_done ? '+' : '-';
+            send(fd, text, len, MSG_NOSIGNAL);
+        }
+    }
+    free(text);
+    if (fd >= 0) {
+        close(fd);
+    }
+}
+
+static void serve(struct server *server) {
+    while (!server->is_stopping && !is_told_to_stop) {
+        if (poll(server->polled, FIRST + CONNECTIONS, 1000) < 0) {
+            continue;
+        }
+        if (server->polled[0].revents != 0) {
+            answer_datagrams(server);
+        }
+        answer_connections(server);
+        if (server->polled[1].revents != 0) {
+            accept_connection(server);
+        }
+        if (server->polled[2].revents != 0) {
+            answer_command(server);
+        }
+    }
+}
+
+/* Sends a command to a server that runs, and prints what it says. */
+static int send_command(int argc, char **argv) {
+    struct sockaddr_un at = socket_in(argv[0]);
+    int fd = socket(AF_UNIX, SOCK_STREAM | SOCK_CLOEXEC, 0);
+    if (connect(fd, (struct sockaddr *)&at, sizeof at) != 0) {
+        fail(at.sun_path);
+    }
+    for (int i = 1; i < argc; i++) {
+        dprintf(fd, "%s%s", argv[i], i + 1 < argc ? " " : "\n");
+    }
+    char said[4096];
+    bool is_done = false, is_begun = false;
+    for (ssize_t count; (count = read(fd, said, sizeof said)) > 0; is_begun = true) {
+        size_t from = is_begun ? 0 : 1;
+        is_done = is_begun ? is_done : said[0] == '+';
+        fwrite(said + from, 1, (size_t)count - from, stdout);
+    }
+    close(fd);
+    return is_done ? EXIT_SUCCESS : EXIT_FAILURE;
+}
+
+static void close_all(struct server *server) {
+    struct served *served = &server->served;
+    for (size_t i = 0; i < CONNECTIONS; i++) {
+        if (server->connections[i] != NULL) {
+            close_connection(server, i);
+        }
+    }
+    for (size_t i = 0; i < served->keys.count; i++) {
+        EVP_PKEY_free(served->keys.list[i].pair);
+    }
+    zermuita_zone_close(&served->zone);
+    free(served->cache.places);
+    free(served->limits.networks);
+    free(served->out);
+    free(served->made);
+    free(server);
+}
+
+/* Reads all keys of the folder, since the zone may sign with any. */
+static void read_keys(struct keys *keys) {
+    DIR *folder = opendir(keys->folder);
+    for (struct dirent *entry; folder != NULL && (entry = readdir(folder)) != NULL;) {
+        char *end = strrchr(entry->d_name, '.');
+        if (end != NULL && strcmp(end, ".pem") == 0) {
+            *end = 0;
+            if (key_named(keys, entry->d_name) == NULL) {
+                fprintf(stderr, "%s/%s.pem: not a key that this server signs with\n", keys->folder, entry->d_name);
+            }
+        }
+    }
+    if (folder != NULL) {
+        closedir(folder);
+    }
+}
+
+struct options {
+    const char *address, *port, *chain, *folder, *file;
+    unsigned long backdate, step, rate;
+};
+
+/* What an option says, if the word is this one. */
+static bool is_option(const char *word, const char *name, const char **said) {
+    size_t len = strlen(name);
+    bool is_it = strncmp(word, name, len) == 0;
+    *said = is_it ? word + len : *said;
+    return is_it;
+}
+
+static bool read_options(struct options *options, int argc, char **argv) {
+    const char *backdate = "3600", *step = "60", *rate = "200";
+    int at = 1;
+    *options = (struct options){.address = "127.0.0.1", .port = "5353", .chain = "nsec 0 604800"};
+    for (; at < argc && argv[at][0] == '-'; at++) {
+        const char *word = argv[at];
+        if (!is_option(word, "--address=", &options->address) && !is_option(word, "--port=", &options->port)
+            && !is_option(word, "--chain=", &options->chain) && !is_option(word, "--backdate=", &backdate)
+            && !is_option(word, "--step=", &step) && !is_option(word, "--rate=", &rate)) {
+            return false;
+        }
+    }
+    options->folder = at < argc ? argv[at] : NULL;
+    options->file = at + 1 < argc ? argv[at + 1] : NULL;
+    return options->folder != NULL && at + 2 >= argc && read_number(backdate, 4, &options->backdate)
+        && read_number(step, 4, &options->step) && read_number(rate, 4, &options->rate) && options->step > 0;
+}
+
+/* Opens the zone of a folder, whose journal begins with a master file if it is new. */
+static void open_folder(struct served *served, const struct options *options) {
+    int folder = snprintf(served->key_folder, sizeof served->key_folder, "%s/keys", options->folder);
+    int path = snprintf(served->path, sizeof served->path, "%s/journal", options->folder);
+    if (folder < 0 || (size_t)folder >= sizeof served->key_folder || path < 0 || (size_t)path >= sizeof served->path) {
+        errno = ENAMETOOLONG;
+        fail(options->folder);
+    }
+    served->folder = options->folder;
+    served->keys.folder = served->key_folder;
+    served->backdate = (uint32_t)options->backdate;
+    served->step = (uint32_t)options->step;
+    served->floor = served->answered = (uint64_t)time(NULL) - served->backdate;
+    served->out = malloc(OUT_ROOM);
+    served->made = malloc(OUT_ROOM);
+    served->cache.places = calloc(CACHE_PLACES, sizeof *served->cache.places);
+    if (served->out == NULL || served->made == NULL || served->cache.places == NULL
+        || !begin_limits(&served->limits, (uint32_t)options->rate) || !open_journal(&served->journal, served->path)) {
+        fail(served->path);
+    }
+    if (served->journal.len == 0 && (options->file == NULL || !begin_served(served, options->file, options->chain))) {
+        fprintf(stderr, "%s: a new journal begins with a master file\n", served->path);
+        exit(EXIT_FAILURE);
+    }
+    read_keys(&served->keys);
+    if (!open_served(served)) {
+        exit(EXIT_FAILURE);
+    }
+}
+
+int main(int argc, char **argv) {
+    struct options options;
+    if (argc > 3 && strcmp(argv[1], "--ctl") == 0) {
+        return send_command(argc - 2, argv + 2);
+    }
+    if (!read_options(&options, argc, argv)) {
+        fputs("usage: server [--address=A] [--port=N] [--backdate=SECONDS] [--step=SECONDS] [--rate=N] [--chain=WORDS]\n"
+              "              FOLDER [MASTER-FILE]\n"
+              "       server --ctl FOLDER COMMAND..\n", stderr);
+        return EXIT_FAILURE;
+    }
+    struct server *server = calloc(1, sizeof *server);
+    if (server == NULL) {
+        fail("memory");
+    }
+    signal(SIGTERM, on_signal);
+    signal(SIGINT, on_signal);
+    signal(SIGPIPE, SIG_IGN);
+    signal(SIGXFSZ, SIG_IGN);
+    open_folder(&server->served, &options);
+    server->polled[0] = (struct pollfd){.fd = bound(SOCK_DGRAM, options.address, options.port), .events = POLLIN};
+    server->polled[1] = (struct pollfd){.fd = bound(SOCK_STREAM, options.address, options.port), .events = POLLIN};
+    server->polled[2] = (struct pollfd){.fd = bound_in(options.folder), .events = POLLIN};
+    for (size_t i = 0; i < CONNECTIONS; i++) {
+        server->polled[FIRST + i].fd = -1;
+    }
+    serve(server);
+    close_all(server);
+    return EXIT_SUCCESS;
+}

@@ -1,0 +1,264 @@
+/* A zone, its journal and its keys: lines that are accepted are on disk before anybody hears of it. */
+#ifndef ZONE_H
+#define ZONE_H
+
+#include "cache.h"
+#include "journal.h"
+#include "limits.h"
+#include "master.h"
+#include <time.h>
+
+enum { OUT_ROOM = 1 << 20, TEXT_ROOM = 1024 };
+
+struct served {
+    struct zermuita_zone zone;
+    struct journal journal;
+    struct keys keys;
+    struct cache cache;
+    struct limits limits;
+    const char *folder;
+    char path[512], key_folder[512]; /* of the journal, and of the keys */
+    uint32_t backdate; /* everything is of the moment so many seconds before the clock */
+    uint32_t step;     /* answers are of moments that are multiples of it, so that signatures serve again */
+    uint64_t floor;    /* no moment is before this one */
+    uint64_t answered; /* the last moment of an answer */
+    uint8_t *out, *made;
+};
+
+/* The moment of lines that are applied now. */
+static uint64_t line_moment(const struct served *served) {
+    uint64_t now = (uint64_t)time(NULL) - served->backdate;
+    return now > served->floor ? now : served->floor;
+}
+
+/* The moment of answers that are given now. */
+static uint64_t answer_moment(struct served *served) {
+    uint64_t now = (uint64_t)time(NULL) - served->backdate, moment = now - now % served->step;
+    served->floor = moment > served->floor ? moment : served->floor;
+    served->answered = served->floor > served->answered ? served->floor : served->answered;
+    return served->floor;
+}
+
+/* The moment of a journal's last line: its last word, if it is a call on keys or a replacement. */
+static uint64_t last_moment(const uint8_t *journal, size_t len) {
+    const char *line = (const char *)journal, *word = NULL;
+    size_t at = len > 0 ? len - 1 : 0;
+    while (at > 0 && journal[at - 1] != '\n') {
+        at--;
+        word = word == NULL && line[at] == ' ' ? line + at + 1 : word;
+    }
+    bool is_call = len > 0 && strncmp(line + at, "rr ", 3) != 0 && strncmp(line + at, "zone ", 5) != 0;
+    return is_call && word != NULL ? strtoull(word, NULL, 10) : 0;
+}
+
+/* Opens the zone from its journal. Behind a crash a line that is not finished is cut off, or a replacement. */
+static bool open_served(struct served *served) {
+    char text[TEXT_ROOM];
+    for (int tries = 0; tries < 2; tries++) {
+        struct zermuita_zone_report report = {.size = sizeof report};
+        uint8_t *octets = read_journal(&served->journal);
+        if (octets == NULL) {
+            perror("journal");
+            return false;
+        }
+        zermuita_zone_close(&served->zone);
+        uint32_t reply = zermuita_zone_open(&served->zone, octets, served->journal.len, (uint8_t *)text, sizeof text, &report);
+        if (reply != ZERMUITA_ZONE_DONE) {
+            fprintf(stderr, "journal, line %zu: %s: %.*s\n", report.line, zermuita_zone_strerror(reply), (int)report.len, text);
+            free(octets);
+            return false;
+        }
+        bool is_settled = report.settled == report.whole;
+        uint64_t last = last_moment(octets, report.settled);
+        served->floor = last > served->floor ? last : served->floor;
+        free(octets);
+        if (report.settled < served->journal.len && !cut_journal(&served->journal, report.settled)) {
+            perror("journal");
+            return false;
+        }
+        if (is_settled) {
+            return true;
+        }
+    }
+    return false;
+}
+
+/* Applies a line. What is said of it is written to `said`. */
+static bool apply_line(struct served *served, const char *line, FILE *said) {
+    char text[TEXT_ROOM];
+    struct zermuita_zone_report report = {.size = sizeof report};
+    uint32_t reply = zermuita_zone_apply(&served->zone, (const uint8_t *)line, strlen(line), (uint8_t *)text, sizeof text, &report);
+    if (reply == ZERMUITA_ZONE_DONE || reply == ZERMUITA_ZONE_REFUSED) {
+        fprintf(said, "%.*s%s", report.len <= sizeof text ? (int)report.len : 0, text, report.len > 0 ? "\n" : "");
+    } else {
+        fprintf(said, "%s\n", zermuita_zone_strerror(reply));
+    }
+    return reply == ZERMUITA_ZONE_DONE || reply == ZERMUITA_ZONE_UNTOLD;
+}
+
+/* Writes lines that were applied behind the journal. Where the disk does not take them, the zone is as the journal has it. */
+static bool keep_lines(struct served *served, const char *lines, size_t len, FILE *said) {
+    if (append_lines(&served->journal, lines, len)) {
+        return true;
+    }
+    fprintf(said, "the journal was not written: %s\n", strerror(errno));
+    if (!open_served(served)) {
+        exit(EXIT_FAILURE);
+    }
+    return false;
+}
+
+/* Applies a line of words, at the moment, and keeps it. */
+static bool accept_line(struct served *served, const char *words, FILE *said) {
+    char line[4096];
+    uint64_t moment = line_moment(served);
+    int len = snprintf(line, sizeof line, "%s %llu\n", words, (unsigned long long)moment);
+    if (len < 0 || (size_t)len >= sizeof line) {
+        fputs("the line is too long\n", said);
+        return false;
+    }
+    line[len - 1] = 0;
+    if (!apply_line(served, line, said)) {
+        return false;
+    }
+    line[len - 1] = '\n';
+    served->floor = moment;
+    return keep_lines(served, line, (size_t)len, said);
+}
+
+/* Adds the key of a PEM file. */
+static bool add_key(struct served *served, const char *kind, const char *name, FILE *said) {
+    char words[3072], text[2048];
+    struct key *key = key_named(&served->keys, name);
+    if (key == NULL) {
+        fprintf(said, "no key %s.pem in %s\n", name, served->keys.folder);
+        return false;
+    }
+    EVP_EncodeBlock((unsigned char *)text, key->octets, (int)key->len);
+    snprintf(words, sizeof words, "key %s %s %u %s", kind, name, key->algorithm, text);
+    return accept_line(served, words, said);
+}
+
+/* Applies the lines of a replacement, one by one. */
+static bool apply_lines(struct served *served, char *lines, FILE *said) {
+    for (char *line = lines, *end; (end = strchr(line, '\n')) != NULL; line = end + 1) {
+        *end = 0;
+        bool is_applied = apply_line(served, line, said);
+        *end = '\n';
+        if (!is_applied) {
+            return false;
+        }
+    }
+    return true;
+}
+
+/* The `rr` lines of a master file and a line behind them, in memory of their own; null where they cannot be read. */
+static char *lines_of(const char *path, char apex[256], const char *behind, FILE *said) {
+    char *lines = NULL;
+    size_t len = 0, wrong = 0;
+    FILE *file = fopen(path, "r"), *out = file == NULL ? NULL : open_memstream(&lines, &len);
+    if (out != NULL) {
+        wrong = write_lines(file, apex, out);
+        fputs(behind, out);
+        fclose(out);
+    } else {
+        fprintf(said, "%s: %s\n", path, strerror(errno));
+    }
+    if (file != NULL) {
+        fclose(file);
+    }
+    if (wrong != 0) {
+        fprintf(said, "%s: line %zu cannot be read\n", path, wrong);
+        free(lines);
+        return NULL;
+    }
+    return lines;
+}
+
+/* Replaces the zone's records by those of a master file: all of them, or none. */
+static bool replace_records(struct served *served, const char *path, FILE *said) {
+    char apex[256], replacement[64];
+    uint64_t moment = line_moment(served);
+    moment = moment > served->answered ? moment : served->answered + 1;
+    snprintf(replacement, sizeof replacement, "replace %llu\n", (unsigned long long)moment);
+    char *lines = lines_of(path, apex, replacement, said);
+    bool is_done = false;
+    if (lines != NULL && apply_lines(served, lines, said)) {
+        served->floor = moment;
+        is_done = keep_lines(served, lines, strlen(lines), said);
+    } else {
+        zermuita_zone_forget(&served->zone);
+    }
+    free(lines);
+    return is_done;
+}
+
+/* Begins the journal with the records of a master file. */
+static bool begin_served(struct served *served, const char *path, const char *chain) {
+    char apex[256] = "", *all = NULL;
+    size_t len = 0;
+    char *lines = lines_of(path, apex, "", stderr);
+    FILE *out = lines == NULL ? NULL : open_memstream(&all, &len);
+    bool is_begun = false;
+    if (out != NULL) {
+        bool is_whole = fprintf(out, "zone %s %s\n%s", apex, chain, lines) > 0;
+        is_begun = fclose(out) == 0 && is_whole && begin_journal(&served->journal, served->folder, served->path, all, len);
+    }
+    free(all);
+    free(lines);
+    return is_begun;
+}
+
+/* Makes all signatures that a reply asks for, and keeps the entries. */
+static bool make_all(struct served *served, uint64_t moment, size_t len) {
+    struct zermuita_sign sign;
+    uint8_t *next = served->out;
+    for (size_t rest = len; zermuita_next_sign(&next, &rest, &sign);) {
+        if (!answer_sign(&served->cache, &served->keys, moment, &sign)) {
+            return false;
+        }
+    }
+    memcpy(served->made, served->out, len);
+    return true;
+}
+
+/* Writes a reply that has a header and the question alone, with flags (RFC 1035, 4.1.1). Gives how many octets it has, or 0. */
+static size_t write_header(uint8_t *out, const uint8_t *query, size_t len, uint8_t flags, uint8_t rcode) {
+    size_t end = 12;
+    if (len < 12 || query[2] & 0x80) {
+        return 0;
+    }
+    bool is_asked = query[4] == 0 && query[5] == 1;
+    while (is_asked && end < len && query[end] != 0) {
+        is_asked = query[end] < 64;
+        end += 1 + (size_t)query[end];
+    }
+    is_asked = is_asked && end < len && len - end >= 5 && end <= 12 + 254;
+    memcpy(out, query, is_asked ? end + 5 : 12);
+    out[2] = (uint8_t)(0x80 | (query[2] & 0x79) | flags);
+    out[3] = rcode;
+    memset(out + 4, 0, 8);
+    out[5] = is_asked;
+    return is_asked ? end + 5 : 12;
+}
+
+/* Answers a query. Gives how many octets of `out` the response has, or 0. */
+static size_t respond(struct served *served, const uint8_t *query, size_t len, bool is_stream) {
+    uint64_t moment = answer_moment(served);
+    struct zermuita_zone_report report = {.size = sizeof report};
+    struct zermuita_request request = {
+        .size = sizeof request, .request = {query, len}, .now = moment + served->backdate, .backdate = served->backdate,
+        .stream = is_stream, .limit = 1232, .udp_size = 1232,
+    };
+    uint32_t reply = zermuita_zone_respond(&served->zone, &request, served->out, OUT_ROOM, &report);
+    if (reply == ZERMUITA_ZONE_SIGN && make_all(served, moment, report.len)) {
+        request.made = (struct zermuita_octets){served->made, report.len};
+        reply = zermuita_zone_respond(&served->zone, &request, served->out, OUT_ROOM, &report);
+    }
+    if (reply == ZERMUITA_ZONE_RESPONSE) {
+        return report.len;
+    }
+    return reply == ZERMUITA_ZONE_NO_RESPONSE ? 0 : write_header(served->out, query, len, 0, 2);
+}
+
+#endif
