@@ -1,0 +1,3 @@
+pub mod SentSplit
+pub mod MessagesRead
+pub mod Walked

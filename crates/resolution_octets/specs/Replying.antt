@@ -1,7 +1,7 @@
 -- What is replied to evidence in octets.
 use Rattle.std.specs.Prelude.{◌≡◌, ◌⊎◌, ℕ, List, [], length}
 use Rattle.messages.specs.Message.{Asked}
-use Rattle.answer_judge_octets.specs.Replying.{IsHandedOut, Replied, only, report_of, report_size}
+use Rattle.answer_judge_octets.specs.Replying.{IsHandedOut, Replied, number_of, only, report_of, report_size}
 use Rattle.answer_judge_octets.specs.declared.octets.Report.{Report}
 use Rattle.answer_judge_octets.specs.declared.reply.ReplyCode.{ReplyCode}
 use Rattle.answer_judge_octets.specs.declared.reply.ReplyCode.TheVariants as c
@@ -49,3 +49,9 @@ pub record IsReported (case : OctetEvidence) (old new : List ℕ) (report : Repo
 pub record Answers (case : OctetEvidence) (old new : List ℕ) (before after : Report) (code : ReplyCode) : Type 0 where
   pub known : before.size ≡ report_size → IsReported case old new after code
   pub unknown : (before.size ≡ report_size → ⊥) → (code ≡ c.BadCase) × (new ≡ old) × (after ≡ before)
+
+-- the same, the code as its number
+pub record AnswersWalk (case : OctetEvidence) (old new : List ℕ) (before after : Report) (number : ℕ) : Type 0 where
+  pub code : ReplyCode
+  pub number_is : number ≡ number_of code
+  pub answers : Answers case old new before after code

@@ -54,9 +54,9 @@ octets_of_end ends.TooManyCuts = []
 octets_of_end ends.TooManyAliases = []
 octets_of_end ends.Outside = []
 
--- how many signatures may be checked, 128 where no number is said
+-- how many signatures may be checked, 256 where no number is said
 abbrev pub most_of : ℕ → ℕ
-most_of number = if number == 0 then 128 else number
+most_of number = if number == 0 then 256 else number
 
 -- Whether what is asked for makes too many signatures, beside those of the table.
 abbrev pub are_too_many : ℕ → ℕ → ℕ → Bool

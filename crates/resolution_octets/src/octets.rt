@@ -54,11 +54,11 @@ pub struct OctetEvidence<'a> {
     pub limit: u16,
     /// How many delegations are gone down for a name at most; 0 stands for 32.
     pub max_cuts: u16,
-    /// How many aliases are followed at most; 0 stands for 11.
+    /// How many aliases are followed at most; 0 stands for 16.
     pub max_aliases: u16,
     /// 1 where all signatures of an answer are to be of one inception and one expiration; else 0.
     pub one_moment: u32,
-    /// How many signatures `checked` may have with those that are asked for; 0 stands for 128.
+    /// How many signatures `checked` may have with those that are asked for; 0 stands for 256.
     pub max_signatures: u32,
 }
 
@@ -70,7 +70,7 @@ const _: () = prove!(size_of::<OctetEvidence>() == EVIDENCE_SIZE);
 /// The numbers of delegations and aliases that limits of 0 stand for.
 const MOST_CUTS: u16 = 32;
 
-const MOST_ALIASES: u16 = 11;
+const MOST_ALIASES: u16 = 16;
 
 /// What the octets of evidence spell.
 #[derive(Drop)]

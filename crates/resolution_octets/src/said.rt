@@ -18,7 +18,7 @@ use resolution_walk::{Ending, Walk, Wanted};
 use std::alloc::{AllocError, Global};
 
 /// How many signatures may be checked where a caller says no number.
-const MOST_SIGNATURES: u32 = 128;
+const MOST_SIGNATURES: u32 = 256;
 
 /// The reply to what a walk says beside a table of so many signatures.
 pub(crate) fn reply_of_walk(

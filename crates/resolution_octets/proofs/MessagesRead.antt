@@ -1,0 +1,27 @@
+-- Messages that are read one after another.
+use Rattle.std.proofs.Common.{◌≡◌, ℕ, ◌+◌, ◌<◌, List, [], ◌∷◌, ◌++◌, length, map, take, get_or, sym, ap, ◌∙◌, subst₂}
+use Rattle.std.specs.Prelude.{Contains}
+use Rattle.std.proofs.lemmas.List.{map-append}
+use Rattle.messages.proofs.Lists.{take_next}
+use Rattle.answer_judge_octets.specs.declared.reply.ReplyCode.{ReplyCode}
+use Rattle.resolution_evidence.specs.Given.{Message}
+use Rattle.resolution_octets.specs.ReadMessages.{message_of}
+use Rattle.resolution_octets.specs.Sent.{Sent}
+use Rattle.resolution_octets.specs.Spelling.{AreRead, IsRead, IsUnread, SomeUnread}
+use Rattle.resolution_octets.specs.declared.handed.ReadMessage.{ReadMessage}
+
+one_more : (ss : List Sent) (ms : List Message) (s : Sent) (m : Message) → AreRead ss ms → IsRead s m → AreRead (ss ++ s ∷ []) (ms ++ m ∷ [])
+one_more [] [] s m are is = (is, tt)
+one_more [] (n ∷ ms) s m are is = absurd are
+one_more (t ∷ ss) [] s m are is = absurd are
+one_more (t ∷ ss) (n ∷ ms) s m are is = (are.0, one_more ss ms s m are.1 is)
+
+pub read_more : (sent : List Sent) (i : ℕ) (s : Sent) (read : List ReadMessage) (m : ReadMessage) (more : List ReadMessage) → i < length sent → s ≡ get_or sent i s
+    → AreRead (take i sent) (map message_of read) → IsRead s (message_of m) → more ≡ read ++ m ∷ [] → AreRead (take (i + 1) sent) (map message_of more)
+read_more sent i s read m more inside at are is pushed =
+    let front = take_next sent i s inside at in
+    let back : map message_of more ≡ map message_of read ++ message_of m ∷ [] = ap (map message_of) pushed ∙ map-append message_of read (m ∷ []) in
+    subst₂ AreRead (sym front) (sym back) (one_more (take i sent) (map message_of read) s (message_of m) are is)
+
+pub one_unread : (sent : List Sent) (i : ℕ) (s : Sent) (code : ReplyCode) → i < length sent → s ≡ get_or sent i s → IsUnread s code → SomeUnread sent code
+one_unread sent i s code inside at unread = record { sent = s; there = (i, inside, sym at); unread = unread }
