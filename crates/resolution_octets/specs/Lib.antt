@@ -5,3 +5,4 @@ pub mod ReadMessages
 pub mod ReadEvidence
 pub mod Saying
 pub mod Replying
+pub mod Laws

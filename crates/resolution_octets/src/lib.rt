@@ -3,6 +3,7 @@
 #![tactic(auto)]
 
 mod handed;
+pub mod laws;
 pub mod octets;
 mod said;
 mod sent;
