@@ -6,24 +6,34 @@
 #include "signature.h"
 #include "way.h"
 
+#include <ctype.h>
 #include <getopt.h>
 #include <stdlib.h>
 #include <time.h>
 
-enum { FAILED = 2, MOST_SERVERS = 16 };
+enum { FAILED = 2, MOST_SERVERS = 64 };
+
+/* A server, and the zone that it is asked for; any where there is none. */
+struct server {
+    const char *where;
+    struct name zone;
+    bool has_zone;
+};
 
 struct options {
-    const char *anchor, *servers[MOST_SERVERS], *save, *from;
+    const char *anchor, *save, *from;
+    struct server servers[MOST_SERVERS];
     size_t count;
     uint64_t moment;
     bool is_json;
 };
 
 static int usage(void) {
-    fputs("usage: trace NAME TYPE --anchor FILE [--server HOST[:PORT] ..] [--json] [--save FILE] [--from FILE] [--moment SECONDS]\n"
+    fputs("usage: trace NAME TYPE --anchor FILE [--server [ZONE=]HOST[:PORT] ..] [--json] [--save FILE] [--from FILE]\n"
+          "             [--moment SECONDS]\n"
           "\n"
           "--anchor   DS records of the trust anchor, one on each line behind the zone's name, as '. IN DS 20326 8 2 E06D..'\n"
-          "--server   a resolver, or a server of all the zones on the way; with several the next is asked where one gives no answer\n"
+          "--server   a resolver, or a server of all the zones on the way, or of one; where one gives no answer the next is asked\n"
           "--save     writes the messages to a file\n"
           "--from     takes messages and the moment from such a file; what it lacks is asked for if there is a server\n"
           "--moment   when signatures are to hold, in seconds since 1970: now, if it is left out\n"
@@ -65,13 +75,26 @@ static bool ask_at(const char *where, const struct zermuita_wanted *wanted, stru
     return is_answered && (0x49 >> (answer->octets[3] & 15) & 1) != 0;
 }
 
+/* Whether a server is asked for a zone's messages. */
+static bool serves(const struct server *server, const struct zermuita_wanted *wanted) {
+    if (!server->has_zone || server->zone.len != wanted->zone.len) {
+        return !server->has_zone;
+    }
+    for (size_t i = 0; i < server->zone.len; i++) {
+        if (tolower(server->zone.octets[i]) != tolower(wanted->zone.data[i])) {
+            return false;
+        }
+    }
+    return true;
+}
+
 /* Asks the servers for the messages that are wanted. False where one has no answer. */
 static bool ask_all(const struct options *options, struct evidence *evidence, struct zermuita_octets rest) {
     static struct answer answer;
     struct zermuita_wanted wanted;
     while (zermuita_next_wanted(&rest, &wanted)) {
         size_t i = 0;
-        while (i < options->count && !ask_at(options->servers[i], &wanted, &answer)) {
+        while (i < options->count && !(serves(&options->servers[i], &wanted) && ask_at(options->servers[i].where, &wanted, &answer))) {
             i++;
         }
         if (i == options->count) {
@@ -82,7 +105,7 @@ static bool ask_all(const struct options *options, struct evidence *evidence, st
             fputs("\n", stderr);
             return false;
         }
-        add_message(evidence, &wanted, (struct zermuita_octets){answer.octets, answer.len}, options->servers[i], answer.is_by_tcp);
+        add_message(evidence, &wanted, (struct zermuita_octets){answer.octets, answer.len}, options->servers[i].where, answer.is_by_tcp);
     }
     return true;
 }
@@ -110,6 +133,21 @@ static bool walk(const struct options *options, struct zermuita_evidence handed,
     }
 }
 
+/* Adds a server, HOST or ZONE=HOST. */
+static bool add_server(struct options *options, char *text) {
+    char *equals = strchr(text, '=');
+    if (options->count == MOST_SERVERS) {
+        return false;
+    }
+    struct server *server = &options->servers[options->count++];
+    server->has_zone = equals != NULL;
+    server->where = equals != NULL ? equals + 1 : text;
+    if (equals != NULL) {
+        *equals = 0;
+    }
+    return equals == NULL || name_of_text(text, &server->zone);
+}
+
 static bool read_options(int argc, char **argv, struct options *options) {
     static const struct option known[] = {
         {"anchor", required_argument, NULL, 'a'}, {"server", required_argument, NULL, 's'}, {"json", no_argument, NULL, 'j'},
@@ -123,10 +161,9 @@ static bool read_options(int argc, char **argv, struct options *options) {
             options->anchor = optarg;
             break;
         case 's':
-            if (options->count == MOST_SERVERS) {
+            if (!add_server(options, optarg)) {
                 return false;
             }
-            options->servers[options->count++] = optarg;
             break;
         case 'j':
             options->is_json = true;
@@ -149,11 +186,12 @@ static bool read_options(int argc, char **argv, struct options *options) {
 
 int main(int argc, char **argv) {
     static struct ds_set ds;
-    struct options options = {.moment = (uint64_t)time(NULL)};
+    static struct options options;
     struct evidence evidence = {0};
     struct buffer out = {0};
     struct name anchor;
     struct end end = {.reply = ZERMUITA_BAD_CASE};
+    options.moment = (uint64_t)time(NULL);
     if (!read_options(argc, argv, &options) || !read_anchor(options.anchor, &anchor, &ds) || !name_of_text(argv[optind], &end.name)
         || !type_of_text(argv[optind + 1], &end.rtype)) {
         return usage();

@@ -107,7 +107,7 @@ pub struct Report {
 }
 
 /// How many octets a report has in memory.
-const REPORT_SIZE: usize = 48;
+pub const REPORT_SIZE: usize = 48;
 
 const _: () = prove!(size_of::<Report>() == REPORT_SIZE);
 

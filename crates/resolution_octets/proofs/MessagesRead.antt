@@ -1,14 +1,17 @@
 -- Messages that are read one after another.
-use Rattle.std.proofs.Common.{◌≡◌, ℕ, ◌+◌, ◌<◌, List, [], ◌∷◌, ◌++◌, length, map, take, get_or, sym, ap, ◌∙◌, subst₂}
+use Rattle.std.proofs.Common.{◌≡◌, ℕ, ◌+◌, ◌<◌, List, [], ◌∷◌, ◌++◌, length, map, take, get_or, sym, ap, ◌∙◌, subst₂, inr}
 use Rattle.std.specs.Prelude.{Contains}
 use Rattle.std.proofs.lemmas.List.{map-append}
 use Rattle.messages.proofs.Lists.{take_next}
+use Rattle.answer_judge_octets.specs.Written.{IsList}
 use Rattle.answer_judge_octets.specs.declared.reply.ReplyCode.{ReplyCode}
+use Rattle.answer_judge_octets.specs.declared.reply.ReplyCode.TheVariants as c
 use Rattle.resolution_evidence.specs.Given.{Message}
 use Rattle.resolution_octets.specs.ReadMessages.{message_of}
-use Rattle.resolution_octets.specs.Sent.{Sent}
-use Rattle.resolution_octets.specs.Spelling.{AreRead, IsRead, IsUnread, SomeUnread}
+use Rattle.resolution_octets.specs.Sent.{FitsSent, Sent, sent_octets}
+use Rattle.resolution_octets.specs.Spelling.{AreRead, IsRead, IsUnread, SomeUnread, Unread}
 use Rattle.resolution_octets.specs.declared.handed.ReadMessage.{ReadMessage}
+use Rattle.resolution_octets.specs.declared.octets.OctetEvidence.{OctetEvidence}
 
 one_more : (ss : List Sent) (ms : List Message) (s : Sent) (m : Message) → AreRead ss ms → IsRead s m → AreRead (ss ++ s ∷ []) (ms ++ m ∷ [])
 one_more [] [] s m are is = (is, tt)
@@ -25,3 +28,9 @@ read_more sent i s read m more inside at are is pushed =
 
 pub one_unread : (sent : List Sent) (i : ℕ) (s : Sent) (code : ReplyCode) → i < length sent → s ≡ get_or sent i s → IsUnread s code → SomeUnread sent code
 one_unread sent i s code inside at unread = record { sent = s; there = (i, inside, sym at); unread = unread }
+
+-- which octets of evidence spell nothing, by the message that is refused
+pub some_unread : (case : OctetEvidence) (sent : List Sent) (code : ReplyCode) → IsList FitsSent sent_octets case.messages.now sent → SomeUnread sent code → Unread case code
+some_unread case sent c.BadMessages is some = inr (record { sent = sent; messages = is; some = some })
+some_unread case sent c.MessageTooLong is some = record { sent = sent; messages = is; some = some }
+some_unread case sent _ is some = absurd some.unread

@@ -9,7 +9,7 @@ use crate::handed::{IN, ReadMessage, handed, read_messages};
 use crate::said::reply_of_walk;
 use answer_judge_octets::ds::judged_ds;
 use answer_judge_octets::list::read_list;
-use answer_judge_octets::octets::{hand_out, read_name};
+use answer_judge_octets::octets::{REPORT_SIZE, hand_out, read_name};
 use answer_judge_octets::reply::Reply;
 use answer_judge_octets::{CheckedSignature, ReplyCode, Report};
 use denial_data::Ds;
@@ -105,7 +105,7 @@ pub fn resolve_octets(
 ) -> ReplyCode
     ensures { Answers evidence.now out.old out.new report.old report.new result }
 {
-    if report.size != size_of::<Report>() {
+    if report.size != REPORT_SIZE {
         return ReplyCode::BadCase;
     }
     let reply = reply(alloc, evidence);
