@@ -1,6 +1,7 @@
 /*
- * What a signed DNS zone says of a name, judged from messages alone (RFC 4035, 5). zermuita_judge(3) and docs/use/CALLING.md say
- * how a call is made, what each reply proves and under which premises.
+ * What a signed DNS zone says of a name, judged from messages alone (RFC 4035, 5), and what a tree of zones says of it from a trust
+ * anchor down. zermuita_judge(3) and docs/use/CALLING.md say how a zone's messages are judged, what each reply proves and under which
+ * premises; zermuita_resolve(3) and docs/use/RESOLVING.md how the way from a trust anchor is walked.
  *
  * The library checks no signature. Its caller passes those that it has checked, and the library gives a verdict, a refusal, or
  * signatures that are still to be checked. It keeps nothing between calls, calls nothing back but malloc, realloc and free, and
@@ -79,8 +80,13 @@ enum zermuita_reply {
     ZERMUITA_MESSAGE_TOO_LONG = 28,       /* a message is too long in canonical form */
     ZERMUITA_TOO_MANY_SIGNATURES = 29,    /* more signatures are to be checked than the case allows */
 
+    /* Of zermuita_resolve alone. */
+    ZERMUITA_NOTHING_TOLD = 30, /* a zone's answer tells nothing of the way to the name */
+    ZERMUITA_OUTSIDE = 31,      /* the name is not at or below the trust anchor, or DS is asked for at it */
+
     /* What the library needs. */
     ZERMUITA_ASK = 32,              /* signatures are to be checked */
+    ZERMUITA_WANT = 33,             /* messages are wanted */
     ZERMUITA_BUFFER_TOO_SMALL = 34, /* the reply has more octets than there is room for */
 
     /* What cannot be read. */
@@ -88,7 +94,12 @@ enum zermuita_reply {
     ZERMUITA_BAD_DS_SET = 36,     /* the DS set is not DS records behind their lengths */
     ZERMUITA_BAD_NAME = 37,       /* the name that was asked for is not a name in wire form */
     ZERMUITA_BAD_SIGNATURES = 38, /* the checked signatures are not entries */
-    ZERMUITA_BAD_CASE = 39        /* a size or a flag is unknown, octets are null, or no_ds contradicts ds */
+    ZERMUITA_BAD_CASE = 39,       /* a size or a flag is unknown, octets are null, or no_ds contradicts ds */
+    ZERMUITA_BAD_MESSAGES = 40,   /* the messages are not messages behind the names that they are of */
+
+    /* Limits of zermuita_resolve, which say why there is no verdict, too. */
+    ZERMUITA_TOO_MANY_CUTS = 48,   /* more delegations are on the way to the name than are allowed */
+    ZERMUITA_TOO_MANY_ALIASES = 49 /* more aliases are on the way to the name than are allowed */
 };
 
 /* Octets. Where `data` is null there are none, and `len` is 0. */
@@ -126,6 +137,28 @@ struct zermuita_case {
     uint32_t places;                   /* 1: a verdict says which records of `answer` are verified for it; 0: it does not */
 };
 
+/*
+ * What a walk from a trust anchor down is handed: set it to zero, then its size, then what the question needs. Names are in wire
+ * form, without pointers; the class is 1. Of `ds` those records count that count of a case; where none does, the evidence is refused
+ * as ZERMUITA_BAD_DS_SET, since a trust anchor that cannot be checked is set wrongly.
+ */
+struct zermuita_evidence {
+    size_t size;                       /* sizeof(struct zermuita_evidence) */
+    struct zermuita_octets anchor;     /* the name of the trust anchor's zone; for the root one octet, 0 */
+    struct zermuita_octets ds;         /* its DS set: each record's data behind its length in two octets */
+    struct zermuita_octets name;       /* the name that is asked for */
+    struct zermuita_octets messages;   /* the messages so far, back to back, in any order (zermuita_put_message) */
+    struct zermuita_octets checked;    /* the signatures that were checked so far, as entries back to back, in any order */
+    struct zermuita_octets algorithms; /* the algorithms that the caller checks, an octet each; none: all */
+    uint64_t now;                      /* the moment at which signatures must hold, in seconds since 1970 */
+    uint16_t rtype;                    /* the type that is asked for */
+    uint16_t max_nsec3_iterations;     /* how many iterations of a name's hash are allowed (RFC 9276, 3.2) */
+    uint16_t max_cuts;                 /* how many delegations are gone down for a name at most; 0: 32 */
+    uint16_t max_aliases;              /* how many aliases are followed at most; 0: 16 */
+    uint32_t one_moment;               /* 1: the signatures of an answer must have one inception and one expiration; 0: any */
+    uint32_t max_signatures;           /* how many entries `checked` may have with those that are asked for; 0: 256 */
+};
+
 /* Whether a name that has no DS record is a delegation: promised of a zone that does not change, whatever `one_moment` is. */
 enum zermuita_delegates {
     ZERMUITA_DELEGATES_UNKNOWN = 0, /* nothing is said of it */
@@ -152,8 +185,10 @@ struct zermuita_report {
     uint16_t delegates;     /* with ZERMUITA_NODATA for DS: a number of enum zermuita_delegates; else 0 */
 };
 
-/* The library's own functions. They take no null pointer: call zermuita_judge and zermuita_strerror below in their place. */
+/* The library's own functions. They take no null pointer: call zermuita_judge, zermuita_resolve and zermuita_strerror below. */
 uint32_t zermuita_judge_case(const struct zermuita_case *handed, uint8_t *out, size_t out_len, struct zermuita_report *report);
+uint32_t zermuita_resolve_evidence(const struct zermuita_evidence *handed, uint8_t *out, size_t out_len,
+                                   struct zermuita_report *report);
 void zermuita_reply_text(uint32_t reply, struct zermuita_octets *text);
 
 /* Whether a reply is a verdict, and whether it says why there is none: 1 or 0. */
@@ -218,6 +253,61 @@ static inline enum zermuita_reply zermuita_judge(const struct zermuita_case *han
         && zermuita_octets_are(&room.handed.name) && zermuita_octets_are(&room.handed.checked)
         && zermuita_octets_are(&room.handed.algorithms)) {
         reply = (enum zermuita_reply)zermuita_judge_case(&room.handed, out, out_len, &said.report);
+    }
+    if (report != NULL) {
+        memcpy(report, &said, report->size < sizeof *report ? report->size : sizeof *report);
+    }
+    return reply;
+}
+
+/*
+ * Walks from a trust anchor down to the zone that has the name, over the messages that it is handed, and through aliases from the
+ * anchor again. Room, null and overlaps are as with zermuita_judge. What is written:
+ *
+ *   ZERMUITA_WANT                            messages that are wanted (zermuita_next_wanted): put the answer to each at the end of
+ *                                            `messages`, and call again
+ *   ZERMUITA_ASK                             signatures that are to be checked, as zermuita_judge writes them
+ *   ZERMUITA_RECORDS, ZERMUITA_WILDCARD      the zone's name, and the records' data (zermuita_next_record): secure
+ *   ZERMUITA_NODATA, ZERMUITA_NXDOMAIN,      the zone's name: secure
+ *   ZERMUITA_WILDCARD_NODATA
+ *   ZERMUITA_DNAME                           nothing: secure, and the name that a DNAME record leads to would be too long: YXDOMAIN
+ *   ZERMUITA_INSECURE                        the name of the delegation below which nothing is signed
+ *   ZERMUITA_OPTOUT                          the name of the zone whose opt-out leaves the name open: insecure
+ *   refusals up to 27, ZERMUITA_NOTHING_TOLD the zone, the name and the type of the answer that is refused, or that tells nothing, in
+ *                                            the form of a message that is wanted; with ZERMUITA_OUT_OF_MEMORY nothing
+ *   others                                   nothing
+ *
+ * With each reply that says something of the name, the names that aliases led through stand in front of that (zermuita_take_aliases):
+ * with verdicts, with refusals that have octets, with ZERMUITA_OUTSIDE and with both limits.
+ *
+ * Of the report `len` is set and all else is 0: nothing says yet how long what is said may be kept. It may be kept for the least of
+ * the TTLs of the messages' records and of the original TTLs of their RRSIG records, and not beyond the earliest expiration of those
+ * that hold.
+ */
+static inline enum zermuita_reply zermuita_resolve(const struct zermuita_evidence *handed, uint8_t *out, size_t out_len,
+                                                   struct zermuita_report *report) {
+    union {
+        struct zermuita_evidence handed;
+        uint8_t octets[ZERMUITA_CASE_ROOM];
+    } room;
+    union {
+        struct zermuita_report report;
+        uint8_t octets[ZERMUITA_REPORT_ROOM];
+    } said;
+    uint8_t nowhere[1];
+    enum zermuita_reply reply = ZERMUITA_BAD_CASE;
+    memset(&said, 0, sizeof said);
+    said.report.size = report != NULL ? report->size : sizeof said.report;
+    memset(&room, 0, sizeof room);
+    memcpy(&room, handed, handed->size < sizeof *handed ? handed->size : sizeof *handed);
+    if (out == NULL) {
+        out = nowhere;
+        out_len = 0;
+    }
+    if (zermuita_octets_are(&room.handed.anchor) && zermuita_octets_are(&room.handed.ds) && zermuita_octets_are(&room.handed.name)
+        && zermuita_octets_are(&room.handed.messages) && zermuita_octets_are(&room.handed.checked)
+        && zermuita_octets_are(&room.handed.algorithms)) {
+        reply = (enum zermuita_reply)zermuita_resolve_evidence(&room.handed, out, out_len, &said.report);
     }
     if (report != NULL) {
         memcpy(report, &said, report->size < sizeof *report ? report->size : sizeof *report);
@@ -308,6 +398,79 @@ static inline int zermuita_next_place(struct zermuita_octets *places, uint32_t *
     places->data += 4;
     places->len -= 4;
     return 1;
+}
+
+/* A message that is wanted, or an answer that is refused: of which zone, and to which name and type. */
+struct zermuita_wanted {
+    struct zermuita_octets zone; /* the name of the zone whose servers are to be asked */
+    struct zermuita_octets name; /* the name to ask for */
+    uint16_t rtype;              /* the type to ask for, of class 1 */
+};
+
+/*
+ * Takes the names that aliases led through off the front of `rest`, which begins as the octets of a reply of zermuita_resolve: their
+ * number in four octets, and the names, which zermuita_next_name takes off `names` one by one. Gives 0 where there are none of this
+ * form, as where the reply has no octets.
+ */
+static inline int zermuita_take_aliases(struct zermuita_octets *rest, struct zermuita_octets *names) {
+    struct zermuita_octets behind = *rest, name;
+    size_t count = rest->len < 4 ? 0 : zermuita_number(rest->data, 4);
+    if (rest->len < 4) {
+        return 0;
+    }
+    behind.data += 4;
+    behind.len -= 4;
+    for (size_t i = 0; i < count; i++) {
+        if (!zermuita_next_name(&behind, &name)) {
+            return 0;
+        }
+    }
+    names->data = rest->data + 4;
+    names->len = (size_t)(behind.data - names->data);
+    *rest = behind;
+    return 1;
+}
+
+/*
+ * Takes a message that is wanted off the front of `rest`: two names in wire form, and a type in two octets. Gives 0 where there are no
+ * more.
+ */
+static inline int zermuita_next_wanted(struct zermuita_octets *rest, struct zermuita_wanted *wanted) {
+    struct zermuita_octets behind = *rest;
+    if (!zermuita_next_name(&behind, &wanted->zone) || !zermuita_next_name(&behind, &wanted->name) || behind.len < 2) {
+        return 0;
+    }
+    wanted->rtype = (uint16_t)zermuita_number(behind.data, 2);
+    rest->data = behind.data + 2;
+    rest->len = behind.len - 2;
+    return 1;
+}
+
+/* How many octets a message of `len` octets takes in `messages`. */
+static inline size_t zermuita_message_room(const struct zermuita_wanted *wanted, size_t len) {
+    return 2 + wanted->zone.len + 2 + wanted->name.len + 2 + 4 + len;
+}
+
+/*
+ * Writes a message to `out`, which has zermuita_message_room octets: the name of its zone and the name that it answers, each behind
+ * its length in two octets, the type that it answers in two, and the message behind its length in four.
+ */
+static inline void zermuita_put_message(uint8_t *out, const struct zermuita_wanted *wanted, struct zermuita_octets message) {
+    const struct zermuita_octets names[2] = {wanted->zone, wanted->name};
+    for (int i = 0; i < 2; i++) {
+        *out++ = (uint8_t)(names[i].len >> 8);
+        *out++ = (uint8_t)names[i].len;
+        memcpy(out, names[i].data, names[i].len);
+        out += names[i].len;
+    }
+    *out++ = (uint8_t)(wanted->rtype >> 8);
+    *out++ = (uint8_t)wanted->rtype;
+    for (int shift = 24; shift >= 0; shift -= 8) {
+        *out++ = (uint8_t)(message.len >> shift);
+    }
+    if (message.len != 0) {
+        memcpy(out, message.data, message.len);
+    }
 }
 
 /* A signature that is to be checked. Its octets are those of the output, and valid until `out` is written or freed. */

@@ -27,9 +27,9 @@ static void put(struct query *query, const uint8_t *octets, size_t len) {
     query->len += len;
 }
 
-static struct query query_of(const struct name *name, uint16_t rtype) {
+static struct query query_of(uint16_t flags, const struct name *name, uint16_t rtype) {
     struct query query = {.len = 0};
-    uint8_t header[HEADER] = {[5] = 1, [11] = 1};
+    uint8_t header[HEADER] = {[2] = (uint8_t)(flags >> 8), [3] = (uint8_t)flags, [5] = 1, [11] = 1};
     const uint8_t fields[] = {(uint8_t)(rtype >> 8), (uint8_t)rtype, 0, 1};
     const uint8_t edns[] = {0, 0, 41, UDP_PAYLOAD >> 8, UDP_PAYLOAD & 255, 0, 0, 0x80, 0, 0, 0};
     while (getrandom(header, 2, 0) != 2) {
@@ -114,12 +114,12 @@ static bool ask_by_tcp(const struct addrinfo *server, const struct query *query,
     return is_answered;
 }
 
-bool ask(const struct addrinfo *server, const struct name *name, uint16_t rtype, struct answer *answer) {
+bool ask(const struct addrinfo *server, uint16_t flags, const struct name *name, uint16_t rtype, struct answer *answer) {
     int64_t end = milliseconds() + SECONDS * 1000;
-    struct query query = query_of(name, rtype);
+    struct query query = query_of(flags, name, rtype);
     bool is_answered = ask_by_udp(server, &query, end - SECONDS * 500, answer);
     if (!is_answered) {
-        query = query_of(name, rtype);
+        query = query_of(flags, name, rtype);
         is_answered = ask_by_udp(server, &query, end, answer);
     }
     bool is_cut_off = is_answered && (answer->octets[2] & 2) != 0;

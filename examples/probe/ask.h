@@ -13,11 +13,14 @@ struct answer {
     bool is_by_tcp;
 };
 
+/* The header's flags of a question to a name server, and of one to a resolver: RD, and CD so that it leaves judging to who asks. */
+enum { TO_SERVER = 0, TO_RESOLVER = 0x0110 };
+
 /*
  * Asks a server for records, with EDNS and its bit DO (RFC 3225), and over TCP where the answer is cut off. A question takes five
  * seconds at most, and is sent at most twice. What has another id or another question, or comes from another address or port, is
  * passed over. False where there is no answer.
  */
-bool ask(const struct addrinfo *server, const struct name *name, uint16_t rtype, struct answer *answer);
+bool ask(const struct addrinfo *server, uint16_t flags, const struct name *name, uint16_t rtype, struct answer *answer);
 
 #endif

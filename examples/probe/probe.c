@@ -3,6 +3,7 @@
  * `build` builds it, and usage() says how it is called. Signatures are checked by OpenSSL.
  */
 #include "ask.h"
+#include "ds_set.h"
 #include "show.h"
 #include "signature.h"
 
@@ -11,12 +12,6 @@
 #include <unistd.h>
 
 enum { PROVEN = 0, NOT_PROVEN = 1, FAILED = 2, DS = 43 };
-
-/* The DS set of the parent, each record's data behind their length. */
-struct ds_set {
-    uint8_t octets[65536];
-    size_t len;
-};
 
 /* A judgement, with the signatures that were checked for it. */
 struct judgement {
@@ -51,27 +46,6 @@ static int usage(void) {
     return FAILED;
 }
 
-/* Adds a DS record of its text, of which only what stands behind a word DS counts. */
-static bool add_ds(struct ds_set *ds, const char *text) {
-    const char *word = strstr(text, " DS ");
-    unsigned tag, algorithm, digest_type;
-    int read = 0;
-    text = word != NULL ? word + 4 : text;
-    if (sscanf(text, "%5u %3u %3u %n", &tag, &algorithm, &digest_type, &read) != 3 || read == 0 || tag > 65535 || algorithm > 255
-        || digest_type > 255 || sizeof ds->octets - ds->len < 512) {
-        return false;
-    }
-    uint8_t *record = ds->octets + ds->len;
-    long digest_len = octets_of_hex(text + read, record + 6, 255);
-    if (digest_len <= 0) {
-        return false;
-    }
-    const uint8_t head[] = {0, (uint8_t)(4 + digest_len), (uint8_t)(tag >> 8), (uint8_t)tag, (uint8_t)algorithm, (uint8_t)digest_type};
-    memcpy(record, head, sizeof head);
-    ds->len += 6 + (size_t)digest_len;
-    return true;
-}
-
 /* Adds the records of a file, or of a text with commas between them. */
 static bool read_ds_set(struct ds_set *ds, char *text) {
     FILE *file = strcmp(text, "-") == 0 ? stdin : fopen(text, "r");
@@ -84,11 +58,7 @@ static bool read_ds_set(struct ds_set *ds, char *text) {
         return is_read;
     }
     while (is_read && fgets(line, sizeof line, file) != NULL) {
-        line[strcspn(line, ";\n")] = 0;
-        for (char *tab; (tab = strchr(line, '\t')) != NULL;) {
-            *tab = ' ';
-        }
-        is_read = line[strspn(line, " \r")] == 0 || add_ds(ds, line);
+        is_read = !has_record(line) || add_ds(ds, line);
     }
     return is_read && !ferror(file);
 }
@@ -197,7 +167,7 @@ static int probe(const struct options *options, const struct addrinfo *server, s
                  const struct name *name) {
     static struct answer dnskey, answer;
     static struct judgement judgement;
-    if (!ask(server, zone, 48, &dnskey) || !ask(server, name, handed.rtype, &answer)) {
+    if (!ask(server, TO_SERVER, zone, 48, &dnskey) || !ask(server, TO_SERVER, name, handed.rtype, &answer)) {
         fputs("probe: no answer\n", stderr);
         return FAILED;
     }

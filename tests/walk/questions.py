@@ -166,6 +166,45 @@ LIMITED = (
     ("resolve www.sub.both.test 1", f"wants test both.test 43; {count_of('www.test')} messages"),
     ("with all", None),
 )
+
+
+def by_octets():
+    """Each question from octets to octets, and what is said of it."""
+    for (qname, rtype), said in QUESTIONS.items():
+        through = "; through " + " ".join(said.through) if said.through else ""
+        yield f"octets {qname} {rtype}", f"{said.says}{through}; {messages_of(qname, rtype)} messages"
+
+
+# From octets: what a limit of signatures allows, one for each set of keys and one for each DS set and answer on the way; and which part
+# of the octets cannot be read where the last one of it is missing.
+OCTETS = (
+    ("# The same from octets to octets, as callers in other languages hand them in.", None),
+    *by_octets(),
+    ("limits 1 11", None),
+    ("octets www.signed.test 1", f"too many cuts; {count_of('www.test')} messages"),
+    ("limits 32 1", None),
+    ("octets round.test 1", f"too many aliases; through round.signed.test; {count_of(*ROUND)} messages"),
+    ("limits 32 11", None),
+    ("without test test 48", None),
+    ("without test www.signed.test 1", None),
+    ("octets www.signed.test 1", f"wants test test 48, test www.signed.test 1; {count_of('com')} messages"),
+    ("with all", None),
+    ("most 5", None),
+    ("octets www.signed.test 1", f"TooManySignatures; {count_of('www.signed.test')} messages"),
+    ("most 6", None),
+    ("octets www.signed.test 1", f"{records('signed.test', address(2))}; {count_of('www.signed.test')} messages"),
+    ("most 0", None),
+    *(
+        (f"cut {part} www.test 1", f"{code}; {count_of('www.test')} messages")
+        for part, code in (
+            ("anchor", "BadApex"),
+            ("ds", "BadDsSet"),
+            ("name", "BadName"),
+            ("messages", "BadMessages"),
+            ("checked", "BadSignatures"),
+        )
+    ),
+)
 # Each message that a walk asks for, in the place of each other one: nothing else may be said than without. The lines that are kept
 # have the first of these, since they are many walks; the others are made too, into a file of their own.
 REPLAYED = ("www.plain.test", "www.sub.both.test", "none.moved.test")
@@ -177,4 +216,4 @@ def replay(*questions):
         yield f"replay {it} 1", f"{{tries:{it}}} tries, 0 otherwise"
 
 
-BEHIND = (*LIMITED, *replay(*REPLAYED[:1]))
+BEHIND = (*LIMITED, *OCTETS, *replay(*REPLAYED[:1]))

@@ -50,10 +50,10 @@ AreOctets octets = (i : ℕ) → get_or octets i 0 < 256
 abbrev pub IsFirst : ℕ → List ℕ → List ℕ → List ℕ → Type 0
 IsFirst n octets front rest = (front ≡ take n octets) × (rest ≡ drop n octets) × (length rest + n ≡ length octets)
 
-front_length : (n : ℕ) (octets front rest : List ℕ) → IsFirst n octets front rest → length front ≡ n
+pub front_length : (n : ℕ) (octets front rest : List ℕ) → IsFirst n octets front rest → length front ≡ n
 front_length n octets front rest is = ap length is.0 ∙ length-take-le n octets (omega (arith, is.2))
 
-whole : (n : ℕ) (octets front rest : List ℕ) → IsFirst n octets front rest → octets ≡ front ++ rest
+pub whole : (n : ℕ) (octets front rest : List ℕ) → IsFirst n octets front rest → octets ≡ front ++ rest
 whole n octets front rest is = sym (take-append-drop n octets) ∙ ap (λ (r : List ℕ). r ++ drop n octets) (sym is.0) ∙ ap (λ (r : List ℕ). front ++ r) (sym is.1)
 
 small_at : (n : ℕ) (octets front rest : List ℕ) → AreOctets octets → IsFirst n octets front rest → (i : ℕ) → (i < n) ⊎ (n ≤ i) → get_or front i 0 < 256
@@ -62,7 +62,7 @@ small_at n octets front rest small is i (inr high) =
     let short : length front ≤ i = omega (arith, front_length n octets front rest is) in
     subst (λ (k : ℕ). k < 256) (sym (get_or_past front i 0 short)) (omega arith)
 
-small_front : (n : ℕ) (octets front rest : List ℕ) → AreOctets octets → IsFirst n octets front rest → AreOctets front
+pub small_front : (n : ℕ) (octets front rest : List ℕ) → AreOctets octets → IsFirst n octets front rest → AreOctets front
 small_front n octets front rest small is i = small_at n octets front rest small is i (cases_lt i n)
 
 module _ (octets front rest : List ℕ) (n : ℕ) (small : AreOctets octets) (o : Option (Bor (List ℕ) × Bor (List ℕ))) (h : MatchOption o (length rest < n) (λ p. IsSplitAt rest n p.0.now p.1.now)) where

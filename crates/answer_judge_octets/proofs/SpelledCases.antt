@@ -22,10 +22,10 @@ use Rattle.answer_findings.specs.Table.{Checked, Tried, checked}
 use Rattle.answer_judge_octets.specs.Written.{FitsChecked, FitsDs, checked_octets, ds_octets, passes_octets, with_long_length}
 use Rattle.answer_judge_octets.proofs.ListsRead.{spelled_once}
 
-one_some : (n m : Name) (o : Option Name) → o ≡ Some n → o ≡ Some m → n ≡ m
+pub one_some : (n m : Name) (o : Option Name) → o ≡ Some n → o ≡ Some m → n ≡ m
 one_some n m o p q = ap (λ s. unwrap_or s n) (sym p ∙ q)
 
-one_flag : (a b : Bool) (o : Option Bool) → o ≡ Some a → o ≡ Some b → a ≡ b
+pub one_flag : (a b : Bool) (o : Option Bool) → o ≡ Some a → o ≡ Some b → a ≡ b
 one_flag a b o p q = ap (λ s. unwrap_or s a) (sym p ∙ q)
 
 abbrev found : Message → Result Message MessageError
@@ -53,7 +53,7 @@ one_of_read : (m x y : List ℕ) (r : Result Message MessageError) → FormOf m 
 one_of_read m x y (Err fault) p q = p ∙ sym q
 one_of_read m x y (Ok read) p q = one_form m x y (are_in_form pointer_limit m read.records) p q
 
-one_of : (m x y : List ℕ) (a : Bool) → IsJudged a m x → IsJudged a m y → x ≡ y
+pub one_of : (m x y : List ℕ) (a : Bool) → IsJudged a m x → IsJudged a m y → x ≡ y
 one_of m x y true p q = p ∙ sym q
 one_of m x y false p q = one_of_read m x y (message pointer_limit m) p q
 

@@ -147,13 +147,19 @@ number_of c.OutOfMemory = 26
 number_of c.MixedVersions = 27
 number_of c.MessageTooLong = 28
 number_of c.TooManySignatures = 29
+number_of c.NothingTold = 30
+number_of c.Outside = 31
 number_of c.Ask = 32
+number_of c.Want = 33
 number_of c.BufferTooSmall = 34
 number_of c.BadApex = 35
 number_of c.BadDsSet = 36
 number_of c.BadName = 37
 number_of c.BadSignatures = 38
 number_of c.BadCase = 39
+number_of c.BadMessages = 40
+number_of c.TooManyCuts = 48
+number_of c.TooManyAliases = 49
 
 abbrev pub code_of_verdict : Verdict → ReplyCode
 code_of_verdict (Records d) = c.Records
@@ -221,6 +227,10 @@ is_refusal c.OutOfMemory = true
 is_refusal c.MixedVersions = true
 is_refusal c.MessageTooLong = true
 is_refusal c.TooManySignatures = true
+is_refusal c.NothingTold = true
+is_refusal c.Outside = true
+is_refusal c.TooManyCuts = true
+is_refusal c.TooManyAliases = true
 is_refusal _ = false
 
 -- what is replied

@@ -21,7 +21,7 @@ const UNSUPPORTED_DIGEST: u16 = 2;
 ///
 /// A record of another algorithm or digest leads to no key that can be checked. A zone that has no
 /// other record is insecure, and not bogus (RFC 4035, 5.2).
-pub(crate) fn judged_ds(ds: Vec<Ds<Vec<u8>>>, algorithms: &[u8]) -> Vec<Ds<Vec<u8>>>
+pub fn judged_ds(ds: Vec<Ds<Vec<u8>>>, algorithms: &[u8]) -> Vec<Ds<Vec<u8>>>
     ensures { result.items ≡ judged_ds algorithms.now ds.items }
 {
     let mut judged = ds;

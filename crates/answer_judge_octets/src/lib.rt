@@ -2,14 +2,14 @@
 //! has checked, and the reply to it in octets, for callers in other languages.
 #![tactic(auto)]
 
-mod ds;
+pub mod ds;
 mod entries;
 mod errors;
 pub mod laws;
 mod limit;
-mod list;
+pub mod list;
 pub mod octets;
-mod parts;
+pub mod parts;
 mod places;
 pub mod reply;
 mod table_alone;

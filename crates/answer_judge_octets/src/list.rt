@@ -6,7 +6,7 @@ ghost use Rattle.answer_judge_octets.specs.Written.{IsList, Splits};
 use std::alloc::{AllocError, Global};
 
 /// What can be written into octets, and is found in front of them.
-pub(crate) trait Written {
+pub trait Written {
     /// What fits its octets.
     ghost fits: { Self → Type 0 };
 
@@ -20,7 +20,7 @@ pub(crate) trait Written {
 }
 
 /// What is found in front of octets.
-pub(crate) trait Entry<'a>: Written + Sized {
+pub trait Entry<'a>: Written + Sized {
     /// What stands in front of octets, and what stands behind it; nothing where nothing of the kind
     /// stands there.
     fn split_first(alloc: Global, octets: &'a [u8]) -> Result<Option<(Self, &'a [u8])>, AllocError>
@@ -29,7 +29,7 @@ pub(crate) trait Entry<'a>: Written + Sized {
 }
 
 /// The list that octets spell, all of them; nothing where they spell none.
-pub(crate) fn read_list<'a, E: Entry<'a> + Drop>(
+pub fn read_list<'a, E: Entry<'a> + Drop>(
     alloc: Global,
     octets: &'a [u8],
 ) -> Result<Option<Vec<E>>, AllocError>

@@ -3,7 +3,8 @@ ghost use Rattle.std.specs.Prelude.{◌≡◌, ◌⊎◌, Some, None, false, IfO
 ghost use Rattle.std.specs.Cow.{cow_slice_items};
 ghost use Rattle.messages.specs.NameOctets.{name_of_octets};
 ghost use Rattle.messages_canonical.specs.InForm.{GrowsTooLong};
-ghost use Rattle.answer_judge_octets.specs.Replying.{Answers, IsJudged, Replies, SaysFound, Unread};
+ghost use Rattle.answer_judge_octets.specs.Replying.{Answers, IsHandedOut, IsJudged, Replies, SaysFound};
+ghost use Rattle.answer_judge_octets.specs.Replying.{Unread};
 ghost use Rattle.answer_judge_octets.specs.Replying.{flag_in, reply_seen, report_of};
 ghost use Rattle.answer_judge_octets.specs.ReadCases.{ReadsAs, judge_input_of};
 
@@ -104,7 +105,7 @@ pub struct Report {
 }
 
 /// How many octets a report has in memory.
-const REPORT_SIZE: usize = 48;
+pub const REPORT_SIZE: usize = 48;
 
 const _: () = prove!(size_of::<Report>() == REPORT_SIZE);
 
@@ -154,7 +155,16 @@ pub fn judge_octets(
         return ReplyCode::BadCase;
     }
     let reply = reply(alloc, case);
-    *report = report_of(&reply);
+    hand_out(&reply, out, report)
+}
+
+/// Writes a reply's octets to the front of `out`, where there is room for them, and says of it in
+/// `report` all but its code.
+pub fn hand_out(reply: &Reply, out: &mut [u8], report: &mut Report) -> ReplyCode
+    ensures out { IsHandedOut (reply_seen reply.now) out.old out.new result }
+    ensures said { report.new ≡ report_of (reply_seen reply.now) }
+{
+    *report = report_of(reply);
     if reply.octets.len() > out.len() {
         return ReplyCode::BufferTooSmall;
     }
@@ -297,7 +307,7 @@ fn flag_in(case: &OctetCase, flag: u32) -> Result<bool, ReplyCode>
 }
 
 /// The octets that are judged of a message.
-fn judged_form<'a>(
+pub fn judged_form<'a>(
     alloc: Global,
     message: &'a [u8],
     as_received: bool,
@@ -317,7 +327,7 @@ fn judged_form<'a>(
 }
 
 /// Reads a name, or says which is none.
-fn read_name(alloc: Global, octets: &[u8], bad: ReplyCode) -> Result<Name<Vec<u8>>, ReplyCode>
+pub fn read_name(alloc: Global, octets: &[u8], bad: ReplyCode) -> Result<Name<Vec<u8>>, ReplyCode>
     ensures ok { IfOk result (λ n. name_of_octets octets.now ≡ Some n) }
     ensures unread { IfErr result (λ c. (c ≡ ReplyCode.OutOfMemory)
         ⊎ ((c ≡ bad) × (name_of_octets octets.now ≡ None))) }

@@ -5,7 +5,7 @@ ghost use Rattle.names_rdata.specs.Composing.{with_length};
 ghost use Rattle.answer_judge_octets.specs.Written.{IsShort, IsLong, Splits, with_long_length};
 
 /// A part behind its length in two octets, and what stands behind it.
-pub(crate) fn split_short(octets: &[u8]) -> Option<(&[u8], &[u8])>
+pub fn split_short(octets: &[u8]) -> Option<(&[u8], &[u8])>
     ensures { let found = option_map (λ p. (p.0.now, p.1.now)) result in
         Splits IsShort with_length octets.now found }
 {
@@ -14,7 +14,7 @@ pub(crate) fn split_short(octets: &[u8]) -> Option<(&[u8], &[u8])>
 }
 
 /// A part behind its length in four octets, and what stands behind it.
-pub(crate) fn split_long(octets: &[u8]) -> Option<(&[u8], &[u8])>
+pub fn split_long(octets: &[u8]) -> Option<(&[u8], &[u8])>
     ensures { let found = option_map (λ p. (p.0.now, p.1.now)) result in
         Splits IsLong with_long_length octets.now found }
 {

@@ -66,8 +66,14 @@ pub enum ReplyCode {
     MessageTooLong = 28,
     /// More signatures would be asked for than the case allows.
     TooManySignatures = 29,
+    /// A zone's answer tells nothing of the way down to the name.
+    NothingTold = 30,
+    /// The name is not at or below the trust anchor, or is the anchor's and asked for DS.
+    Outside = 31,
     /// These signatures are to be checked: entries of the list.
     Ask = 32,
+    /// These messages are wanted.
+    Want = 33,
     /// The reply has more octets than there is room for.
     BufferTooSmall = 34,
     /// The name of the zone is no name in wire form.
@@ -81,6 +87,12 @@ pub enum ReplyCode {
     /// The case or the report has another size, a flag is neither 0 nor 1, or it is unclear whether
     /// there is a DS record.
     BadCase = 39,
+    /// The messages are no list of messages, or a name in front of one is no name in wire form.
+    BadMessages = 40,
+    /// More delegations are on the way down to the name than are allowed.
+    TooManyCuts = 48,
+    /// More aliases are on the way to the name than are allowed.
+    TooManyAliases = 49,
 }
 
 impl ReplyCode {
@@ -123,13 +135,19 @@ impl ReplyCode {
             27 => Some(ReplyCode::MixedVersions),
             28 => Some(ReplyCode::MessageTooLong),
             29 => Some(ReplyCode::TooManySignatures),
+            30 => Some(ReplyCode::NothingTold),
+            31 => Some(ReplyCode::Outside),
             32 => Some(ReplyCode::Ask),
+            33 => Some(ReplyCode::Want),
             34 => Some(ReplyCode::BufferTooSmall),
             35 => Some(ReplyCode::BadApex),
             36 => Some(ReplyCode::BadDsSet),
             37 => Some(ReplyCode::BadName),
             38 => Some(ReplyCode::BadSignatures),
             39 => Some(ReplyCode::BadCase),
+            40 => Some(ReplyCode::BadMessages),
+            48 => Some(ReplyCode::TooManyCuts),
+            49 => Some(ReplyCode::TooManyAliases),
             _ => None,
         }
     }
@@ -159,6 +177,8 @@ impl ReplyCode {
             ReplyCode::MixedNsec3Parameters | ReplyCode::IterationsOverLimit => true,
             ReplyCode::HashFailed | ReplyCode::NotProven | ReplyCode::OutOfMemory => true,
             ReplyCode::MessageTooLong | ReplyCode::TooManySignatures => true,
+            ReplyCode::NothingTold | ReplyCode::Outside => true,
+            ReplyCode::TooManyCuts | ReplyCode::TooManyAliases => true,
             _ => false,
         }
     }
@@ -167,20 +187,20 @@ impl ReplyCode {
 /// What is replied: its code and its octets, how often was verified and hashed, how long a verdict
 /// lasts, an extended error, and whether a name is a delegation.
 #[derive(Debug, Drop)]
-pub(crate) struct Reply {
-    pub(crate) code: ReplyCode,
-    pub(crate) octets: Vec<u8>,
-    pub(crate) verifications: u64,
-    pub(crate) hashes: u64,
-    pub(crate) ttl: u32,
-    pub(crate) until: u64,
-    pub(crate) ede: u16,
-    pub(crate) delegates: u16,
+pub struct Reply {
+    pub code: ReplyCode,
+    pub octets: Vec<u8>,
+    pub verifications: u64,
+    pub hashes: u64,
+    pub ttl: u32,
+    pub until: u64,
+    pub ede: u16,
+    pub delegates: u16,
 }
 
 impl Reply {
     /// A code alone.
-    pub(crate) fn only(alloc: Global, code: ReplyCode) -> Self
+    pub fn only(alloc: Global, code: ReplyCode) -> Self
         ensures { reply_seen result ≡ only code }
     {
         Reply {
@@ -297,7 +317,7 @@ fn delegates_of(finding: &Finding) -> u16
 }
 
 /// The reply that asks for signatures, or that they are too many.
-pub(crate) fn reply_of_asks(alloc: Global, asks: &[Ask], stops: bool) -> Result<Reply, AllocError>
+pub fn reply_of_asks(alloc: Global, asks: &[Ask], stops: bool) -> Result<Reply, AllocError>
     ensures { IfOk result (λ r. AsksOrStops stops asks.now (reply_seen r)) }
 {
     if stops {
@@ -322,7 +342,8 @@ fn code_of_finding(finding: &Finding) -> ReplyCode
     }
 }
 
-fn code_of_verdict(verdict: &Verdict) -> ReplyCode
+/// The code of a verdict.
+pub fn code_of_verdict(verdict: &Verdict) -> ReplyCode
     ensures { result ≡ code_of_verdict (verdict_of verdict.now) }
 {
     match verdict {
@@ -337,7 +358,8 @@ fn code_of_verdict(verdict: &Verdict) -> ReplyCode
     }
 }
 
-fn code_of_refusal(refusal: Refusal) -> ReplyCode
+/// The code of a refusal.
+pub fn code_of_refusal(refusal: Refusal) -> ReplyCode
     ensures { result ≡ code_of_refusal refusal }
 {
     match refusal {
@@ -412,7 +434,7 @@ fn octets_of_referral(
 }
 
 /// The data of a verdict, each behind its length; of other verdicts no octets.
-fn octets_of_verdict(alloc: Global, verdict: &Verdict) -> Result<Vec<u8>, AllocError>
+pub fn octets_of_verdict(alloc: Global, verdict: &Verdict) -> Result<Vec<u8>, AllocError>
     ensures { IfOk result (λ v. v.items ≡ octets_of_verdict (verdict_of verdict.now)) }
 {
     match verdict {

@@ -1,6 +1,8 @@
 //! What the lines so far handed in.
 
 use crate::grown::{Anchor, Grown, Walker};
+use crate::octets::{Part, last_reply};
+use crate::replied::reply_text;
 use crate::said::{Kind, kind_of, said};
 use crate::signatures::Signatures;
 use crate::store::{Replay, Store};
@@ -20,6 +22,7 @@ pub struct Desk {
     store: Store,
     anchor: Option<Anchor>,
     limits: Limits,
+    most: u32,
 }
 
 impl Desk {
@@ -32,6 +35,7 @@ impl Desk {
                 cuts: 32,
                 aliases: 11,
             },
+            most: 0,
         }
     }
 
@@ -57,10 +61,12 @@ impl Desk {
         };
         let mut set = Vec::new(alloc);
         set.push(ds_of(alloc, ds)?).ok()?;
+        let second = moment.parse::<u64>().ok()?;
         self.anchor = Some(Anchor {
             name: name_of(alloc, name)?,
             ds: set,
-            moment: UnixTime::new(Duration::from_secs(moment.parse::<u64>().ok()?)),
+            moment: UnixTime::new(Duration::from_secs(second)),
+            second,
         });
         format!(in alloc; "anchor {name} {moment}").ok()
     }
@@ -70,6 +76,7 @@ impl Desk {
         match name {
             "without" => self.store.leave_out(alloc, words)?,
             "with" => self.store.bring_back(),
+            "most" => self.most = words.first()?.parse::<u32>().ok()?,
             _ => self.limits = limits_of(words)?,
         }
         text(alloc, line)
@@ -83,9 +90,30 @@ impl Desk {
         let question = question_of(alloc, qname, rtype)?;
         let said = match name {
             "resolve" => self.resolved(alloc, &question)?,
+            "octets" => self.from_octets(alloc, &question, None)?,
             _ => self.replayed(alloc, &question)?,
         };
         format!(in alloc; "{line}: {said}").ok()
+    }
+
+    /// A line that asks with a part of the octets cut.
+    pub fn cut(&self, alloc: Global, line: &str, words: &[&str]) -> Option<String> {
+        let [part, qname, rtype] = words else {
+            return None;
+        };
+        let question = question_of(alloc, qname, rtype)?;
+        let said = self.from_octets(alloc, &question, Some(part_of(part)?))?;
+        format!(in alloc; "{line}: {said}").ok()
+    }
+
+    /// What is said of a question from octets.
+    fn from_octets(&self, alloc: Global, question: &Question, cut: Option<Part>) -> Option<String> {
+        let replied = last_reply(alloc, &self.walker(None)?, question, cut)?;
+        let (said, count) = (
+            reply_text(alloc, replied.code, &replied.octets)?,
+            replied.count,
+        );
+        format!(in alloc; "{said}; {count} messages").ok()
     }
 
     fn walker(&self, replay: Option<Replay>) -> Option<Walker> {
@@ -94,6 +122,7 @@ impl Desk {
             store: &self.store,
             signatures: &self.signatures,
             limits: self.limits,
+            most: self.most,
             replay,
         })
     }
@@ -156,6 +185,17 @@ impl Desk {
 struct Honest {
     kind: Kind,
     text: String,
+}
+
+fn part_of(word: &str) -> Option<Part> {
+    match word {
+        "anchor" => Some(Part::Anchor),
+        "ds" => Some(Part::Ds),
+        "name" => Some(Part::Name),
+        "messages" => Some(Part::Messages),
+        "checked" => Some(Part::Checked),
+        _ => None,
+    }
 }
 
 fn limits_of(words: &[&str]) -> Option<Limits> {

@@ -10,13 +10,13 @@ use resolution_walk::{Ask, Ending, Evidence, Limits, Walk, Wanted, resolve};
 use std::alloc::Global;
 
 /// How often a walk goes on with what it asked for.
-const ROUNDS: usize = 400;
+pub const ROUNDS: usize = 400;
 
 /// How many iterations of a hash are allowed.
-const ITERATIONS: u16 = 150;
+pub const ITERATIONS: u16 = 150;
 
 /// ECDSA P-256 (RFC 6605), the one algorithm whose signatures are checked.
-const ALGORITHMS: [u8; 1] = [13];
+pub const ALGORITHMS: [u8; 1] = [13];
 
 /// What a walk begins with.
 #[derive(Drop)]
@@ -24,6 +24,8 @@ pub struct Anchor {
     pub name: Name<Vec<u8>>,
     pub ds: Vec<Ds<Vec<u8>>>,
     pub moment: UnixTime,
+    /// The same in seconds.
+    pub second: u64,
 }
 
 /// Where a walk ended, and the messages that it was handed, by their numbers.
@@ -40,6 +42,8 @@ pub struct Walker<'a> {
     pub store: &'a Store,
     pub signatures: &'a Signatures,
     pub limits: Limits,
+    /// How many signatures may be checked where octets are handed in.
+    pub most: u32,
     pub replay: Option<Replay>,
 }
 

@@ -15,6 +15,10 @@
 //! - `replay NAME TYPE`: how often it was tried to hand in another message in the place of one of
 //!   these, and how often something else was said then: another verdict, another alias, or insecure
 //!   what is secure.
+//! - `octets NAME TYPE`: what is said of a question from octets to octets, from no message on.
+//! - `cut PART NAME TYPE`: what is said in the end where a part of the octets lacks the last: the
+//!   `anchor`, the `ds` set, the `name`, the `messages` or the `checked` signatures.
+//! - `most NUMBER`: so many signatures may be checked from here on where octets are handed in.
 //! - `limits CUTS ALIASES`: so many delegations and aliases are allowed from here on.
 //! - `without ZONE NAME TYPE`: this message is not there from here on; `with all`: each is again.
 //!
@@ -24,6 +28,8 @@
 
 mod desk;
 mod grown;
+mod octets;
+mod replied;
 mod said;
 mod signatures;
 mod store;
@@ -45,8 +51,9 @@ fn reply(alloc: Global, desk: &mut Desk, line: &str) -> Option<String> {
         "key" | "passes" => desk.take_signature(alloc, name, &words),
         "anchor" => desk.take_anchor(alloc, &words),
         "message" => desk.take_message(alloc, &words),
-        "without" | "with" | "limits" => desk.set(alloc, line, name, &words),
-        "resolve" | "replay" => desk.asked(alloc, line, name, &words),
+        "without" | "with" | "limits" | "most" => desk.set(alloc, line, name, &words),
+        "resolve" | "replay" | "octets" => desk.asked(alloc, line, name, &words),
+        "cut" => desk.cut(alloc, line, &words),
         _ => None,
     }
 }

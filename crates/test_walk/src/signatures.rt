@@ -57,6 +57,11 @@ impl Signatures {
         Some(table)
     }
 
+    /// Whether a signature of octets passes under a key of these data.
+    pub fn passes(&self, alloc: Global, key: &[u8], octets: &[u8], signature: &[u8]) -> Option<bool> {
+        Some(self.passing.contains(&entry_of(alloc, key, octets, signature)?))
+    }
+
     /// A signature that was asked for, and whether it passes.
     fn checked<'a>(&self, alloc: Global, ask: &'a Ask) -> Option<CheckedSignature<'a>> {
         let key = &ask.key;
@@ -67,9 +72,7 @@ impl Signatures {
             key: Dnskey::new(flags, protocol, algorithm, key.public_key().as_slice()).ok()?,
             octets: &ask.octets,
             signature: &ask.signature,
-            passes: self
-                .passing
-                .contains(&entry_of(alloc, &rdata, &ask.octets, &ask.signature)?),
+            passes: self.passes(alloc, &rdata, &ask.octets, &ask.signature)?,
         })
     }
 }

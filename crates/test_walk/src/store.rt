@@ -16,6 +16,8 @@ pub struct Stored {
     zone: Name<Vec<u8>>,
     question: Question,
     octets: Vec<u8>,
+    /// The octets as they were received.
+    received: Vec<u8>,
     is_there: bool,
 }
 
@@ -30,6 +32,7 @@ impl Stored {
             zone: name_of(alloc, zone)?,
             question: question_of(alloc, name, rtype)?,
             octets: canonical_message(alloc, &octets).ok()?,
+            received: octets,
             is_there: true,
         })
     }
@@ -96,6 +99,12 @@ impl Store {
         self.messages.iter().position(|it| {
             it.is_there && it.is_of(&wanted.zone, &wanted.name, wanted.rtype)
         })
+    }
+
+    /// The zone of a message, the question that it answers, and its octets as they were received.
+    pub fn received(&self, place: usize) -> Option<(&Name<Vec<u8>>, &Question, &[u8])> {
+        let message = self.messages.get(place)?;
+        Some((&message.zone, &message.question, &message.received))
     }
 
     /// The messages of these numbers, one of them replayed.

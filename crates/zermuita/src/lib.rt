@@ -1,5 +1,5 @@
-//! The library for C and for all that calls C: a judgement from octets to octets, and what its
-//! replies say in words. `include/zermuita.h` declares it, and has the calls over it that C
+//! The library for C and for all that calls C: a judgement and a walk from octets to octets, and what
+//! their replies say in words. `include/zermuita.h` declares it, and has the calls over it that C
 //! programs make.
 #![tactic(auto)]
 
@@ -7,9 +7,11 @@ mod texts;
 
 ghost use Rattle.std.specs.Prelude.{◌≡◌, ◌*◌, ◌+◌};
 ghost use Rattle.answer_judge_octets.specs.Replying.{AnswersNumber, is_refusal, is_verdict};
+ghost use Rattle.resolution_octets.specs.Replying.{AnswersWalk};
 ghost use Rattle.zermuita.specs.Texts.{IsTextOf, TellsKind};
 
 use answer_judge_octets::{OctetCase, ReplyCode, Report, judge_octets};
+use resolution_octets::{OctetEvidence, resolve_octets};
 use std::alloc::Global;
 use texts::text_of;
 
@@ -36,6 +38,20 @@ pub extern "C" fn zermuita_judge_case(
     ensures { AnswersNumber handed.now out.old out.new report.old report.new result }
 {
     judge_octets(alloc, handed, out, report).number()
+}
+
+/// Walks as [`resolve_octets`] does, and gives the number of its code. It takes memory by the
+/// caller's `malloc`, and keeps none.
+#[unsafe(no_mangle)]
+pub extern "C" fn zermuita_resolve_evidence(
+    alloc: Global,
+    handed: &OctetEvidence,
+    out: &mut [u8],
+    report: &mut Report,
+) -> u32
+    ensures { AnswersWalk handed.now out.old out.new report.old report.new result }
+{
+    resolve_octets(alloc, handed, out, report).number()
 }
 
 /// Whether a reply is a verdict, as 1 or 0.

@@ -59,7 +59,12 @@ fn text_of_code(code: ReplyCode) -> &'static [u8]
             b"ZERMUITA_MESSAGE_TOO_LONG: a message is too long in canonical form\0",
         ReplyCode::TooManySignatures =>
             b"ZERMUITA_TOO_MANY_SIGNATURES: more signatures are to be checked than the case allows\0",
+        ReplyCode::NothingTold =>
+            b"ZERMUITA_NOTHING_TOLD: a zone's answer tells nothing of the way to the name\0",
+        ReplyCode::Outside =>
+            b"ZERMUITA_OUTSIDE: the name is not at or below the trust anchor, or DS is asked for at it\0",
         ReplyCode::Ask => b"ZERMUITA_ASK: signatures are to be checked\0",
+        ReplyCode::Want => b"ZERMUITA_WANT: messages are wanted\0",
         ReplyCode::BufferTooSmall =>
             b"ZERMUITA_BUFFER_TOO_SMALL: the reply has more octets than there is room for\0",
         ReplyCode::BadApex =>
@@ -72,5 +77,11 @@ fn text_of_code(code: ReplyCode) -> &'static [u8]
             b"ZERMUITA_BAD_SIGNATURES: the checked signatures are not entries\0",
         ReplyCode::BadCase =>
             b"ZERMUITA_BAD_CASE: a size or a flag is unknown, octets are null, or no_ds contradicts ds\0",
+        ReplyCode::BadMessages =>
+            b"ZERMUITA_BAD_MESSAGES: the messages are not messages behind the names that they are of\0",
+        ReplyCode::TooManyCuts =>
+            b"ZERMUITA_TOO_MANY_CUTS: more delegations are on the way to the name than are allowed\0",
+        ReplyCode::TooManyAliases =>
+            b"ZERMUITA_TOO_MANY_ALIASES: more aliases are on the way to the name than are allowed\0",
     }
 }

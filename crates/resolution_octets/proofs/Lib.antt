@@ -1,0 +1,4 @@
+pub mod SentSplit
+pub mod MessagesRead
+pub mod Walked
+pub mod SpelledEvidence

@@ -1,0 +1,57 @@
+-- What is replied to evidence in octets.
+use Rattle.std.specs.Prelude.{◌≡◌, ◌⊎◌, ℕ, List, [], length}
+use Rattle.messages.specs.Message.{Asked}
+use Rattle.answer_judge_octets.specs.Replying.{IsHandedOut, Replied, number_of, only, report_of, report_size}
+use Rattle.answer_judge_octets.specs.declared.octets.Report.{Report}
+use Rattle.answer_judge_octets.specs.declared.reply.ReplyCode.{ReplyCode}
+use Rattle.answer_judge_octets.specs.declared.reply.ReplyCode.TheVariants as c
+use Rattle.resolution_evidence.specs.Given.{Given}
+use Rattle.resolution_walk.specs.Ended.{IsWalked}
+use Rattle.resolution_walk.specs.Truth.{WalksTruly}
+use Rattle.resolution_walk.specs.Wanted.{WalkWants}
+use Rattle.resolution_walk.specs.declared.ending.Walk.{Walk}
+use Rattle.resolution_octets.specs.Saying.{IsSaid}
+use Rattle.resolution_octets.specs.Spelling.{Spells, Unread}
+use Rattle.resolution_octets.specs.declared.octets.OctetEvidence.{OctetEvidence}
+
+-- A walk over evidence: where it leads from the anchor down, which messages it wants, and that of evidence of a tree it says what the
+-- tree says.
+pub record IsWalk (e : Given) (asked : Asked) (w : Walk) : Type 0 where
+  pub walked : IsWalked e asked [] w
+  pub wants : WalkWants e asked [] w
+  pub honest : WalksTruly e asked w
+
+-- a walk, and what it is replied as
+pub record Says (case : OctetEvidence) (e : Given) (asked : Asked) (said : Replied) : Type 0 where
+  pub walk : Walk
+  pub is_walk : IsWalk e asked walk
+  pub is_said : IsSaid case.max_signatures (length e.table) walk said
+
+-- what the octets spell, and what a walk over it says
+pub record IsReply (case : OctetEvidence) (said : Replied) : Type 0 where
+  pub evidence : Given
+  pub asked : Asked
+  pub spelled : Spells case evidence asked
+  pub says : Says case evidence asked said
+
+-- A reply: that memory ran out, or that octets spell nothing, or what a walk over what they spell says.
+abbrev pub Replies : OctetEvidence → Replied → Type 0
+Replies case said = ((said ≡ only said.code) × ((said.code ≡ c.OutOfMemory) ⊎ Unread case said.code)) ⊎ IsReply case said
+
+-- a reply, and what its report says
+pub record IsReported (case : OctetEvidence) (old new : List ℕ) (report : Report) (code : ReplyCode) : Type 0 where
+  pub said : Replied
+  pub replies : Replies case said
+  pub handed_out : IsHandedOut said old new code
+  pub report_is : report ≡ report_of said
+
+-- what a caller gets in octets: of a report of another size nothing but that
+pub record Answers (case : OctetEvidence) (old new : List ℕ) (before after : Report) (code : ReplyCode) : Type 0 where
+  pub known : before.size ≡ report_size → IsReported case old new after code
+  pub unknown : (before.size ≡ report_size → ⊥) → (code ≡ c.BadCase) × (new ≡ old) × (after ≡ before)
+
+-- the same, the code as its number
+pub record AnswersWalk (case : OctetEvidence) (old new : List ℕ) (before after : Report) (number : ℕ) : Type 0 where
+  pub code : ReplyCode
+  pub number_is : number ≡ number_of code
+  pub answers : Answers case old new before after code

@@ -1,0 +1,230 @@
+//! A walk from octets to octets, for callers in other languages.
+ghost use Rattle.std.specs.Prelude.{◌≡◌, ◌⊎◌, IfErr, IfOk, Some, None};
+ghost use Rattle.answer_judge_octets.specs.Replying.{reply_seen};
+ghost use Rattle.resolution_octets.specs.Replying.{Answers, Replies, Says};
+ghost use Rattle.resolution_octets.specs.Spelling.{HasDs, LacksDs, Unread, flag_in};
+ghost use Rattle.resolution_octets.specs.ReadEvidence.{ReadsAs, asked_in, given_of};
+
+use crate::handed::{IN, ReadMessage, handed, read_messages};
+use crate::said::reply_of_walk;
+use answer_judge_octets::ds::judged_ds;
+use answer_judge_octets::list::read_list;
+use answer_judge_octets::octets::{REPORT_SIZE, hand_out, read_name};
+use answer_judge_octets::reply::Reply;
+use answer_judge_octets::{CheckedSignature, ReplyCode, Report};
+use denial_data::Ds;
+use denial_fields::unix_time::UnixTime;
+use messages::names::Name;
+use messages::question::Question;
+use names_rdata::rtype::Rtype;
+use numbers::class::Class;
+use resolution_walk::{Evidence, Limits, resolve};
+use std::alloc::{AllocError, Global};
+use std::time::Duration;
+
+/// What a walk is handed, in octets. Names are in wire form, without pointers (RFC 1035, 3.1).
+#[repr(C)]
+#[derive(Drop)]
+pub struct OctetEvidence<'a> {
+    /// How many octets the evidence has as its caller knows it: 128.
+    pub size: usize,
+    /// The name of the trust anchor's zone.
+    pub anchor: &'a [u8],
+    /// The DS set of the trust anchor: each record's data behind its length in two octets (RFC
+    /// 4034, 5.1). Of them those are judged by that have a digest of SHA-256 or SHA-384 and one of
+    /// the `algorithms`; one at least.
+    pub ds: &'a [u8],
+    /// The name that is asked for.
+    pub name: &'a [u8],
+    /// The messages so far, one behind another: the name of the zone that a message is of, and the
+    /// name that it answers, each behind its length in two octets; the type that it answers in two
+    /// octets; the message behind its length in four.
+    pub messages: &'a [u8],
+    /// The signatures that were checked, as they were asked for, each with its last octet 1 where
+    /// it passes, and else 0.
+    pub checked: &'a [u8],
+    /// The algorithms of signatures that the caller checks, by their numbers (RFC 4034, A.1); none
+    /// where it checks all.
+    pub algorithms: &'a [u8],
+    /// The moment at which signatures are to hold, in seconds since 1970.
+    pub moment: u64,
+    /// The type that is asked for; the class is IN.
+    pub rtype: u16,
+    /// How many iterations of a name's hash are allowed (RFC 5155, 10.3).
+    pub limit: u16,
+    /// How many delegations are gone down for a name at most; 0 stands for 32.
+    pub max_cuts: u16,
+    /// How many aliases are followed at most; 0 stands for 16.
+    pub max_aliases: u16,
+    /// 1 where all signatures of an answer are to be of one inception and one expiration; else 0.
+    pub one_moment: u32,
+    /// How many signatures `checked` may have with those that are asked for; 0 stands for 256.
+    pub max_signatures: u32,
+}
+
+/// How many octets evidence has in memory.
+const EVIDENCE_SIZE: usize = 128;
+
+const _: () = prove!(size_of::<OctetEvidence>() == EVIDENCE_SIZE);
+
+/// The numbers of delegations and aliases that limits of 0 stand for.
+const MOST_CUTS: u16 = 32;
+
+const MOST_ALIASES: u16 = 16;
+
+/// What the octets of evidence spell.
+#[derive(Drop)]
+struct ReadEvidence<'a> {
+    anchor: Name<Vec<u8>>,
+    /// The DS records that are judged by.
+    ds: Vec<Ds<Vec<u8>>>,
+    question: Question,
+    messages: Vec<ReadMessage<'a>>,
+    table: Vec<CheckedSignature<'a>>,
+    one_moment: bool,
+}
+
+/// Says what evidence tells of a question as [`resolve`](resolution_walk::resolve) does, from
+/// octets. The reply's octets are written to the front of `out` where there is room for them.
+///
+/// Signatures that are asked for stand there as entries, which belong into `checked` with their
+/// last octets set; messages that are wanted as the zone's name, the name and the type that it is
+/// to be asked. With each other end the names come first that aliases led through, behind their
+/// number in four octets, and behind them the name of the zone and the data of records, each behind
+/// its length in two octets; the name of the delegation below which nothing is signed; the name of
+/// the zone that leaves the name open; or the zone, the name and the type of the answer that tells
+/// nothing.
+///
+/// Each message is judged with names in its data in full and in lower case (RFC 4034, 6.2), as
+/// every validator does: put in canonical form where it has to be.
+pub fn resolve_octets(
+    alloc: Global,
+    evidence: &OctetEvidence,
+    out: &mut [u8],
+    report: &mut Report,
+) -> ReplyCode
+    ensures { Answers evidence.now out.old out.new report.old report.new result }
+{
+    if report.size != REPORT_SIZE {
+        return ReplyCode::BadCase;
+    }
+    let reply = reply(alloc, evidence);
+    hand_out(&reply, out, report)
+}
+
+/// The reply to evidence.
+fn reply(alloc: Global, evidence: &OctetEvidence) -> Reply
+    ensures { Replies evidence.now (reply_seen result) }
+{
+    let read = match read_evidence(alloc, evidence) {
+        Ok(read) => read,
+        Err(code) => return Reply::only(alloc, code),
+    };
+    match walked(alloc, evidence, &read) {
+        Ok(reply) => reply,
+        Err(_) => Reply::only(alloc, ReplyCode::OutOfMemory),
+    }
+}
+
+/// The reply to what evidence spells.
+fn walked(
+    alloc: Global,
+    handed_in: &OctetEvidence,
+    read: &ReadEvidence,
+) -> Result<Reply, AllocError>
+    ensures { let e = given_of handed_in.now read.now in let asked = asked_in read.now in
+        IfOk result (λ r. Says handed_in.now e asked (reply_seen r)) }
+{
+    let messages = handed(alloc, &read.messages)?;
+    let evidence = Evidence {
+        anchor: &read.anchor,
+        ds: &read.ds,
+        messages: &messages,
+        table: &read.table,
+        algorithms: handed_in.algorithms,
+        moment: UnixTime::new(Duration::from_secs(handed_in.moment)),
+        limit: handed_in.limit,
+        one_moment: read.one_moment,
+    };
+    let limits = Limits {
+        cuts: or_else(handed_in.max_cuts, MOST_CUTS),
+        aliases: or_else(handed_in.max_aliases, MOST_ALIASES),
+    };
+    let walk = resolve(alloc, &evidence, &read.question, limits)?;
+    reply_of_walk(
+        alloc,
+        handed_in.max_signatures,
+        read.table.len(),
+        &walk,
+    )
+}
+
+/// A number, or another in the place of 0.
+fn or_else(number: u16, other: u16) -> u16 {
+    if number == 0 { other } else { number }
+}
+
+/// Reads what the octets of evidence spell.
+fn read_evidence<'a>(
+    alloc: Global,
+    evidence: &OctetEvidence<'a>,
+) -> Result<ReadEvidence<'a>, ReplyCode>
+    ensures ok { IfOk result (λ r. ReadsAs evidence.now r) }
+    ensures unread { IfErr result
+        (λ c. (c ≡ ReplyCode.OutOfMemory) ⊎ Unread evidence.now c) }
+{
+    let one_moment = flag_in(evidence)?;
+    let anchor = read_name(alloc, evidence.anchor, ReplyCode::BadApex)?;
+    let ds = read_ds(alloc, evidence)?;
+    let name = read_name(alloc, evidence.name, ReplyCode::BadName)?;
+    let Some(table) = read_list(alloc, evidence.checked)? else {
+        return Err(ReplyCode::BadSignatures);
+    };
+    let Some(sent) = read_list(alloc, evidence.messages)? else {
+        return Err(ReplyCode::BadMessages);
+    };
+    let messages = read_messages(alloc, &sent)?;
+    Ok(ReadEvidence {
+        anchor,
+        ds,
+        question: Question {
+            name,
+            rtype: Rtype::from_int(evidence.rtype),
+            class: Class::from_int(IN),
+        },
+        messages,
+        table,
+        one_moment,
+    })
+}
+
+/// The DS records of the trust anchor that are judged by, one at least.
+fn read_ds(alloc: Global, evidence: &OctetEvidence) -> Result<Vec<Ds<Vec<u8>>>, ReplyCode>
+    ensures ok { IfOk result (λ v. HasDs evidence.now v.items) }
+    ensures unread { IfErr result (λ c. (c ≡ ReplyCode.OutOfMemory)
+        ⊎ ((c ≡ ReplyCode.BadDsSet) × LacksDs evidence.now)) }
+{
+    let Some(set) = read_list(alloc, evidence.ds)? else {
+        return Err(ReplyCode::BadDsSet);
+    };
+    let ds = judged_ds(set, evidence.algorithms);
+    if ds.is_empty() {
+        return Err(ReplyCode::BadDsSet);
+    }
+    Ok(ds)
+}
+
+/// What the flag of evidence of the size that is known says.
+fn flag_in(evidence: &OctetEvidence) -> Result<bool, ReplyCode>
+    ensures said { IfOk result (λ b. flag_in evidence.now ≡ Some b) }
+    ensures unread { IfErr result (λ c. (c ≡ ReplyCode.BadCase) × (flag_in evidence.now ≡ None)) }
+{
+    if evidence.size != EVIDENCE_SIZE {
+        return Err(ReplyCode::BadCase);
+    }
+    match evidence.one_moment {
+        0 => Ok(false),
+        1 => Ok(true),
+        _ => Err(ReplyCode::BadCase),
+    }
+}

@@ -1,0 +1,46 @@
+/* What a walk is handed, as it grows. */
+#ifndef EVIDENCE_H
+#define EVIDENCE_H
+
+#include "ask.h"
+
+/* Octets that grow. */
+struct buffer {
+    uint8_t *data;
+    size_t len, room;
+};
+
+/* Makes a buffer longer, and gives where the new octets go. Ends the program where memory lacks. */
+uint8_t *grown(struct buffer *buffer, size_t len);
+
+struct zermuita_octets octets_of(const struct buffer *buffer);
+
+/* A message that was handed in: where it came from, and where it stands among the messages. */
+struct step {
+    struct name zone, name;
+    uint16_t rtype;
+    char server[64];
+    bool is_by_tcp;
+    size_t at, len;
+};
+
+/* The messages and signatures of a walk, and the steps that brought the messages. */
+struct evidence {
+    struct buffer messages, checked;
+    struct step *steps;
+    size_t count;
+    unsigned signatures, calls;
+};
+
+/* Adds a message that was wanted. */
+void add_message(struct evidence *evidence, const struct zermuita_wanted *wanted, struct zermuita_octets message, const char *server,
+                 bool is_by_tcp);
+
+/* Checks the signatures that are asked for, and adds them. */
+void add_checked(struct evidence *evidence, uint8_t *asks, size_t len);
+
+/* Writes the moment in eight octets and the messages to a file, or reads both; a read message came from the file. */
+bool save(const char *path, uint64_t moment, const struct evidence *evidence);
+bool load(const char *path, uint64_t *moment, struct evidence *evidence);
+
+#endif
