@@ -4,7 +4,7 @@ use Rattle.definitions.specs.Dnskey.{Ds}
 use Rattle.messages.specs.Message.{Asked}
 use Rattle.messages.specs.NameOctets.{name_of_octets}
 use Rattle.messages_canonical.specs.InForm.{GrowsTooLong, IsInForm}
-use Rattle.answer_judge_table.specs.Table.{Checked}
+use Rattle.answer_findings.specs.Table.{Checked}
 use Rattle.answer_judge_octets.specs.Replying.{flag_of, judged_ds}
 use Rattle.answer_judge_octets.specs.Written.{FitsChecked, FitsDs, IsList, checked_octets, ds_octets}
 use Rattle.answer_judge_octets.specs.declared.reply.ReplyCode.{ReplyCode}
