@@ -19,7 +19,7 @@
 #include <sys/un.h>
 #include "ctl.h"
 
-enum { CONNECTIONS = 64, OF_NETWORK = 16, QUERY_SECONDS = 10, DATAGRAMS = 64, FIRST = 3 };
+enum { CONNECTIONS = 64, OF_NETWORK = 16, SEND_ROOM = 1 << 16, QUERY_SECONDS = 10, DATAGRAMS = 64, FIRST = 3 };
 
 /* A TCP connection: octets of a query behind its length, then those of its response. */
 struct connection {
@@ -119,6 +119,7 @@ static void accept_connection(struct server *server) {
     socklen_t from_len = sizeof from;
     int fd = accept4(server->polled[1].fd, (struct sockaddr *)&from, &from_len, SOCK_NONBLOCK | SOCK_CLOEXEC);
     size_t place = CONNECTIONS, same = 0;
+    int room = SEND_ROOM;
     if (fd < 0) {
         return;
     }
@@ -128,7 +129,8 @@ static void accept_connection(struct server *server) {
         same += connection != NULL && connection->network == network_of(&from);
     }
     struct connection *made = place < CONNECTIONS && same < OF_NETWORK ? calloc(1, sizeof *made) : NULL;
-    if (made == NULL) {
+    if (made == NULL || setsockopt(fd, SOL_SOCKET, SO_SNDBUF, &room, sizeof room) != 0) {
+        free(made);
         close(fd);
         return;
     }
