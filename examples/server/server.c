@@ -55,8 +55,9 @@ static int bound(int type, const char *address, const char *port) {
         exit(EXIT_FAILURE);
     }
     int fd = socket(at->ai_family, type | SOCK_NONBLOCK | SOCK_CLOEXEC, 0), yes = 1;
-    if (fd < 0 || setsockopt(fd, SOL_SOCKET, SO_REUSEADDR, &yes, sizeof yes) != 0 || bind(fd, at->ai_addr, at->ai_addrlen) != 0
-        || (type == SOCK_STREAM && listen(fd, 64) != 0)) {
+    bool is_stream = type == SOCK_STREAM;
+    if (fd < 0 || (is_stream && setsockopt(fd, SOL_SOCKET, SO_REUSEADDR, &yes, sizeof yes) != 0)
+        || bind(fd, at->ai_addr, at->ai_addrlen) != 0 || (is_stream && listen(fd, 64) != 0)) {
         fail(address);
     }
     freeaddrinfo(at);
@@ -365,6 +366,9 @@ static void open_folder(struct served *served, const struct options *options) {
     int path = snprintf(served->path, sizeof served->path, "%s/journal", options->folder);
     if (folder < 0 || (size_t)folder >= sizeof served->key_folder || path < 0 || (size_t)path >= sizeof served->path) {
         errno = ENAMETOOLONG;
+        fail(options->folder);
+    }
+    if (!take_folder(options->folder)) {
         fail(options->folder);
     }
     served->folder = options->folder;

@@ -1,5 +1,5 @@
 -- What a call does to a zone that is open.
-use Rattle.std.proofs.Common.{◌≡◌, ℕ, ◌∙◌, ap, sym, subst}
+use Rattle.std.proofs.Common.{◌≡◌, ℕ, subst}
 use Rattle.std.specs.Prelude.{Option, Some}
 use Rattle.server_zone.specs.States.{state_of, ungathered}
 use Rattle.zermuita_zone.specs.Calls.{ForgetsIn}
