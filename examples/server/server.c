@@ -2,7 +2,8 @@
  * A name server of one zone, whose keys are PEM files: it answers by UDP and TCP, signs by OpenSSL as it answers, and its keys roll as
  * a socket says. docs/use/SERVER.md is about it.
  *
- * usage: server [--address=A] [--port=N] [--backdate=SECONDS] [--step=SECONDS] [--rate=N] [--chain=WORDS] FOLDER [MASTER-FILE]
+ * usage: server [--address=A] [--port=N] [--backdate=SECONDS] [--step=SECONDS] [--rate=N] [--chain=WORDS] [--auto]
+ *               FOLDER [MASTER-FILE]
  *        server --ctl FOLDER COMMAND..
  *
  * FOLDER has keys/NAME.pem, and gets the journal and the socket. A journal that is new begins with the records of MASTER-FILE.
@@ -33,7 +34,7 @@ struct server {
     struct served served;
     struct connection *connections[CONNECTIONS];
     struct pollfd polled[FIRST + CONNECTIONS]; /* datagrams, the listener, commands, connections */
-    bool is_stopping;
+    bool is_auto, is_stopping;
 };
 
 static volatile sig_atomic_t is_told_to_stop;
@@ -256,9 +257,14 @@ static void answer_command(struct server *server) {
 }
 
 static void serve(struct server *server) {
+    time_t looked = 0;
     while (!server->is_stopping && !is_told_to_stop) {
         if (poll(server->polled, FIRST + CONNECTIONS, 1000) < 0) {
             continue;
+        }
+        if (server->is_auto && looked != time(NULL)) {
+            looked = time(NULL);
+            end_waits(&server->served);
         }
         if (server->polled[0].revents != 0) {
             answer_datagrams(server);
@@ -332,6 +338,7 @@ static void read_keys(struct keys *keys) {
 struct options {
     const char *address, *port, *chain, *folder, *file;
     unsigned long backdate, step, rate;
+    bool is_auto;
 };
 
 /* What an option says, if the word is this one. */
@@ -348,9 +355,11 @@ static bool read_options(struct options *options, int argc, char **argv) {
     *options = (struct options){.address = "127.0.0.1", .port = "5353", .chain = "nsec 0 604800"};
     for (; at < argc && argv[at][0] == '-'; at++) {
         const char *word = argv[at];
-        if (!is_option(word, "--address=", &options->address) && !is_option(word, "--port=", &options->port)
-            && !is_option(word, "--chain=", &options->chain) && !is_option(word, "--backdate=", &backdate)
-            && !is_option(word, "--step=", &step) && !is_option(word, "--rate=", &rate)) {
+        if (strcmp(word, "--auto") == 0) {
+            options->is_auto = true;
+        } else if (!is_option(word, "--address=", &options->address) && !is_option(word, "--port=", &options->port)
+                   && !is_option(word, "--chain=", &options->chain) && !is_option(word, "--backdate=", &backdate)
+                   && !is_option(word, "--step=", &step) && !is_option(word, "--rate=", &rate)) {
             return false;
         }
     }
@@ -399,7 +408,7 @@ int main(int argc, char **argv) {
         return send_command(argc - 2, argv + 2);
     }
     if (!read_options(&options, argc, argv)) {
-        fputs("usage: server [--address=A] [--port=N] [--backdate=SECONDS] [--step=SECONDS] [--rate=N] [--chain=WORDS]\n"
+        fputs("usage: server [--address=A] [--port=N] [--backdate=SECONDS] [--step=SECONDS] [--rate=N] [--chain=WORDS] [--auto]\n"
               "              FOLDER [MASTER-FILE]\n"
               "       server --ctl FOLDER COMMAND..\n", stderr);
         return EXIT_FAILURE;
@@ -412,6 +421,7 @@ int main(int argc, char **argv) {
     signal(SIGINT, on_signal);
     signal(SIGPIPE, SIG_IGN);
     signal(SIGXFSZ, SIG_IGN);
+    server->is_auto = options.is_auto;
     open_folder(&server->served, &options);
     server->polled[0] = (struct pollfd){.fd = bound(SOCK_DGRAM, options.address, options.port), .events = POLLIN};
     server->polled[1] = (struct pollfd){.fd = bound(SOCK_STREAM, options.address, options.port), .events = POLLIN};
