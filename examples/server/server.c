@@ -429,6 +429,8 @@ int main(int argc, char **argv) {
     for (size_t i = 0; i < CONNECTIONS; i++) {
         server->polled[FIRST + i].fd = -1;
     }
+    printf("it answers on %s, port %s\n", options.address, options.port);
+    fflush(stdout);
     serve(server);
     close_all(server);
     return EXIT_SUCCESS;
