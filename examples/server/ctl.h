@@ -31,9 +31,23 @@ static void say_status(struct served *served, FILE *said) {
         }
         fprintf(said, "%s%.*s\n", due.len > 0 ? "; " : "", (int)due.len, names);
     }
-    fprintf(said, "journal: %zu octets; signatures: %" PRIu64 " made, %" PRIu64 " found again; over the rate: %" PRIu64 " told to use TCP, %"
-            PRIu64 " dropped\n", served->journal.len, served->cache.made, served->cache.found, served->limits.said_tcp,
-            served->limits.dropped);
+    fprintf(said, "journal: %zu octets; signatures: %" PRIu64 " made, %" PRIu64 " found again; over the rate: %" PRIu64
+            " told to use TCP, %" PRIu64 " dropped\n", served->journal.len, served->cache.made, served->cache.found,
+            served->limits.said_tcp, served->limits.dropped);
+}
+
+/* Makes the waits that are over. */
+static void end_waits(struct served *served) {
+    for (uint32_t roll = ZERMUITA_KSK_ROLL; roll <= ZERMUITA_ALGORITHM_ROLL; roll++) {
+        char names[TEXT_ROOM], words[64];
+        struct zermuita_due due = {.size = sizeof due};
+        uint32_t reply = zermuita_zone_due(&served->zone, roll, (uint8_t *)names, sizeof names, &due);
+        bool is_wait = due.phase == ZERMUITA_EXPIRY_1 || due.phase == ZERMUITA_EXPIRY_2;
+        if (reply == ZERMUITA_ZONE_DONE && is_wait && due.from <= line_moment(served)) {
+            snprintf(words, sizeof words, "%s %s", phases[due.phase], rolls[roll]);
+            accept_line(served, words, stderr);
+        }
+    }
 }
 
 /* Says the records of a set, as master files have them. */

@@ -8,6 +8,7 @@
 #include <stdint.h>
 #include <stdio.h>
 #include <stdlib.h>
+#include <sys/file.h>
 #include <sys/stat.h>
 #include <unistd.h>
 
@@ -34,6 +35,12 @@ static bool keep_names(const char *folder) {
     bool is_kept = fd >= 0 && fsync(fd) == 0;
     close(fd);
     return is_kept;
+}
+
+/* Takes a folder for this process, until it ends: two servers would write one journal. */
+static bool take_folder(const char *folder) {
+    int fd = open(folder, O_RDONLY | O_DIRECTORY | O_CLOEXEC);
+    return fd >= 0 && flock(fd, LOCK_EX | LOCK_NB) == 0;
 }
 
 /* Opens a journal. `len` is 0 where there is none. */

@@ -36,12 +36,18 @@ static bool begin_limits(struct limits *limits, uint32_t rate) {
     return limits->networks != NULL && getrandom(&limits->salt, sizeof limits->salt, 0) == (ssize_t)sizeof limits->salt;
 }
 
-/* The number of an address's network. */
+/* The number of an address's network. An IPv4 address may stand in an IPv6 one (RFC 4291, 2.5.5.2). */
 static uint64_t network_of(const struct sockaddr_storage *from) {
-    uint64_t name = from->ss_family == AF_INET6;
-    const uint8_t *octets = name == 1 ? ((const struct sockaddr_in6 *)from)->sin6_addr.s6_addr
-                                      : (const uint8_t *)&((const struct sockaddr_in *)from)->sin_addr;
-    for (size_t i = 0, len = name == 1 ? 7 : 3; i < len; i++) {
+    const uint8_t *octets = (const uint8_t *)&((const struct sockaddr_in *)from)->sin_addr;
+    size_t len = 3;
+    if (from->ss_family == AF_INET6) {
+        const struct in6_addr *address = &((const struct sockaddr_in6 *)from)->sin6_addr;
+        bool is_mapped = IN6_IS_ADDR_V4MAPPED(address);
+        octets = address->s6_addr + (is_mapped ? 12 : 0);
+        len = is_mapped ? 3 : 7;
+    }
+    uint64_t name = len;
+    for (size_t i = 0; i < len; i++) {
         name = name << 8 | octets[i];
     }
     return name;

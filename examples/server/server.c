@@ -2,7 +2,8 @@
  * A name server of one zone, whose keys are PEM files: it answers by UDP and TCP, signs by OpenSSL as it answers, and its keys roll as
  * a socket says. docs/use/SERVER.md is about it.
  *
- * usage: server [--address=A] [--port=N] [--backdate=SECONDS] [--step=SECONDS] [--rate=N] [--chain=WORDS] FOLDER [MASTER-FILE]
+ * usage: server [--address=A] [--port=N] [--backdate=SECONDS] [--step=SECONDS] [--rate=N] [--chain=WORDS] [--auto]
+ *               FOLDER [MASTER-FILE]
  *        server --ctl FOLDER COMMAND..
  *
  * FOLDER has keys/NAME.pem, and gets the journal and the socket. A journal that is new begins with the records of MASTER-FILE.
@@ -19,7 +20,7 @@
 #include <sys/un.h>
 #include "ctl.h"
 
-enum { CONNECTIONS = 64, OF_NETWORK = 16, QUERY_SECONDS = 10, DATAGRAMS = 64, FIRST = 3 };
+enum { CONNECTIONS = 64, OF_NETWORK = 16, SEND_ROOM = 1 << 16, QUERY_SECONDS = 10, DATAGRAMS = 64, FIRST = 3 };
 
 /* A TCP connection: octets of a query behind its length, then those of its response. */
 struct connection {
@@ -33,7 +34,7 @@ struct server {
     struct served served;
     struct connection *connections[CONNECTIONS];
     struct pollfd polled[FIRST + CONNECTIONS]; /* datagrams, the listener, commands, connections */
-    bool is_stopping;
+    bool is_auto, is_stopping;
 };
 
 static volatile sig_atomic_t is_told_to_stop;
@@ -55,8 +56,9 @@ static int bound(int type, const char *address, const char *port) {
         exit(EXIT_FAILURE);
     }
     int fd = socket(at->ai_family, type | SOCK_NONBLOCK | SOCK_CLOEXEC, 0), yes = 1;
-    if (fd < 0 || setsockopt(fd, SOL_SOCKET, SO_REUSEADDR, &yes, sizeof yes) != 0 || bind(fd, at->ai_addr, at->ai_addrlen) != 0
-        || (type == SOCK_STREAM && listen(fd, 64) != 0)) {
+    bool is_stream = type == SOCK_STREAM;
+    if (fd < 0 || (is_stream && setsockopt(fd, SOL_SOCKET, SO_REUSEADDR, &yes, sizeof yes) != 0)
+        || bind(fd, at->ai_addr, at->ai_addrlen) != 0 || (is_stream && listen(fd, 64) != 0)) {
         fail(address);
     }
     freeaddrinfo(at);
@@ -119,6 +121,7 @@ static void accept_connection(struct server *server) {
     socklen_t from_len = sizeof from;
     int fd = accept4(server->polled[1].fd, (struct sockaddr *)&from, &from_len, SOCK_NONBLOCK | SOCK_CLOEXEC);
     size_t place = CONNECTIONS, same = 0;
+    int room = SEND_ROOM;
     if (fd < 0) {
         return;
     }
@@ -128,7 +131,8 @@ static void accept_connection(struct server *server) {
         same += connection != NULL && connection->network == network_of(&from);
     }
     struct connection *made = place < CONNECTIONS && same < OF_NETWORK ? calloc(1, sizeof *made) : NULL;
-    if (made == NULL) {
+    if (made == NULL || setsockopt(fd, SOL_SOCKET, SO_SNDBUF, &room, sizeof room) != 0) {
+        free(made);
         close(fd);
         return;
     }
@@ -253,9 +257,14 @@ static void answer_command(struct server *server) {
 }
 
 static void serve(struct server *server) {
+    time_t looked = 0;
     while (!server->is_stopping && !is_told_to_stop) {
         if (poll(server->polled, FIRST + CONNECTIONS, 1000) < 0) {
             continue;
+        }
+        if (server->is_auto && looked != time(NULL)) {
+            looked = time(NULL);
+            end_waits(&server->served);
         }
         if (server->polled[0].revents != 0) {
             answer_datagrams(server);
@@ -329,6 +338,7 @@ static void read_keys(struct keys *keys) {
 struct options {
     const char *address, *port, *chain, *folder, *file;
     unsigned long backdate, step, rate;
+    bool is_auto;
 };
 
 /* What an option says, if the word is this one. */
@@ -345,9 +355,11 @@ static bool read_options(struct options *options, int argc, char **argv) {
     *options = (struct options){.address = "127.0.0.1", .port = "5353", .chain = "nsec 0 604800"};
     for (; at < argc && argv[at][0] == '-'; at++) {
         const char *word = argv[at];
-        if (!is_option(word, "--address=", &options->address) && !is_option(word, "--port=", &options->port)
-            && !is_option(word, "--chain=", &options->chain) && !is_option(word, "--backdate=", &backdate)
-            && !is_option(word, "--step=", &step) && !is_option(word, "--rate=", &rate)) {
+        if (strcmp(word, "--auto") == 0) {
+            options->is_auto = true;
+        } else if (!is_option(word, "--address=", &options->address) && !is_option(word, "--port=", &options->port)
+                   && !is_option(word, "--chain=", &options->chain) && !is_option(word, "--backdate=", &backdate)
+                   && !is_option(word, "--step=", &step) && !is_option(word, "--rate=", &rate)) {
             return false;
         }
     }
@@ -363,6 +375,9 @@ static void open_folder(struct served *served, const struct options *options) {
     int path = snprintf(served->path, sizeof served->path, "%s/journal", options->folder);
     if (folder < 0 || (size_t)folder >= sizeof served->key_folder || path < 0 || (size_t)path >= sizeof served->path) {
         errno = ENAMETOOLONG;
+        fail(options->folder);
+    }
+    if (!take_folder(options->folder)) {
         fail(options->folder);
     }
     served->folder = options->folder;
@@ -393,7 +408,7 @@ int main(int argc, char **argv) {
         return send_command(argc - 2, argv + 2);
     }
     if (!read_options(&options, argc, argv)) {
-        fputs("usage: server [--address=A] [--port=N] [--backdate=SECONDS] [--step=SECONDS] [--rate=N] [--chain=WORDS]\n"
+        fputs("usage: server [--address=A] [--port=N] [--backdate=SECONDS] [--step=SECONDS] [--rate=N] [--chain=WORDS] [--auto]\n"
               "              FOLDER [MASTER-FILE]\n"
               "       server --ctl FOLDER COMMAND..\n", stderr);
         return EXIT_FAILURE;
@@ -406,6 +421,7 @@ int main(int argc, char **argv) {
     signal(SIGINT, on_signal);
     signal(SIGPIPE, SIG_IGN);
     signal(SIGXFSZ, SIG_IGN);
+    server->is_auto = options.is_auto;
     open_folder(&server->served, &options);
     server->polled[0] = (struct pollfd){.fd = bound(SOCK_DGRAM, options.address, options.port), .events = POLLIN};
     server->polled[1] = (struct pollfd){.fd = bound(SOCK_STREAM, options.address, options.port), .events = POLLIN};
@@ -413,6 +429,8 @@ int main(int argc, char **argv) {
     for (size_t i = 0; i < CONNECTIONS; i++) {
         server->polled[FIRST + i].fd = -1;
     }
+    printf("it answers on %s, port %s\n", options.address, options.port);
+    fflush(stdout);
     serve(server);
     close_all(server);
     return EXIT_SUCCESS;

@@ -1,3 +1,4 @@
+pub mod Calls
 pub mod Flags
 pub mod HeldValues
 pub mod Values
