@@ -44,10 +44,7 @@ pub(crate) fn read_messages<'a>(
 }
 
 /// Reads a message that is handed in.
-fn read_message<'a>(
-    alloc: Global,
-    sent: &SentMessage<'a>,
-) -> Result<ReadMessage<'a>, ReplyCode>
+fn read_message<'a>(alloc: Global, sent: &SentMessage<'a>) -> Result<ReadMessage<'a>, ReplyCode>
     ensures ok { IfOk result (λ m. IsRead sent.now (message_of m)) }
     ensures unread { IfErr result (λ c. (c ≡ ReplyCode.OutOfMemory) ⊎ IsUnread sent.now c) }
 {

@@ -151,12 +151,7 @@ fn walked(
         aliases: or_else(handed_in.max_aliases, MOST_ALIASES),
     };
     let walk = resolve(alloc, &evidence, &read.question, limits)?;
-    reply_of_walk(
-        alloc,
-        handed_in.max_signatures,
-        read.table.len(),
-        &walk,
-    )
+    reply_of_walk(alloc, handed_in.max_signatures, read.table.len(), &walk)
 }
 
 /// A number, or another in the place of 0.

@@ -135,7 +135,10 @@ fn put_end(alloc: Global, ending: &Ending, octets: &mut Vec<u8>) -> Result<(), A
             name.compose(octets)
         }
         Ending::Untold {
-            zone, name, rtype, ..
+            zone,
+            name,
+            rtype,
+            ..
         } => put_question(zone, name, *rtype, octets),
         Ending::Leads(Lead::TooLong) | Ending::Asks(_) | Ending::Wants(_) => Ok(()),
         Ending::TooManyCuts | Ending::TooManyAliases | Ending::Outside => Ok(()),

@@ -106,7 +106,13 @@ impl Handed {
     }
 
     /// The reply to it, a part without its last octet.
-    fn reply(&self, alloc: Global, walker: &Walker, rtype: u16, cut: Option<Part>) -> Option<Replied> {
+    fn reply(
+        &self,
+        alloc: Global,
+        walker: &Walker,
+        rtype: u16,
+        cut: Option<Part>,
+    ) -> Option<Replied> {
         let evidence = OctetEvidence {
             size: size_of::<OctetEvidence>(),
             anchor: cut_at(&self.anchor, cut == Some(Part::Anchor)),

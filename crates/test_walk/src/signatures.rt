@@ -58,8 +58,17 @@ impl Signatures {
     }
 
     /// Whether a signature of octets passes under a key of these data.
-    pub fn passes(&self, alloc: Global, key: &[u8], octets: &[u8], signature: &[u8]) -> Option<bool> {
-        Some(self.passing.contains(&entry_of(alloc, key, octets, signature)?))
+    pub fn passes(
+        &self,
+        alloc: Global,
+        key: &[u8],
+        octets: &[u8],
+        signature: &[u8],
+    ) -> Option<bool> {
+        Some(
+            self.passing
+                .contains(&entry_of(alloc, key, octets, signature)?),
+        )
     }
 
     /// A signature that was asked for, and whether it passes.

@@ -1,6 +1,6 @@
-//! The library for C and for all that calls C: a judgement and a walk from octets to octets, and what
-//! their replies say in words. `include/zermuita.h` declares it, and has the calls over it that C
-//! programs make.
+//! The library for C and for all that calls C: a judgement and a walk from octets to octets, and
+//! what their replies say in words. `include/zermuita.h` declares it, and has the calls over it
+//! that C programs make.
 #![tactic(auto)]
 
 mod texts;
