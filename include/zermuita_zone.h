@@ -5,9 +5,9 @@
  * The library signs nothing. It names the signatures that an answer lacks, and its caller makes them, by OpenSSL, a hardware module
  * or a key server. It opens no file, reads no clock and calls nothing back but malloc, realloc and free.
  *
- * A zone is one thread's at a time. Any number of zones may be open, also of one journal: the lines of a journal determine what its
- * zone answers. No pointer is null, also where its length is 0, but for those within struct zermuita_request. What the library reads
- * does not overlap what it writes.
+ * A zone stays with the thread that opened it. Any number of zones may be open, also of one journal: the lines of a journal determine
+ * what its zone answers. No pointer is null, also where its length is 0, but for those within struct zermuita_request. What the
+ * library reads does not overlap what it writes.
  */
 #ifndef ZERMUITA_ZONE_H
 #define ZERMUITA_ZONE_H

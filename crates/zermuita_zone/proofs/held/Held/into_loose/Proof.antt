@@ -20,16 +20,15 @@ use denote.Signature.{types_at, plain}
 use denote.Steps.{nothing, heard}
 use denote.Triple.Entry.{alive}
 use denote.Triple.Walked.{Stays, stay_dropped, walk_of}
-use Rattle.libc.specs.Heap.{chunk}
 use Rattle.core.proofs.alloc.Calls.{Al, Goes-blank, handle_tells}
-use Rattle.std.specs.contracts.alloc.Global as heap
-use Rattle.std.proofs.alloc.Global.TheLaws as heap_laws
+use Rattle.std.specs.contracts.alloc.Global as global
+use Rattle.std.proofs.alloc.Global.TheLaws as global_laws
 use Rattle.std.specs.contracts.impls.GlobalAllocator.TheImpl.{ghosts}
 use Rattle.std_alloc.specs.Box.Ownership.{box_owns}
 use Rattle.std.proofs.raw_atomic.Walks.{proved_at, leaves}
 use Rattle.zermuita_zone.specs.declared.opened.OpenZone.{OpenZone}
 use Rattle.zermuita_zone.specs.contracts.opened.OpenZone.{the_row}
-use Rattle.zermuita_zone.specs.Holding.{holds}
+use Rattle.zermuita_zone.specs.Holding.{heap, holds}
 use Rattle.zermuita_zone.proofs.Values.{both, loose_good, loose_in}
 use Rattle.zermuita_zone.proofs.HeldValues.{Held, word, held_out}
 use Rattle.zermuita_zone.specs.contracts.held.Held.into_loose.{ended, clauses}
@@ -38,12 +37,12 @@ use Rattle.zermuita_zone.proofs.held.Held.into_loose.Statement.{statement}
 use Rattle.zermuita_zone.proofs.held.Held.into_loose.Code as code
 
 abbrev al : Al
-al = record { row = heap.the_row; laws = heap_laws.the_row_laws; g = ghosts; d = impl [] tnil dnil; drops = impl [] tnil dnil }
+al = record { row = global.the_row; laws = global_laws.the_row_laws; g = ghosts; d = impl [] tnil dnil; drops = impl [] tnil dnil }
 
 pub into_loose_spec : {M : Type 1} → statement M
 into_loose_spec 𝓤 𝓛 𝓜 𝓡 wired =
     let H = 𝓛.H in let 𝓣 = tables 𝓤 H 𝓜 𝓡 𝓡.env in let c = clauses 𝓛 𝓜.mem 𝓡.returns in
-    let Z : RattleType = heap.the_row in let LZ = heap_laws.the_row_laws in
+    let Z : RattleType = global.the_row in let LZ = global_laws.the_row_laws in
     let hs : Stays ended.signature.params ended.kept = (stay_dropped (plain (λ _. Held)) ended.kept.0, (stay_dropped (plain (λ _. Z)) ended.kept.1.0, tt)) in
     proved_at 𝓛 ended hs c 𝓜 𝓡 (Goes-blank 𝓛 0 (plain (λ _. Held)) ended.kept.0 (λ κs x f. tt), (Goes-blank 𝓛 0 (plain (λ _. Z)) ended.kept.1.0 (λ κs x f. tt), tt)) #self code.function (code.unfolded 𝓤 H 𝓜 𝓡 wired) (λ z are.
     let κs = z.0.0 in let v = z.0.3.0 in let a = z.0.3.1.0 in let Post : Val → SProp 𝓤 = (walk_of 𝓛 ended hs c).post z in
@@ -54,7 +53,7 @@ into_loose_spec 𝓤 𝓛 𝓜 𝓡 wired =
     handle_tells al ! a z.0.4.1.0 (λ h ea fits. move ! (2 ∷ []) $ held_out ! v z.0.4.0 (λ ws.
     -- [true; the memory; the handle; true; the tokens]
     move ! (1 ∷ []) $ rewrite ! 0 (λ (held : Option OpenZone). ‵ (holds v.at held)) there.1 refl $
-    in_a_block ! v.at (λ p. box_owns chunk the_row p x) (fst∗ 𝓤 (never 𝓤) (sem 𝓛 (chunk (bare (lone the_row.mir)) null_ptr))) (λ b o e.
+    in_a_block ! v.at (λ p. box_owns (ghosts.dealloc_token heap) the_row p x) (fst∗ 𝓤 (never 𝓤) (sem 𝓛 (ghosts.dealloc_token heap (bare (lone the_row.mir)) null_ptr))) (λ b o e.
     let us : List Val = word (block_ptr b o) ∷ h ∷ [] in
     let is : z.0.4.0 ≡ word (block_ptr b o) ∷ [] = ws ∙ ap (λ (p : Ptr). word p ∷ []) e in
     suffices ! (Run us) (subst (λ (vs : List Val). ent 𝓤 (Run us) (Run vs)) (sym (λ i. is i ++ (ea i ++ []))) (id⊢ 𝓤 (Run us))) $
