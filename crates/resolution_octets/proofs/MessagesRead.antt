@@ -31,13 +31,16 @@ read_more sent i s read m more inside at are is pushed =
 pub one_unread : (sent : List Sent) (i : ℕ) (s : Sent) → i < length sent → s ≡ get_or sent i s → (code : ReplyCode) → IsUnread s code → SomeUnread sent code
 one_unread sent i s inside at code unread = record { sent = s; there = (i, inside, sym at); unread = unread }
 
+-- a message as a walk is handed it, of these octets
+abbrev message_with : ReadMessage → List ℕ → Message
+message_with m octets = record { zone = m.zone; asked = asked_of m.question; octets = octets }
+
 -- messages as a walk is handed them, one more
 pub handed_more : (read : List ReadMessage) (i : ℕ) (m : ReadMessage) (octets : List ℕ) (before after : List Message) → i < length read → m ≡ get_or read i m → octets ≡ cow_slice_items m.octets
-    → before ≡ map message_of (take i read) → after ≡ before ++ record { zone = m.zone; asked = asked_of m.question; octets = octets } ∷ [] → after ≡ map message_of (take (i + 1) read)
+    → before ≡ map message_of (take i read) → after ≡ before ++ message_with m octets ∷ [] → after ≡ map message_of (take (i + 1) read)
 handed_more read i m octets before after inside at are so pushed =
     let whole : map message_of (take (i + 1) read) ≡ map message_of (take i read) ++ message_of m ∷ [] = ap (map message_of) (take_next read i m inside at) ∙ map-append message_of (take i read) (m ∷ []) in
-    let one : Message = message_of m in
-    pushed ∙ ap (λ (o : List ℕ). before ++ record one { octets = o } ∷ []) are ∙ ap (λ (l : List Message). l ++ one ∷ []) so ∙ sym whole
+    pushed ∙ ap (λ (o : List ℕ). before ++ message_with m o ∷ []) are ∙ ap (λ (l : List Message). l ++ message_of m ∷ []) so ∙ sym whole
 
 -- which octets of evidence spell nothing, by the message that is refused
 pub some_unread : (case : OctetEvidence) (sent : List Sent) → IsList FitsSent sent_octets case.messages.now sent → (code : ReplyCode) → SomeUnread sent code → Unread case code
