@@ -1,23 +1,17 @@
 -- What a walk over evidence that was read says.
-use Rattle.std.proofs.Common.{◌≡◌, ℕ, List, length, map, Result, Ok, Err, IfOk, subst}
+use Rattle.std.proofs.Common.{◌≡◌, ℕ, length, Result, Ok, Err, IfOk, subst}
 use Rattle.std.specs.declared.alloc.AllocError.{AllocError}
 use Rattle.answer_judge_octets.specs.Replying.{reply_seen}
 use Rattle.answer_judge_octets.specs.declared.reply.Reply.{Reply}
-use Rattle.resolution_evidence.specs.Given.{Message}
 use Rattle.resolution_walk.specs.declared.ending.Walk.{Walk}
-use Rattle.resolution_octets.specs.ReadEvidence.{asked_in, given_of, given_with}
-use Rattle.resolution_octets.specs.ReadMessages.{message_of}
+use Rattle.resolution_octets.specs.ReadEvidence.{asked_in, given_of}
 use Rattle.resolution_octets.specs.Replying.{IsWalk, Says}
 use Rattle.resolution_octets.specs.Saying.{IsSaid}
 use Rattle.resolution_octets.specs.declared.octets.OctetEvidence.{OctetEvidence}
 use Rattle.resolution_octets.specs.declared.octets.ReadEvidence.{ReadEvidence}
 
-pub says_in : (case : OctetEvidence) (r : ReadEvidence) (ms : List Message) (checked : ℕ) (w : Walk) (said : Result Reply AllocError)
-    → ms ≡ map message_of r.messages.items → checked ≡ length r.table.items → IsWalk (given_with case r ms) (asked_in r) w
+pub says_in : (case : OctetEvidence) (r : ReadEvidence) (checked : ℕ) (w : Walk) (said : Result Reply AllocError)
+    → checked ≡ length r.table.items → IsWalk (given_of case r) (asked_in r) w
     → IfOk said (λ x. IsSaid case.max_signatures checked w (reply_seen x)) → IfOk said (λ x. Says case (given_of case r) (asked_in r) (reply_seen x))
-says_in case r ms checked w (Ok x) is count walk replied = record {
-  walk = w;
-  is_walk = subst (λ (l : List Message). IsWalk (given_with case r l) (asked_in r) w) is walk;
-  is_said = subst (λ (n : ℕ). IsSaid case.max_signatures n w (reply_seen x)) count replied;
-}
-says_in case r ms checked w (Err e) is count walk replied = tt
+says_in case r checked w (Ok x) count walk replied = record { walk = w; is_walk = walk; is_said = subst (λ (n : ℕ). IsSaid case.max_signatures n w (reply_seen x)) count replied }
+says_in case r checked w (Err e) count walk replied = tt

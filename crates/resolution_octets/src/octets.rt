@@ -172,11 +172,11 @@ fn read_evidence<'a>(
     let anchor = read_name(alloc, evidence.anchor, ReplyCode::BadApex)?;
     let ds = read_ds(alloc, evidence)?;
     let name = read_name(alloc, evidence.name, ReplyCode::BadName)?;
-    let Some(table) = read_list(alloc, evidence.checked)? else {
-        return Err(ReplyCode::BadSignatures);
-    };
     let Some(sent) = read_list(alloc, evidence.messages)? else {
         return Err(ReplyCode::BadMessages);
+    };
+    let Some(table) = read_list(alloc, evidence.checked)? else {
+        return Err(ReplyCode::BadSignatures);
     };
     let messages = read_messages(alloc, &sent)?;
     Ok(ReadEvidence {

@@ -1,11 +1,20 @@
-use Rattle.std.proofs.Common.{◌≡◌, length, map, rules}
-use Rattle.resolution_octets.specs.ReadMessages.{message_of}
+use Rattle.std.proofs.Common.{◌≡◌, [], length, rules}
+use Rattle.resolution_walk.specs.Ended.{IsWalked}
+use Rattle.resolution_walk.specs.Truth.{WalksTruly}
+use Rattle.resolution_walk.specs.Wanted.{WalkWants}
+use Rattle.resolution_octets.specs.ReadEvidence.{asked_in, given_of}
 use Rattle.resolution_octets.proofs.Walked.{says_in}
 use Rattle.resolution_octets.proofs.octets.walked.Goals as goal
 
 pub returns : goal.returns
 returns c =
+    let case = c.args.handed_in.now in
     let read = c.args.read.now in
-    says_in c.args.handed_in.now read c.in_ok-messages.messages.items _ c.in_ok-walk.walk c.reply_of_walk.result c.in_ok-messages.ensures (search rules)
-    (record { walked = c.in_ok-walk.ensures.walked; wants = c.in_ok-walk.ensures.wants; honest = c.in_ok-walk.ensures.honest })
-    c.reply_of_walk.ensures
+    let e = given_of case read in
+    let asked = asked_in read in
+    let walk = c.in_ok-walk.walk in
+    let walked : IsWalked e asked [] walk = search rules in
+    let wants : WalkWants e asked [] walk = search rules in
+    let honest : WalksTruly e asked walk = search rules in
+    let count : c.len.result ≡ length read.table.items = search rules in
+    says_in case read c.len.result walk c.reply_of_walk.result count (record { walked = walked; wants = wants; honest = honest }) c.reply_of_walk.ensures
