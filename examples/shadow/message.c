@@ -110,13 +110,16 @@ bool is_signed_by(const struct message *message, const struct name *signer) {
 }
 
 /*
- * Whether a signature says something of a name: it is over records of the name in the answer section, over a DNAME record above
- * it, or over records of the authority section. NSEC and NSEC3 records there say something of the name where the answer section
- * has nothing of it; else they stand beside a wildcard of another name (RFC 4035, 3.1.3.3).
+ * Whether a signature says something of a name: it is over records of the name in the answer section,
+ * over a DNAME record above it, or over records of the authority section. NSEC and NSEC3 records there
+ * say something of the name where the answer section has nothing of it; else they stand beside a
+ * wildcard of another name (RFC 4035, 3.1.3.3).
  */
-static bool is_of_name(const struct record *record, uint16_t covered, const struct name *name, bool is_denied) {
+static bool is_of_name(const struct record *record, uint16_t covered, const struct name *name,
+                       bool is_denied) {
     if (record->section == ANSWER) {
-        return names_equal(&record->owner, name) || (covered == TYPE_DNAME && is_at_or_below(name, &record->owner));
+        bool is_dname = covered == TYPE_DNAME && is_at_or_below(name, &record->owner);
+        return is_dname || names_equal(&record->owner, name);
     }
     return is_denied || (covered != TYPE_NSEC && covered != TYPE_NSEC3);
 }
@@ -138,11 +141,13 @@ bool find_signer(const struct message *message, const struct name *name, struct 
     struct name denying = {0};
     bool is_found = false, is_denied = has_none_of(message, name);
     for (struct walk walk = walk_of(message); next_record(&walk, &record) && record.section != ADDITIONAL;) {
-        if (record.rtype == TYPE_SOA && record.section == AUTHORITY && is_at_or_below(name, &record.owner)) {
+        bool is_soa = record.rtype == TYPE_SOA && record.section == AUTHORITY;
+        if (is_soa && is_at_or_below(name, &record.owner)) {
             denying = record.owner;
         }
         if (read_signature(message, &record, &signature) && is_at_or_below(name, &signature.signer)
-            && is_of_name(&record, signature.covered, name, is_denied) && (!is_found || signature.signer.len > signer->len)) {
+            && is_of_name(&record, signature.covered, name, is_denied)
+            && (!is_found || signature.signer.len > signer->len)) {
             is_found = true;
             *signer = signature.signer;
         }

@@ -72,8 +72,9 @@ bool read_signature(const struct message *message, const struct record *record, 
 /* Whether a message has a signature, outside of the additional section, by a signer; by any where that is null. */
 bool is_signed_by(const struct message *message, const struct name *signer);
 /*
- * The zone that signed what a message has of a name: the signer furthest down. What is signed of the aliases that led to the name
- * says nothing of it. Gives false where there is none, or where a SOA record says that an unsigned zone further down answered.
+ * The zone that signed what a message has of a name: the signer furthest down. What is signed of the
+ * aliases that led to the name says nothing of it. Gives false where there is none, or where a SOA
+ * record says that an unsigned zone further down answered.
  */
 bool find_signer(const struct message *message, const struct name *name, struct name *signer);
 /* How long all records of a message may be kept together, in seconds (RFC 4035, 5.3.3; RFC 2308, 5). */

@@ -341,11 +341,11 @@ static bool is_step_judged(struct shadow *shadow, struct way *way, struct place 
 }
 
 /*
- * Beside aliases alone a client may get the denial of what the last one leads to, which the resolver has judged, too (PowerDNS
- * Recursor, to questions for DS). Where that is by opt-out the answer is insecure, and has no AD (RFC 5155, 9.2).
+ * Beside aliases alone a client may get the denial of what the last one leads to, as of PowerDNS
+ * Recursor to questions for DS. Where that is by opt-out the answer is insecure (RFC 5155, 9.2).
  */
-static void judge_denial(struct shadow *shadow, const struct message *client, struct place *place, struct trial *trial,
-                         struct verdict *verdict) {
+static void judge_denial(struct shadow *shadow, const struct message *client, struct place *place,
+                         struct trial *trial, struct verdict *verdict) {
     static uint8_t room[MESSAGE_ROOM];
     static const struct name no_zone;
     struct trial further = *trial;
@@ -354,15 +354,17 @@ static void judge_denial(struct shadow *shadow, const struct message *client, st
     struct verdict found;
     enum reason reason;
     further.qname = verdict->target;
-    size_t len = has_opt_out(client) ? write_answer_for(client, &further.qname, room, sizeof room) : 0;
-    chain_descend(shadow->chain, &further.qname, further.qtype, further.now, &behind);
+    size_t len = write_answer_for(client, &further.qname, room, sizeof room);
     further.answer = (struct octets){room, len};
-    if (len == 0 || behind.standing != SIGNED || !read_message(further.answer, &answer)) {
+    if (!has_opt_out(client) || !read_message(further.answer, &answer)) {
         return;
     }
+    chain_descend(shadow->chain, &further.qname, further.qtype, further.now, &behind);
     further.apex = behind.apex;
     further.ds = (struct octets){behind.ds, behind.ds_len};
-    if (is_judged(shadow, &behind, &answer, &no_zone, &further, &found, &reason) && found.finding == FOUND_OPTOUT) {
+    if (behind.standing == SIGNED
+        && is_judged(shadow, &behind, &answer, &no_zone, &further, &found, &reason)
+        && found.finding == FOUND_OPTOUT) {
         *place = behind;
         *trial = further;
         trial->ds.data = place->ds;
