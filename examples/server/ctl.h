@@ -27,7 +27,9 @@ static void say_status(struct served *served, FILE *said) {
             fprintf(said, " from %" PRIu64 " on, %s", due.from, due.from <= line_moment(served) ? "now" : "not yet");
         }
         for (size_t i = 0; i < due.len; i++) {
-            names[i] = names[i] == '\n' ? ' ' : names[i];
+            if (names[i] == '\n') {
+                names[i] = ' ';
+            }
         }
         fprintf(said, "%s%.*s\n", due.len > 0 ? "; " : "", (int)due.len, names);
     }

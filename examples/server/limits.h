@@ -38,13 +38,18 @@ static bool begin_limits(struct limits *limits, uint32_t rate) {
 
 /* The number of an address's network. An IPv4 address may stand in an IPv6 one (RFC 4291, 2.5.5.2). */
 static uint64_t network_of(const struct sockaddr_storage *from) {
-    const uint8_t *octets = (const uint8_t *)&((const struct sockaddr_in *)from)->sin_addr;
+    uint8_t octets[8] = {0};
     size_t len = 3;
     if (from->ss_family == AF_INET6) {
-        const struct in6_addr *address = &((const struct sockaddr_in6 *)from)->sin6_addr;
-        bool is_mapped = IN6_IS_ADDR_V4MAPPED(address);
-        octets = address->s6_addr + (is_mapped ? 12 : 0);
+        struct sockaddr_in6 at;
+        memcpy(&at, from, sizeof at);
+        bool is_mapped = IN6_IS_ADDR_V4MAPPED(&at.sin6_addr);
+        memcpy(octets, at.sin6_addr.s6_addr + (is_mapped ? 12 : 0), is_mapped ? 4 : 8);
         len = is_mapped ? 3 : 7;
+    } else {
+        struct sockaddr_in at;
+        memcpy(&at, from, sizeof at);
+        memcpy(octets, &at.sin_addr, 4);
     }
     uint64_t name = len;
     for (size_t i = 0; i < len; i++) {

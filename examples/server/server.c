@@ -20,7 +20,7 @@
 #include <sys/un.h>
 #include "ctl.h"
 
-enum { CONNECTIONS = 64, OF_NETWORK = 16, SEND_ROOM = 1 << 16, QUERY_SECONDS = 10, DATAGRAMS = 64, FIRST = 3 };
+enum { CONNECTIONS = 64, OF_NETWORK = 16, SEND_ROOM = 1 << 16, QUERY_SECONDS = 10, DATAGRAMS = 64, FIRST = 3, DAY = 86400 };
 
 /* A TCP connection: octets of a query behind its length, then those of its response. */
 struct connection {
@@ -366,7 +366,8 @@ static bool read_options(struct options *options, int argc, char **argv) {
     options->folder = at < argc ? argv[at] : NULL;
     options->file = at + 1 < argc ? argv[at + 1] : NULL;
     return options->folder != NULL && at + 2 >= argc && read_number(backdate, 4, &options->backdate)
-        && read_number(step, 4, &options->step) && read_number(rate, 4, &options->rate) && options->step > 0;
+        && read_number(step, 4, &options->step) && read_number(rate, 4, &options->rate) && options->step > 0
+        && options->step <= DAY && options->backdate <= DAY;
 }
 
 /* Opens the zone of a folder, whose journal begins with a master file if it is new. */
