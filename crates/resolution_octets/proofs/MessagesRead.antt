@@ -1,7 +1,6 @@
 -- Messages that are read one after another.
 use Rattle.std.proofs.Common.{◌≡◌, ℕ, ◌+◌, ◌<◌, List, [], ◌∷◌, ◌++◌, length, map, take, get_or, sym, ap, ◌∙◌, subst₂, inr}
 use Rattle.std.specs.Cow.{cow_slice_items}
-use Rattle.std.specs.Prelude.{Contains}
 use Rattle.std.proofs.lemmas.List.{map-append}
 use Rattle.messages.proofs.Lists.{take_next}
 use Rattle.messages.specs.Questions.{asked_of}

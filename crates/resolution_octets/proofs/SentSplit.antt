@@ -1,9 +1,9 @@
 -- Messages in front of octets.
-use Rattle.std.proofs.Common.{◌≡◌, ℕ, ◌<◌, List, ◌++◌, take, drop, length, get_or, Some, None, sym, ap, ◌∙◌}
+use Rattle.std.proofs.Common.{◌≡◌, ℕ, ◌<◌, List, ◌++◌, Some, None, sym, ap, ◌∙◌}
 use Rattle.std.specs.Int.{w16, to_be_bytes, from_be_bytes}
 use Rattle.std.proofs.lemmas.Nat.{be_bytes_2}
 use Rattle.names_rdata.specs.Composing.{with_length}
-use Rattle.answer_judge_octets.specs.EntryLaws.{once_long, once_short}
+use Rattle.answer_judge_octets.specs.EntryLaws.{once_short}
 use Rattle.answer_judge_octets.specs.Written.{IsLong, IsShort, Splits, with_long_length}
 use Rattle.answer_judge_octets.proofs.PartsSplit.{AreOctets, IsFirst, front_length, small_front, whole}
 use Rattle.resolution_octets.specs.Sent.{FitsSent, IsTwoOctets, Sent, sent_octets}
