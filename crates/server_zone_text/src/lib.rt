@@ -4,7 +4,7 @@
 ghost use Rattle.std.specs.Prelude.{◌≡◌, ◌++◌, OnOk, codes, decimal, string_bytes};
 ghost use Rattle.server_zone_text.specs.Texts.{applied_text, open_error_text, refusal_text};
 
-use denialbench_print::named::Named;
+pub use denialbench_print::named::Named;
 use denialbench_print::print::{push_actions, push_key_fault};
 use server_zone::{Applied, OpenError, Refusal};
 use std::alloc::AllocError;
@@ -57,5 +57,3 @@ fn push_name<N: Named>(out: &mut String, fault: &N) -> Result<(), AllocError>
     out.push_str("refused ")?;
     out.push_str(fault.name())
 }
-
-pub use denialbench_print::named::Named;

@@ -91,7 +91,10 @@ impl Handed {
     /// Takes entries that were asked for, their last octets set where the signatures pass.
     fn take_answered(&mut self, alloc: Global, walker: &Walker, entries: &[u8]) -> Option<()> {
         let mut rest = entries;
-        while !rest.is_empty() {
+        for _ in 0..entries.len() {
+            if rest.is_empty() {
+                break;
+            }
             let (key, behind) = split_short(rest)?;
             let (octets, behind) = split_long(behind)?;
             let (signature, behind) = split_short(behind)?;

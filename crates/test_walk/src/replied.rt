@@ -56,7 +56,10 @@ fn secure_text(alloc: Global, code: ReplyCode, octets: &[u8]) -> Option<String> 
         return format!(in alloc; "secure {zone} {code:?}").ok();
     }
     let (mut datas, mut rest) = (Vec::new(alloc), rest);
-    while !rest.is_empty() {
+    for _ in 0..octets.len() {
+        if rest.is_empty() {
+            break;
+        }
         let (datum, behind) = split_short(rest)?;
         datas.push(hex::encode(alloc, datum).ok()?).ok()?;
         rest = behind;
@@ -90,7 +93,10 @@ fn wanted_text(alloc: Global, octets: &[u8]) -> Option<String> {
 /// The messages that octets want.
 pub fn wanted_in(alloc: Global, octets: &[u8]) -> Option<Vec<Wanted>> {
     let (mut wanted, mut rest) = (Vec::new(alloc), octets);
-    while !rest.is_empty() {
+    for _ in 0..octets.len() {
+        if rest.is_empty() {
+            break;
+        }
         let (it, behind) = split_wanted(alloc, rest)?;
         wanted.push(it).ok()?;
         rest = behind;
