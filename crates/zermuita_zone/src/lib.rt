@@ -72,7 +72,6 @@ pub extern "C" fn zermuita_zone_apply(
 
 /// Drops the records that wait for their replacement.
 #[unsafe(no_mangle)]
-#[tactic(auto, using(crate::proofs::Calls::forgets))]
 pub extern "C" fn zermuita_zone_forget(alloc: Global, handle: &mut ZoneHandle) -> u32
     ensures { ForgetsIn (zone_in handle.old) (zone_in handle.new) result }
 {
