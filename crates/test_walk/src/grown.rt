@@ -24,7 +24,7 @@ pub struct Anchor {
     pub name: Name<Vec<u8>>,
     pub ds: Vec<Ds<Vec<u8>>>,
     pub moment: UnixTime,
-    /// The same in seconds.
+    /// The moment in seconds.
     pub second: u64,
 }
 
