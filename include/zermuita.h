@@ -47,7 +47,8 @@ enum zermuita_reply {
      * A verdict but ZERMUITA_INSECURE vouches for the NSEC and NSEC3 records whose signatures pass and for the DNSKEY set;
      * ZERMUITA_RECORDS and ZERMUITA_WILDCARD also for the RRset that was asked for, the replies of an alias for its CNAME or DNAME
      * record, ZERMUITA_REFERRAL for its DS set; and none for anything else: no SOA record beside a denial and no NS set of a
-     * referral is verified, nor the CNAME that servers make of a DNAME. Of an alias nothing is said but where it leads: ask for the
+     * referral is verified, nor DS records beside ZERMUITA_DELEGATED, nor the CNAME that servers make of a DNAME.
+     * A verdict is about `name` and `rtype` of its call alone. Of an alias nothing is said but where it leads: ask for the
      * target next, from the root down. It is the target of `name` alone: where that is not the client's name, as in a search for a
      * delegation above that, do not follow it.
      */
@@ -64,7 +65,7 @@ enum zermuita_reply {
     ZERMUITA_DNAME = 10,          /* a name above has a DNAME record */
     ZERMUITA_REFERRAL = 11,       /* the name is at or below a delegation with DS records */
 
-    /* Refusals: why there is no verdict. `ede` says whether the answer is bogus, and how. */
+    /* Refusals: why there is no verdict. Bogus are 21, 22 and 25; `ede` says what to tell the client. */
     ZERMUITA_QUESTION_NOT_ALLOWED = 16,   /* the name is not in the zone, the class is not IN, or the type is not judged */
     ZERMUITA_BAD_DNSKEY_MESSAGE = 17,     /* the DNSKEY answer is not a message */
     ZERMUITA_BAD_ANSWER_MESSAGE = 18,     /* the answer is not a message */
@@ -168,11 +169,11 @@ enum zermuita_delegates {
 
 /*
  * What is said beside a reply. A verdict may be kept for `ttl` seconds, and not beyond the second `until`; both are 0 with
- * ZERMUITA_INSECURE, which no record says, and without a verdict. Where a verdict rests on two judgements of the answer, as the
- * cut of ZERMUITA_DELEGATED and `delegates` do, they are the least of both.
+ * ZERMUITA_INSECURE, which no record says, and without a verdict. Where a verdict rests on several judgements of the answer, as
+ * the cut of ZERMUITA_DELEGATED and `delegates` do, they are the least of all.
  *
- * `ede` is 1 or 2 with ZERMUITA_INSECURE where there are DS records (RFC 8914, 4.2 and 4.3); with a refusal it says why (7: a
- * signature expired, 10: there is none, 12: a denial is missing, ..), and 0 where the answer is not bogus or nothing is known.
+ * `ede` is 1 or 2 with ZERMUITA_INSECURE where there are DS records (RFC 8914, 4.2 and 4.3); with a refusal it says what
+ * to tell the client (7: a signature expired, 10: there is none, 12: a denial is missing, ..), 0 where there is nothing to tell.
  */
 struct zermuita_report {
     size_t size;            /* sizeof(struct zermuita_report), set before the call */
