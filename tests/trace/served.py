@@ -15,11 +15,11 @@ HERE = pathlib.Path(__file__).resolve().parent
 sys.path[1:1] = [str(HERE.parent / it) for it in ("aliases", "walk", "shadow")]
 
 import asked
+from addresses import SERVERS
 from found import lead
+from plan import ZONES
 from questions import QUESTIONS
 from servers import Knot, Named, Nsd
-from addresses import SERVERS
-from plan import ZONES
 from tree import changed
 from wire import DNSKEY, DS, TYPES, name, text, wire
 from zone import Records
@@ -33,6 +33,9 @@ BOGUS = ("altered", "stripped", "lost", "stranger")
 # Of these the DNSKEY set holds.
 KEYS_HOLD = ("altered", "stripped")
 MOST_ALIASES = 16
+# What a zone says, in words for whoever asks.
+WORDS = {"Records": "secure records", "NoType": "secure NODATA", "NoName": "secure NXDOMAIN", "StarRecords": "secure records",
+         "StarNoType": "secure NODATA", "Open": "insecure", "Alias": "Alias"}
 
 
 class Zone(Records):
@@ -65,6 +68,8 @@ class Zone(Records):
 
 
 class Tree:
+    """The zones, in folders below one."""
+
     def __init__(self, folder):
         self.folder = pathlib.Path(folder).resolve()
         self.zones, self.ds = {}, {}
@@ -152,10 +157,6 @@ class Tree:
             zones = [(name(apex), self.file(apex)) for apex, it in ZONES.items() if it.server == server]
             started.append(KINDS[kind](logs / server, zones, address, 53))
         return started
-
-
-WORDS = {"Records": "secure records", "NoType": "secure NODATA", "NoName": "secure NXDOMAIN", "StarRecords": "secure records",
-         "StarNoType": "secure NODATA", "Open": "insecure", "Alias": "Alias"}
 
 
 # What tests/walk has for these, by its last word, or in full.
