@@ -9,6 +9,11 @@ enum kind kind_of(enum zermuita_reply reply) {
     return zermuita_is_verdict((uint32_t)reply) ? SECURE : BOGUS;
 }
 
+/* Whether an answer that is refused is bogus (RFC 4035, 4.3). Other refusals say what the library lacked or does not judge. */
+static bool is_bogus(enum zermuita_reply reply) {
+    return reply == ZERMUITA_NO_TRUSTED_KEY || reply == ZERMUITA_MIXED_NSEC3_PARAMETERS || reply == ZERMUITA_NOT_PROVEN;
+}
+
 static const char *word_of(enum zermuita_reply reply) {
     switch (kind_of(reply)) {
     case SECURE:
@@ -16,7 +21,7 @@ static const char *word_of(enum zermuita_reply reply) {
     case INSECURE:
         return "insecure";
     default:
-        return reply <= ZERMUITA_MIXED_VERSIONS && reply != ZERMUITA_OUT_OF_MEMORY ? "bogus" : "not shown";
+        return is_bogus(reply) ? "bogus" : "not shown";
     }
 }
 

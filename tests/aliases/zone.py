@@ -127,14 +127,12 @@ class Said(typing.NamedTuple):
         return " ".join([self.word, *([",".join(it.hex() for it in self.data)] if self.data else [])])
 
 
-class Zone:
-    """A zone of a kind (`alias` or `dname`), chain and signer."""
+class Records:
+    """A zone by its records, rows of owner, type and data; `optout` is one chain by which it may be signed."""
 
-    def __init__(self, kind, chain, signer):
-        self.kind, self.chain, self.signer = kind, chain, signer
-        self.apex_text = f"{kind}.{chain}.{signer}.test"
-        self.apex = name(self.apex_text)
-        self.rows = [line.split(" ") for line in (ALIASES if kind == "alias" else REDIRECTED).splitlines()]
+    def __init__(self, apex_text, chain, rows):
+        self.apex_text, self.chain, self.rows = apex_text, chain, rows
+        self.apex = name(apex_text)
         self.records = {}
         for owner, rtype, *fields in self.rows:
             of = self.records.setdefault(self.named(owner), {}).setdefault(TYPES[rtype], [])
@@ -161,20 +159,6 @@ class Zone:
         before = int(fields[0]).to_bytes(2, "big") if rtype == "MX" else b""
         return before + wire(self.named(fields[-1]))
 
-    def file(self):
-        """The zone as a master file."""
-        texts = {"A": "192.0.2.1", "TXT": '"text"', "DS": f"1234 13 2 {DS_DATA[4:].hex()}"}
-        soa = f"{self.apex_text}. 3600 IN SOA ns.example.net. host.example.net. 1 3600 900 1209600 900"
-        lines = [f"$ORIGIN {self.apex_text}.", soa]
-        lines += [f"{owner} 3600 IN {rtype} {' '.join(fields) or texts[rtype]}" for owner, rtype, *fields in self.rows]
-        return "\n".join([*lines, ""])
-
-    def questions(self):
-        for line in (ASKED if self.kind == "alias" else ASKED_REDIRECTED).splitlines():
-            owner, place, *types = line.split(" ")
-            for rtype in " ".join(types).replace("*", COMMON).split(" "):
-                yield Question(self.named(owner), TYPES[rtype], place)
-
     def above(self, labels):
         """The names from a name up to the apex."""
         return [labels[at:] for at in range(len(labels) - len(self.apex) + 1)]
@@ -200,6 +184,29 @@ class Zone:
             return Said("Open")
         if CNAME in types and rtype != CNAME:
             return Said("Alias")
-        if not types:
+        if (b"*", *encloser) not in self.names:
             return Said("NoName")
         return Said("StarRecords", tuple(sorted(types[rtype]))) if rtype in types else Said("StarNoType")
+
+
+class Zone(Records):
+    """A zone of a kind (`alias` or `dname`), chain and signer."""
+
+    def __init__(self, kind, chain, signer):
+        self.kind, self.signer = kind, signer
+        rows = [line.split(" ") for line in (ALIASES if kind == "alias" else REDIRECTED).splitlines()]
+        super().__init__(f"{kind}.{chain}.{signer}.test", chain, rows)
+
+    def file(self):
+        """The zone as a master file."""
+        texts = {"A": "192.0.2.1", "TXT": '"text"', "DS": f"1234 13 2 {DS_DATA[4:].hex()}"}
+        soa = f"{self.apex_text}. 3600 IN SOA ns.example.net. host.example.net. 1 3600 900 1209600 900"
+        lines = [f"$ORIGIN {self.apex_text}.", soa]
+        lines += [f"{owner} 3600 IN {rtype} {' '.join(fields) or texts[rtype]}" for owner, rtype, *fields in self.rows]
+        return "\n".join([*lines, ""])
+
+    def questions(self):
+        for line in (ASKED if self.kind == "alias" else ASKED_REDIRECTED).splitlines():
+            owner, place, *types = line.split(" ")
+            for rtype in " ".join(types).replace("*", COMMON).split(" "):
+                yield Question(self.named(owner), TYPES[rtype], place)

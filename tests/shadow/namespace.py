@@ -13,11 +13,11 @@ SERVERS = ["198.51.100.1", "198.51.100.2", "192.0.2.1"]
 VALIDATORS = {name: f"198.51.100.{21 + at}" for at, name in enumerate(resolvers.ALL)}
 
 
-def enter(program, words):
+def enter(program, words, servers=SERVERS):
     """Runs a program again, in a network namespace of its own, unless it is in one."""
     if "SHADOW_NAMESPACE" in os.environ:
         return
-    addresses = [*SERVERS, *VALIDATORS.values(), resolvers.DISTRIBUTOR]
+    addresses = [*servers, *VALIDATORS.values(), resolvers.DISTRIBUTOR]
     add = "".join(f"ip address add {it}/32 dev lo; " for it in addresses)
     user = [] if os.geteuid() == 0 else ["--map-root-user"]
     os.environ["SHADOW_NAMESPACE"] = "1"
@@ -26,14 +26,14 @@ def enter(program, words):
 
 
 @contextlib.contextmanager
-def serving(tree, server):
-    """While a server has the zones of a tree, its version."""
-    words = [sys.executable, HERE / "tree.py", "serve", tree, server]
+def serving(tree, *server, program=HERE / "tree.py"):
+    """While a server has the zones of a tree, its version; or while several servers that a program starts have them, theirs."""
+    words = [sys.executable, program, "serve", tree, *server]
     process = subprocess.Popen(words, stdin=subprocess.PIPE, stdout=subprocess.PIPE, text=True)
     try:
         version = process.stdout.readline().strip()
         if not version:
-            raise RuntimeError(f"{server} doesn't serve: see {tree}/{server}-*")
+            raise RuntimeError(f"{' '.join(server) or 'a server'} doesn't serve: see {tree}/{'-'.join(server) or 'servers'}-*")
         yield version
     finally:
         process.stdin.close()

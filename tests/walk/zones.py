@@ -1,6 +1,7 @@
 """A tree of zones, and how each is signed."""
 
 import subprocess
+import typing
 
 from wire import name
 
@@ -59,7 +60,39 @@ def run(folder, *words):
     return ran.stdout
 
 
-def sign(folder, apex, ds):
+class How(typing.NamedTuple):
+    """How a zone is signed: with keys of which algorithm, by which chain, with one key for all, and when its signatures hold."""
+
+    algorithm: str = "ECDSAP256SHA256"
+    chain: tuple = ()
+    is_single: bool = False
+    dates: tuple = DATES
+
+
+HASHED = ("-3", "-", "-H", "0")
+HOW = {
+    "opt": How(chain=(*HASHED, "-A")),
+    "safe.opt": How(chain=HASHED),
+    "one.test": How(is_single=True),
+    "old.test": How(algorithm="RSASHA1"),
+    "late.test": How(dates=PAST),
+}
+
+
+def sign(at, dotted, how):
+    """Signs the zone in a folder's file `unsigned` into `signed`, and gives its DS record."""
+    size = ["-b", "2048"] if how.algorithm.startswith("RSA") else []
+    made = "dnssec-keygen", "-q", "-a", how.algorithm, *size, "-P", "none", "-A", "none"
+    kinds = [["-f", "KSK"]] if how.is_single else [["-f", "KSK"], []]
+    keys = [run(at, *made, *flags, dotted).strip() for flags in kinds]
+    records = "".join((at / f"{it}.key").read_text() for it in keys)
+    (at / "keyed").write_text((at / "unsigned").read_text() + records)
+    ways = "-P", "-O", "full", "-s", how.dates[0], "-e", how.dates[1], *how.chain, *(["-z"] if how.is_single else [])
+    run(at, "dnssec-signzone", *ways, "-o", dotted, "-f", "signed", "keyed", *keys)
+    return run(at, "dnssec-dsfromkey", "-2", "-T", "440", f"{keys[0]}.key")
+
+
+def made(folder, apex, ds):
     """Writes a zone with its delegations, signs it, and gives its file and its own DS records."""
     at = folder / (apex.strip(".") or "root")
     at.mkdir()
@@ -68,17 +101,7 @@ def sign(folder, apex, ds):
     (at / "unsigned").write_text(f"$ORIGIN {dotted}\n{ZONES[apex]}{cuts}")
     if apex in UNSIGNED:
         return at / "unsigned", ""
-    algorithm, size = ("RSASHA1", ["-b", "2048"]) if apex == "old.test" else ("ECDSAP256SHA256", [])
-    made = "dnssec-keygen", "-q", "-a", algorithm, *size, "-P", "none", "-A", "none"
-    kinds = ([["-f", "KSK"]] if apex == "one.test" else [["-f", "KSK"], []])
-    keys = [run(at, *made, *flags, dotted).strip() for flags in kinds]
-    records = "".join((at / f"{it}.key").read_text() for it in keys)
-    (at / "keyed").write_text((at / "unsigned").read_text() + records)
-    chain = ["-3", "-", "-H", "0", "-A"] if apex == "opt" else ["-3", "-", "-H", "0"] if apex == "safe.opt" else []
-    single = ["-z"] if apex == "one.test" else []
-    dates = PAST if apex == "late.test" else DATES
-    run(at, "dnssec-signzone", "-P", "-s", dates[0], "-e", dates[1], *chain, *single, "-o", dotted, "-f", "signed", "keyed", *keys)
-    own = run(at, "dnssec-dsfromkey", "-2", "-T", "440", f"{keys[0]}.key")
+    own = sign(at, dotted, HOW.get(apex, How()))
     return at / ("unsigned" if apex == "lost.test" else "signed"), own
 
 
@@ -86,5 +109,5 @@ def signed(folder):
     """The files of all zones, those furthest down signed first."""
     files, ds = {}, {}
     for apex in sorted(ZONES, key=lambda it: -len(name(it))):
-        files[apex], ds[apex] = sign(folder, apex, ds)
+        files[apex], ds[apex] = made(folder, apex, ds)
     return files
