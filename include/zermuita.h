@@ -154,8 +154,8 @@ struct zermuita_evidence {
     uint64_t now;                      /* the moment at which signatures must hold, in seconds since 1970 */
     uint16_t rtype;                    /* the type that is asked for */
     uint16_t max_nsec3_iterations;     /* how many iterations of a name's hash are allowed (RFC 9276, 3.2) */
-    uint16_t max_cuts;                 /* how many delegations are gone down for a name at most; 0: 32 */
-    uint16_t max_aliases;              /* how many aliases are followed at most; 0: 16 */
+    uint16_t max_cuts;                 /* how many delegations are gone down for a name at most; 0: 32, so 1 is the least */
+    uint16_t max_aliases;              /* how many aliases are followed at most; 0: 16, so 1 is the least */
     uint32_t one_moment;               /* 1: the signatures of an answer must have one inception and one expiration; 0: any */
     uint32_t max_signatures;           /* how many entries `checked` may have with those that are asked for; 0: 256 */
 };
@@ -169,10 +169,11 @@ enum zermuita_delegates {
 
 /*
  * What is said beside a reply. A verdict may be kept for `ttl` seconds, and not beyond the second `until`; both are 0 with
- * ZERMUITA_INSECURE, which no record says, and without a verdict. Where a verdict rests on several judgements of the answer, as
- * the cut of ZERMUITA_DELEGATED and `delegates` do, they are the least of all.
+ * ZERMUITA_INSECURE of a case, which no record says, and without a verdict. Where a verdict rests on several judgements of the
+ * answer, as the cut of ZERMUITA_DELEGATED and `delegates` do, they are the least of all; zermuita_resolve has the least of all
+ * that its way rests on.
  *
- * `ede` is 1 or 2 with ZERMUITA_INSECURE where there are DS records (RFC 8914, 4.2 and 4.3); with a refusal it says what
+ * `ede` is 1 or 2 with ZERMUITA_INSECURE of a case where there are DS records (RFC 8914, 4.2 and 4.3); with a refusal it says what
  * to tell the client (7: a signature expired, 10: there is none, 12: a denial is missing, ..), 0 where there is nothing to tell.
  */
 struct zermuita_report {
@@ -281,9 +282,11 @@ static inline enum zermuita_reply zermuita_judge(const struct zermuita_case *han
  * With each reply that says something of the name, the names that aliases led through stand in front of that (zermuita_take_aliases):
  * with verdicts, with refusals that have octets, with ZERMUITA_OUTSIDE and with both limits.
  *
- * Of the report `len` is set and all else is 0: nothing says yet how long what is said may be kept. It may be kept for the least of
- * the TTLs of the messages' records and of the original TTLs of their RRSIG records, and not beyond the earliest expiration of those
- * that hold.
+ * What is secure or insecure may be kept for `ttl` seconds from the arrival of the oldest message that it rests on, and not beyond
+ * the second `until`: both are the least of each zone's step of the way, through all aliases. With other replies they are 0.
+ * `verifications` and `hashes` are those of all judgements of the walk, in this call; with ZERMUITA_WANT, ZERMUITA_ASK and replies
+ * that write nothing they are 0. With a refusal up to 27 `ede` says why, as with zermuita_judge of that answer; with
+ * ZERMUITA_INSECURE it is 0. `delegates` is 0.
  */
 static inline enum zermuita_reply zermuita_resolve(const struct zermuita_evidence *handed, uint8_t *out, size_t out_len,
                                                    struct zermuita_report *report) {

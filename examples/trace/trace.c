@@ -114,16 +114,16 @@ static bool ask_all(const struct options *options, struct evidence *evidence, st
 static bool walk(const struct options *options, struct zermuita_evidence handed, struct evidence *evidence, struct buffer *out,
                  struct end *end) {
     for (;;) {
-        struct zermuita_report report = {.size = sizeof report};
+        end->report = (struct zermuita_report){.size = sizeof end->report};
         handed.messages = octets_of(&evidence->messages);
         handed.checked = octets_of(&evidence->checked);
-        end->reply = zermuita_resolve(&handed, out->data, out->len, &report);
+        end->reply = zermuita_resolve(&handed, out->data, out->len, &end->report);
         evidence->calls++;
-        end->octets = (struct zermuita_octets){out->data, report.len};
+        end->octets = (struct zermuita_octets){out->data, end->report.len};
         if (end->reply == ZERMUITA_BUFFER_TOO_SMALL) {
-            grown(out, report.len);
+            grown(out, end->report.len);
         } else if (end->reply == ZERMUITA_ASK) {
-            add_checked(evidence, out->data, report.len);
+            add_checked(evidence, out->data, end->report.len);
         } else if (end->reply != ZERMUITA_WANT) {
             return true;
         } else if (!ask_all(options, evidence, end->octets)) {

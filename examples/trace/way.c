@@ -97,7 +97,14 @@ void tell(const struct evidence *evidence, const struct end *end) {
     }
     printf("\n%s", word_of(end->reply));
     print_rest(stdout, end, rest);
-    printf(" (%s); %u signatures checked, %u calls\n", zermuita_strerror(end->reply), evidence->signatures, evidence->calls);
+    printf(" (%s)", zermuita_strerror(end->reply));
+    if (end->report.ede != 0) {
+        printf(" (EDE %u)", end->report.ede);
+    }
+    if (end->report.until > 0) {
+        printf("; TTL %lu, until %llu", (unsigned long)end->report.ttl, (unsigned long long)end->report.until);
+    }
+    printf("; %u signatures checked, %u calls\n", evidence->signatures, evidence->calls);
 }
 
 /* ---- JSON */
@@ -187,6 +194,12 @@ void tell_json(const struct evidence *evidence, const struct end *end) {
     print_quoted(zermuita_strerror(end->reply));
     print_aliases(&rest);
     print_said(end, rest);
+    if (end->report.ede != 0) {
+        printf(", \"ede\": %u", end->report.ede);
+    }
+    if (end->report.until > 0) {
+        printf(", \"ttl\": %lu, \"until\": %llu", (unsigned long)end->report.ttl, (unsigned long long)end->report.until);
+    }
     printf(", \"signatures\": %u, \"calls\": %u, \"asked\": [", evidence->signatures, evidence->calls);
     for (size_t i = 0; i < evidence->count; i++) {
         const struct step *it = &evidence->steps[i];

@@ -13,6 +13,7 @@ struct end {
     uint16_t rtype;
     enum zermuita_reply reply;
     struct zermuita_octets octets;
+    struct zermuita_report report;
 };
 
 enum kind kind_of(enum zermuita_reply reply);

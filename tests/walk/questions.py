@@ -3,9 +3,9 @@
 import typing
 
 from wire import DNSKEY, DS, name, text, wire
-from zones import SERVED, UNSIGNED, ZONES, above
+from zones import DENIAL_TTL, DS_TTL, SERVED, UNSIGNED, UNTIL, ZONES, above, ttls_at
 
-A, NS, SOA, MX, TXT, AAAA = 1, 2, 6, 15, 16, 28
+A, NS, CNAME, SOA, MX, TXT, AAAA, DNAME = 1, 2, 5, 6, 15, 16, 28, 39
 
 HEAD = """\
 # Walks from the root's trust anchor down, over messages of named, NSD and Knot that tests/walk/run made. The zones are in its zones.py,
@@ -136,6 +136,40 @@ def on_the_way(qname, rtype):
             yield from ((apex, it, DS) for it in names if len(name(apex)) < len(it) <= len(name(below)))
 
 
+def ttls_of(qname, rtype, says):
+    """The TTLs of what a walk for a name rests on, where it ends so: of the DS records on the way, and of the zone's answer, or of the
+    denial that a delegation has DS records. Those of keys do not count."""
+    zones = [it for it in above(qname) if not (name(it) == name(qname) and rtype == DS)]
+    for apex, below in zip(zones, zones[1:]):
+        if below in UNSIGNED:
+            yield DENIAL_TTL
+            return
+        yield DS_TTL
+        if below in CLOSED:
+            return
+    yield from ttls_at(zones[-1], qname, rtype) if "Records" in says or "alias" in says else [DENIAL_TTL]
+
+
+def lasts(qname, rtype):
+    """How long what is said lasts: the least of the ways of all names. Nothing where neither secure nor insecure is said."""
+    said = QUESTIONS[qname, rtype]
+    if not said.says.startswith(("secure", "insecure", "an alias")):
+        return ""
+    names = (qname, *said.through)
+    says = ["alias"] * len(said.through) + [said.says]
+    ttl = min(it for at, what in zip(names, says) for it in ttls_of(at, rtype, what))
+    return f"; TTL {ttl} until {UNTIL}"
+
+
+# The codes of RFC 8914 for zones whose keys are not signed in time: 7 where the signatures have expired; 9 where no key is there.
+ERRORS = {"late.test": 7, "lost.test": 9}
+
+
+def error(says):
+    """The extended error of what is bogus."""
+    return f"; EDE {ERRORS[says.split()[1]]}" if says.startswith("bogus") else ""
+
+
 def messages_of(qname, rtype):
     """How many messages a walk asks for, through aliases; one that many follow, for as many as the limit allows."""
     said = QUESTIONS[qname, rtype]
@@ -151,10 +185,10 @@ LIMITED = (
     ("# Limits: delegations on the way, and aliases.", None),
     ("limits 1 11", None),
     ("resolve www.signed.test 1", f"too many cuts; {count_of('www.test')} messages"),
-    ("resolve www.test 1", f"{records('test', address(1))}; {count_of('www.test')} messages"),
+    ("resolve www.test 1", f"{records('test', address(1))}; {count_of('www.test')} messages{lasts('www.test', A)}"),
     ("limits 32 0", None),
     ("resolve alias.test 1", f"too many aliases; {count_of('alias.test')} messages"),
-    ("resolve www.test 1", f"{records('test', address(1))}; {count_of('www.test')} messages"),
+    ("resolve www.test 1", f"{records('test', address(1))}; {count_of('www.test')} messages{lasts('www.test', A)}"),
     ("limits 32 11", None),
     ("# Messages that nobody has: these are wanted.", None),
     ("without test test 48", None),
@@ -172,7 +206,7 @@ def by_octets():
     """Each question from octets to octets, and what is said of it."""
     for (qname, rtype), said in QUESTIONS.items():
         through = "; through " + " ".join(said.through) if said.through else ""
-        yield f"octets {qname} {rtype}", f"{said.says}{through}; {messages_of(qname, rtype)} messages"
+        yield f"octets {qname} {rtype}", f"{said.says}{through}; {messages_of(qname, rtype)} messages{lasts(qname, rtype)}{error(said.says)}"
 
 
 # From octets: what a limit of signatures allows, one for each set of keys and one for each DS set and answer on the way; and which part
@@ -192,8 +226,12 @@ OCTETS = (
     ("most 5", None),
     ("octets www.signed.test 1", f"TooManySignatures; {count_of('www.signed.test')} messages"),
     ("most 6", None),
-    ("octets www.signed.test 1", f"{records('signed.test', address(2))}; {count_of('www.signed.test')} messages"),
+    ("octets www.signed.test 1", f"{records('signed.test', address(2))}; {count_of('www.signed.test')} messages{lasts('www.signed.test', A)}"),
     ("most 0", None),
+    ("# Verified are of a referral the keys twice, for the question and for DS, and the DS set; of an answer the keys and the answer.", None),
+    ("counts www.test 1", "5 verified, 0 hashed"),
+    ("counts www.signed.test 1", "8 verified, 0 hashed"),
+    ("counts com 1", "2 verified, 0 hashed"),
     *(
         (f"cut {part} www.test 1", f"{code}; {count_of('www.test')} messages")
         for part, code in (

@@ -6,6 +6,8 @@ import typing
 from wire import name
 
 MOMENT = 1800000000
+# The last second in which signatures hold that are in time, and TTLs: of denials the SOA record's minimum (RFC 9077), and of DS sets.
+UNTIL, DENIAL_TTL, DS_TTL = 2082758400, 300, 440
 # In time, and out of time, at that moment.
 DATES = ("20260101000000", "20360101000000")
 PAST = ("20250101000000", "20250201000000")
@@ -46,6 +48,28 @@ def above(qname):
     """The zones at or above a name, the root first."""
     labels = name(qname)
     return sorted((it for it in ZONES if labels[len(labels) - len(name(it)) :] == name(it)), key=lambda it: len(name(it)))
+
+
+def ttls_at(apex, qname, rtype):
+    """The TTLs of a zone's records that answer a question: those of the type, of a CNAME or of a DNAME above; of a wildcard's also that
+    of the denial beside it; of a delegation's DS set its own."""
+    if rtype == 43 and qname in cuts_of(apex):
+        return [DS_TTL]
+    lines = [line.split() for line in ZONES[apex].splitlines()]
+    kinds = {1: "A", 2: "NS", 5: "CNAME", 6: "SOA", 15: "MX", 16: "TXT"}
+    labels, origin = name(qname), name(apex)
+    owners = [(labels, {kinds.get(rtype), "CNAME"}), ((b"*", *labels[1:]), {kinds.get(rtype), "CNAME"})]
+    owners += [(labels[at:], {"DNAME"}) for at in range(1, len(labels) - len(origin) + 1)]
+    for number, (owner, words) in enumerate(owners):
+        found = [int(ttl) for at, ttl, word, *_data in lines if owner_of(at, origin) == tuple(owner) and word in words]
+        if found:
+            return [*found, DENIAL_TTL] if number == 1 else found
+    raise ValueError(f"{qname} {rtype}")
+
+
+def owner_of(text, origin):
+    """The labels of an owner as it stands in a zone."""
+    return tuple(origin) if text == "@" else (*(it.encode() for it in text.split(".")), *origin)
 
 
 def cuts_of(apex):

@@ -14,7 +14,7 @@ use std::sync::ledger::{Blank, Ledger};
 ///
 /// A refusal is said once the table has all signatures that are wanted. One that it doesn't have
 /// does not pass.
-pub(crate) fn error_of(
+pub fn error_of(
     alloc: Global,
     case: &Case,
     table: &[CheckedSignature],

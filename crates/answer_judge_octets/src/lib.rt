@@ -4,7 +4,7 @@
 
 pub mod ds;
 mod entries;
-mod errors;
+pub mod errors;
 pub mod laws;
 mod limit;
 pub mod list;

@@ -271,7 +271,7 @@ pub(crate) fn reply_of_refusal(alloc: Global, refusal: Refusal, error: u16) -> R
 }
 
 /// For how many seconds a verdict may be kept.
-fn ttl_of(lasting: Option<Lasting>) -> u32
+pub fn ttl_of(lasting: Option<Lasting>) -> u32
     ensures { result ≡ ttl_of lasting }
 {
     match lasting {
@@ -281,7 +281,7 @@ fn ttl_of(lasting: Option<Lasting>) -> u32
 }
 
 /// The last second in which a verdict stands that was given in one.
-fn until_of(second: u64, lasting: Option<Lasting>) -> u64
+pub fn until_of(second: u64, lasting: Option<Lasting>) -> u64
     ensures { result ≡ until_of second lasting }
 {
     match lasting {

@@ -1,5 +1,5 @@
 -- What evidence tells is what the tree says.
-use Rattle.std.proofs.Common.{◌≡◌, true, ◌&&◌, not, List, [], Some, refl, sym, ap, subst, ◌∙◌, inl, inr}
+use Rattle.std.proofs.Common.{◌≡◌, true, ◌&&◌, not, List, [], Option, Some, refl, sym, ap, subst, ◌∙◌, inl, inr}
 use Rattle.std.specs.Prelude.{◌==◌}
 use Rattle.std.proofs.lemmas.Bool.{and_parts, and_from}
 use Rattle.definitions.specs.Dnskey.{Ds}
@@ -10,11 +10,13 @@ use Rattle.denial_laws.specs.Leading.{To}
 use Rattle.denial_laws.proofs.NameFacts.{strictly_at}
 use Rattle.messages.specs.Message.{Asked}
 use Rattle.answer_judge_keys.specs.Judging.{JudgeInput}
+use Rattle.answer_judge_keys.specs.declared.verdict.Lasting.{Lasting}
 use Rattle.resolution_tree.specs.Tree.{Said, Leads, Says, SaysItself, Itself, Below, Resolves, is_within, refers_to}
 use Rattle.resolution_tree.specs.Tree as tree
 use Rattle.resolution_tree.specs.Orderly.{IsOrderlyZone}
 use Rattle.resolution_tree.proofs.Trees.{IsReferred, referred}
 use Rattle.resolution_step.specs.KnownDs.{knows}
+use Rattle.resolution_step.specs.declared.telling.Counts.{Counts}
 use Rattle.resolution_step.specs.Told.{StepSeen, TellsVerdict, TellsLead, TellsDown, TellsUnsigned, TellsOpen, TellsNoCut, TellsNothing, AsksFor, at_cut}
 use Rattle.resolution_step.specs.Truth.{AreOfZone, IsCutSo, IsToldSo, IsWayDown, zone_of_version}
 use Rattle.resolution_step.proofs.Truly.{cut_truly, lowered_so, told_truly}
@@ -33,15 +35,15 @@ module _ (e : Given) (zones : List SignedZone) (anchor : SignedZone) (of : IsOfT
 
   -- ---- one zone
 
-  own_so : (asked : Asked) (s : SignedZone) (ds : List Ds) (said : StepSeen) → IsAnchored e zones anchor s ds → IsOwnStep e s.apex ds asked said → IsToldSo e.algorithms (zone_of s) asked.name asked.rtype said
-  own_so asked s ds said a k =
-      let so = told_truly e.algorithms e.table k.judged said k.told_is s.version (of_zone asked s ds k.judged a k.of) in
+  own_so : (asked : Asked) (s : SignedZone) (ds : List Ds) (said : StepSeen) (l : Option Lasting) (n : Counts) → IsAnchored e zones anchor s ds → IsOwnStep e s.apex ds asked said l n → IsToldSo e.algorithms (zone_of s) asked.name asked.rtype said
+  own_so asked s ds said l n a k =
+      let so = told_truly e.algorithms e.table k.judged said l n k.told_is s.version (of_zone asked s ds k.judged a k.of) in
       subst (λ (h : JudgeInput). IsToldSo e.algorithms (zone_of_version h.apex s.version) h.asked.name h.asked.rtype said) k.of.is so
 
-  name_so : (asked : Asked) (n : Name) (s : SignedZone) (ds : List Ds) (said : StepSeen) → IsAnchored e zones anchor s ds → IsNameStep e s.apex ds (ds_at asked n) said → IsCutSo e.algorithms (zone_of s) n said
-  name_so asked n s ds said a k =
+  name_so : (asked : Asked) (n : Name) (s : SignedZone) (ds : List Ds) (said : StepSeen) (l : Option Lasting) (m : Counts) → IsAnchored e zones anchor s ds → IsNameStep e s.apex ds (ds_at asked n) said l m → IsCutSo e.algorithms (zone_of s) n said
+  name_so asked n s ds said l m a k =
       let ds_is = ap (λ (h : JudgeInput). h.asked.rtype) k.of.is in
-      let so = cut_truly e.algorithms e.table k.judged said k.told_is s.version ds_is (of_zone (ds_at asked n) s ds k.judged a k.of) in
+      let so = cut_truly e.algorithms e.table k.judged said l m k.told_is s.version ds_is (of_zone (ds_at asked n) s ds k.judged a k.of) in
       subst (λ (h : JudgeInput). IsCutSo e.algorithms (zone_of_version h.apex s.version) h.asked.name said) k.of.is so
 
   abbrev IsOnwardSo : Asked → SignedZone → Onward → Type 0
@@ -59,24 +61,24 @@ module _ (e : Given) (zones : List SignedZone) (anchor : SignedZone) (of : IsOfT
   told_onward asked s (TellsNothing r) so = tt
   told_onward asked s (AsksFor asks) so = tt
 
-  onward_so : (asked : Asked) (s : SignedZone) (ds : List Ds) (o : Onward) → IsAnchored e zones anchor s ds → IsOnward e asked s.apex ds o → IsOnwardSo asked s o
-  onward_so asked s ds o a (ByQuestion said k is) = subst (IsOnwardSo asked s) (sym is) (told_onward asked s said (own_so asked s ds said a k))
-  onward_so asked s ds o a (ByName n said below above other k is) =
+  onward_so : (asked : Asked) (s : SignedZone) (ds : List Ds) (o : Onward) (l : Option Lasting) → IsAnchored e zones anchor s ds → IsOnward e asked s.apex ds o l → IsOnwardSo asked s o
+  onward_so asked s ds o l a (ByQuestion said m k is) = subst (IsOnwardSo asked s) (sym is) (told_onward asked s said (own_so asked s ds said l m a k))
+  onward_so asked s ds o l a (ByName n said m below above other k is) =
       let inside : at_or_above (apex_of (zone_of s).zone) n ≡ true = lowered_above s.apex n ∙ strictly_at s.apex n below in
       let so : IsToldSo e.algorithms (zone_of s) asked.name asked.rtype (at_cut said) =
-      lowered_so e.algorithms (judge_input e s.apex ds asked [] []) s.version (of.in_order s a.there) n said inside above other (name_so asked n s ds said a k) in
+      lowered_so e.algorithms (judge_input e s.apex ds asked [] []) s.version (of.in_order s a.there) n said inside above other (name_so asked n s ds said l m a k) in
       subst (IsOnwardSo asked s) (sym is) (told_onward asked s (at_cut said) so)
 
   -- ---- down
 
-  pub tells_so : (asked : Asked) (said : Said) (zone : Name) (ds : List Ds) (s : SignedZone) → s.apex ≡ zone → IsAnchored e zones anchor s ds → Tells e asked said zone ds → Says (knows e.algorithms) (tree_of zones) asked.name asked.rtype said (zone_of s)
-  tells_so asked said zone ds s at a (Ends x) = Itself (onward_so asked s ds (EndsIn said) a (subst (λ n. IsOnward e asked n ds (EndsIn said)) (sym at) x))
-  tells_so asked said zone ds s at a (Goes {c = c} {below = below} x rest) =
-      let so = onward_so asked s ds (GoesDown c below) a (subst (λ n. IsOnward e asked n ds (GoesDown c below)) (sym at) x) in
+  pub tells_so : (asked : Asked) (said : Said) (zone : Name) (ds : List Ds) (l : Option Lasting) (s : SignedZone) → s.apex ≡ zone → IsAnchored e zones anchor s ds → Tells e asked said zone ds l → Says (knows e.algorithms) (tree_of zones) asked.name asked.rtype said (zone_of s)
+  tells_so asked said zone ds l s at a (Ends x) = Itself (onward_so asked s ds (EndsIn said) l a (subst (λ n. IsOnward e asked n ds (EndsIn said) l) (sym at) x))
+  tells_so asked said zone ds l s at a (Goes {c = c} {below = below} {first = first} {rest = rest} x more lasts) =
+      let so = onward_so asked s ds (GoesDown c below) first a (subst (λ n. IsOnward e asked n ds (GoesDown c below) first) (sym at) x) in
       let k : IsReferred (zone_of s).zone asked.name asked.rtype c = referred (zone_of s).zone asked.name asked.rtype c so.0 in
       let child = of.whole s (low asked.name) c a.there k.cut_is so.1.bound in
       let out : HandsOut e.algorithms zones child.0.apex below = subst (λ n. HandsOut e.algorithms zones n below) (sym child.2) (record { parent = s; there = a.there; bound = so.1.bound; ds_are = so.1.ds_are }) in
-      Below so.0 so.1.bound child.3 (tells_so asked said c below child.0 child.2 (record { there = child.1; by = inr out }) rest)
+      Below so.0 so.1.bound child.3 (tells_so asked said c below rest child.0 child.2 (record { there = child.1; by = inr out }) more)
 
   -- ---- through aliases
 
@@ -86,12 +88,13 @@ module _ (e : Given) (zones : List SignedZone) (anchor : SignedZone) (of : IsOfT
       and_from _ _ (lowered_above anchor.apex asked.name ∙ ap (λ n. at_or_above n asked.name) of.anchor_is ∙ both.0)
       (ap (λ n. not (same n asked.name && (asked.rtype == 43))) of.anchor_is ∙ both.1)
 
-  told_by_anchor : (asked : Asked) (said : Said) → Tells e asked said e.anchor e.ds → Says (knows e.algorithms) (tree_of zones) asked.name asked.rtype said (zone_of anchor)
-  told_by_anchor asked said x = tells_so asked said e.anchor e.ds anchor of.anchor_is (record { there = of.anchor_there; by = inl (refl, refl) }) x
+  told_by_anchor : (asked : Asked) (said : Said) (l : Option Lasting) → Tells e asked said e.anchor e.ds l → Says (knows e.algorithms) (tree_of zones) asked.name asked.rtype said (zone_of anchor)
+  told_by_anchor asked said l x = tells_so asked said e.anchor e.ds l anchor of.anchor_is (record { there = of.anchor_there; by = inl (refl, refl) }) x
 
-  pub follows_so : (said : Said) (asked : Asked) (ns : List Name) → Follows e said asked ns → Resolves (knows e.algorithms) (tree_of zones) (zone_of anchor) asked.rtype said asked.name ns
-  follows_so said asked ns (AtOnce w x l) = tree.Ends (within asked w) (told_by_anchor asked said x) l
-  follows_so said asked ns (Led {n = n} {ns = ms} w x rest) = tree.Led (within asked w) (told_by_anchor asked (Leads (To n)) x) (follows_so said (renamed asked n) ms rest)
+  pub follows_so : (said : Said) (asked : Asked) (ns : List Name) (l : Option Lasting) → Follows e said asked ns l → Resolves (knows e.algorithms) (tree_of zones) (zone_of anchor) asked.rtype said asked.name ns
+  follows_so said asked ns l (AtOnce w x leads) = tree.Ends (within asked w) (told_by_anchor asked said l x) leads
+  follows_so said asked ns l (Led {n = n} {ns = ms} {first = first} {rest = rest} w x more lasts) =
+      tree.Led (within asked w) (told_by_anchor asked (Leads (To n)) first x) (follows_so said (renamed asked n) ms rest more)
 
 pub evidence_tells_truly : EvidenceTellsTruly
-evidence_tells_truly e zones anchor asked said ns of follows = follows_so e zones anchor of said asked ns follows
+evidence_tells_truly e zones anchor asked said ns l of follows = follows_so e zones anchor of said asked ns l follows

@@ -1,5 +1,5 @@
 -- What evidence tells is what the tree says.
-use Rattle.std.specs.Prelude.{◌≡◌, ◌⊎◌, ℕ, Bool, true, List, [], ◌∷◌, Some, map, Contains}
+use Rattle.std.specs.Prelude.{◌≡◌, ◌⊎◌, ℕ, Bool, true, List, [], ◌∷◌, Option, Some, map, Contains}
 use Rattle.definitions.specs.Dnskey.{Ds}
 use Rattle.definitions.specs.Limits.{pointer_limit}
 use Rattle.definitions.specs.Name.{Name}
@@ -7,6 +7,7 @@ use Rattle.definitions.specs.Zone.{cut, data_at}
 use Rattle.messages.specs.Message.{Asked}
 use Rattle.resolution_step.specs.Versions.{Version}
 use Rattle.answer_judge_keys.specs.Judging.{JudgeInput}
+use Rattle.answer_judge_keys.specs.declared.verdict.Lasting.{Lasting}
 use Rattle.resolution_step.specs.Table.{AreTrue, Tried, answers_with, passes_in}
 use Rattle.resolution_step.specs.Truth.{AreHonestBeside}
 use Rattle.resolution_tree.specs.Tree.{Tree, TreeZone, Said, Resolves, is_bound, zone_at}
@@ -51,9 +52,9 @@ pub record IsOfTree (e : Given) (zones : List SignedZone) (anchor : SignedZone) 
   pub true_are : AreTrue (passes_in e.table) passes
   pub honest : (s : SignedZone) (ds : List Ds) (asked : Asked) (h : JudgeInput) → IsAnchored e zones anchor s ds → IsOf e s.apex ds asked h → AreHonestBeside (answers_with passes) pointer_limit h (s.version ∷ [])
 
--- What evidence of a tree tells, through aliases, is what the tree says, through the aliases that the tree has.
+-- What evidence of a tree tells, through aliases, is what the tree says, through the aliases that the tree has, however long it lasts.
 abbrev pub EvidenceTellsTruly : Type 0
 EvidenceTellsTruly =
-    (e : Given) (zones : List SignedZone) (anchor : SignedZone) (asked : Asked) (said : Said) (ns : List Name)
-    → IsOfTree e zones anchor → Follows e said asked ns
+    (e : Given) (zones : List SignedZone) (anchor : SignedZone) (asked : Asked) (said : Said) (ns : List Name) (lasting : Option Lasting)
+    → IsOfTree e zones anchor → Follows e said asked ns lasting
     → Resolves (knows e.algorithms) (tree_of zones) (zone_of anchor) asked.rtype said asked.name ns

@@ -6,5 +6,6 @@
 pub mod laws;
 
 pub use resolution_step::{
-    Ask, Case, CheckedSignature, Lead, Refusal, Step, Verdict, cut_step, step,
+    Ask, Case, CheckedSignature, Counts, Lasting, Lead, Refusal, Step, Telling, Verdict, cut_step,
+    least_of, step,
 };

@@ -2,3 +2,4 @@ pub mod SentSplit
 pub mod MessagesRead
 pub mod Walked
 pub mod SpelledEvidence
+pub mod Refused

@@ -3,6 +3,7 @@ use Rattle.std.proofs.Common.{◌≡◌, ℕ, length, Result, Ok, Err, IfOk, sub
 use Rattle.std.specs.declared.alloc.AllocError.{AllocError}
 use Rattle.answer_judge_octets.specs.Replying.{reply_seen}
 use Rattle.answer_judge_octets.specs.declared.reply.Reply.{Reply}
+use Rattle.resolution_evidence.specs.Given.{Given}
 use Rattle.resolution_walk.specs.declared.ending.Walk.{Walk}
 use Rattle.resolution_octets.specs.ReadEvidence.{asked_in, given_of}
 use Rattle.resolution_octets.specs.Replying.{IsWalk, Says}
@@ -10,8 +11,13 @@ use Rattle.resolution_octets.specs.Saying.{IsSaid}
 use Rattle.resolution_octets.specs.declared.octets.OctetEvidence.{OctetEvidence}
 use Rattle.resolution_octets.specs.declared.octets.ReadEvidence.{ReadEvidence}
 
-pub says_in : (case : OctetEvidence) (r : ReadEvidence) (checked : ℕ) (w : Walk) (said : Result Reply AllocError)
-    → checked ≡ length r.table.items → IsWalk (given_of case r) (asked_in r) w
-    → IfOk said (λ x. IsSaid case.max_signatures checked w (reply_seen x)) → IfOk said (λ x. Says case (given_of case r) (asked_in r) (reply_seen x))
-says_in case r checked w (Ok x) count walk replied = record { walk = w; is_walk = walk; is_said = subst (λ (n : ℕ). IsSaid case.max_signatures n w (reply_seen x)) count replied }
-says_in case r checked w (Err e) count walk replied = tt
+pub says_in : (case : OctetEvidence) (r : ReadEvidence) (kept : Given) (checked : ℕ) (w : Walk) (said : Result Reply AllocError)
+    → IfOk said (λ x. IsSaid case.moment case.max_signatures checked kept (asked_in r) w (reply_seen x)) → kept ≡ given_of case r → checked ≡ length r.table.items → IsWalk (given_of case r) (asked_in r) w
+    → IfOk said (λ x. Says case (given_of case r) (asked_in r) (reply_seen x))
+says_in case r kept checked w (Ok x) replied given count walk = record {
+  walk = w;
+  is_walk = walk;
+  is_said = subst (λ (e : Given). IsSaid case.moment case.max_signatures (length r.table.items) e (asked_in r) w (reply_seen x)) given
+      (subst (λ (n : ℕ). IsSaid case.moment case.max_signatures n kept (asked_in r) w (reply_seen x)) count replied);
+}
+says_in case r kept checked w (Err e) replied given count walk = tt

@@ -1,13 +1,19 @@
 -- What a walk says, in octets.
-use Rattle.std.specs.Prelude.{◌≡◌, ℕ, ◌+◌, ◌==◌, Bool, List, [], ◌++◌, length, Some, None, nat_lt, if◌then◌else◌}
+use Rattle.std.specs.Prelude.{◌≡◌, ◌⊎◌, ℕ, ◌+◌, ◌==◌, Bool, true, List, [], ◌++◌, length, Some, None, nat_lt, if◌then◌else◌}
 use Rattle.std.specs.Int.{w16, w32, to_be_bytes}
 use Rattle.std.specs.List.{flat_map}
+use Rattle.definitions.specs.Dnskey.{Ds}
 use Rattle.definitions.specs.Name.{Name, wire}
+use Rattle.messages.specs.Message.{Asked}
+use Rattle.answer_judge_keys.specs.Judging.{JudgeInput}
+use Rattle.answer_judge_keys.specs.declared.verdict.Refusal.{Refusal}
 use Rattle.answer_judge_rules.specs.Rules.{verdict_of}
 use Rattle.answer_findings.specs.declared.finding.Lead.TheVariants as lead
-use Rattle.answer_judge_octets.specs.Replying.{AsksOrStops, Replied, code_of_refusal, code_of_verdict, octets_of_verdict, only}
+use Rattle.answer_judge_octets.specs.Replying.{AsksOrStops, Replied, code_of_refusal, code_of_verdict, error_of, octets_of_verdict, only, ttl_of, until_of}
 use Rattle.answer_judge_octets.specs.declared.reply.ReplyCode.{ReplyCode}
 use Rattle.answer_judge_octets.specs.declared.reply.ReplyCode.TheVariants as c
+use Rattle.resolution_evidence.specs.Given.{Given, IsOf}
+use Rattle.resolution_walk.specs.Wanted.{is_lacking}
 use Rattle.resolution_walk.specs.declared.ending.Ending.{Ending}
 use Rattle.resolution_walk.specs.declared.ending.Ending.TheVariants as ends
 use Rattle.resolution_walk.specs.declared.ending.Walk.{Walk}
@@ -31,8 +37,8 @@ code_of_end (ends.Leads (lead.To n)) = c.Alias
 code_of_end (ends.Leads lead.TooLong) = c.Dname
 code_of_end (ends.Unsigned cut) = c.Unsigned
 code_of_end (ends.LeftOpen zone) = c.Open
-code_of_end (ends.Untold zone name t (Some e)) = code_of_refusal e
-code_of_end (ends.Untold zone name t None) = c.NothingTold
+code_of_end (ends.Untold zone ds name t (Some e)) = code_of_refusal e
+code_of_end (ends.Untold zone ds name t None) = c.NothingTold
 code_of_end (ends.Asks asks) = c.Ask
 code_of_end (ends.Wants ws) = c.Want
 code_of_end ends.TooManyCuts = c.TooManyCuts
@@ -47,7 +53,7 @@ octets_of_end (ends.Leads (lead.To n)) = wire n
 octets_of_end (ends.Leads lead.TooLong) = []
 octets_of_end (ends.Unsigned cut) = wire cut
 octets_of_end (ends.LeftOpen zone) = wire zone
-octets_of_end (ends.Untold zone name t e) = question_octets zone name t
+octets_of_end (ends.Untold zone ds name t e) = question_octets zone name t
 octets_of_end (ends.Asks asks) = []
 octets_of_end (ends.Wants ws) = []
 octets_of_end ends.TooManyCuts = []
@@ -62,12 +68,49 @@ most_of number = if number == 0 then 256 else number
 abbrev pub are_too_many : ℕ → ℕ → ℕ → Bool
 are_too_many most checked more = nat_lt (most_of most) (checked + more)
 
--- What is replied to an end: signatures that are asked for as entries, or that they are too many; messages that are wanted, one behind
--- another; what else is said behind the names that aliases lead through.
-abbrev pub IsEndSaid : ℕ → ℕ → List Name → Ending → Replied → Type 0
-IsEndSaid most checked through (ends.Asks asks) said = AsksOrStops (are_too_many most checked (length asks.items)) asks.items said
-IsEndSaid most checked through (ends.Wants ws) said = said ≡ record (only c.Want) { octets = flat_map wanted_octets ws.items }
-IsEndSaid most checked through ending said = said ≡ record (only (code_of_end ending)) { octets = names_octets through ++ octets_of_end ending }
+-- ---- extended errors
 
-abbrev pub IsSaid : ℕ → ℕ → Walk → Replied → Type 0
-IsSaid most checked w said = IsEndSaid most checked w.through.items w.ending said
+-- a question for a name and a type, of the class that was asked for
+abbrev pub sought_of : Asked → Name → ℕ → Asked
+sought_of asked name t = record { name = name; rtype = t; class = asked.class }
+
+-- Why a zone's answer to a question is refused, as a judgement of its messages says it (RFC 8914); 0 where these are not there.
+abbrev pub IsErrorOf : Given → Name → List Ds → Asked → Refusal → ℕ → Type 0
+IsErrorOf e zone ds sought refusal error =
+    ((h : JudgeInput) × IsOf e zone ds sought h × (error ≡ error_of h e.table refusal)) ⊎ ((is_lacking e zone sought ≡ true) × (error ≡ 0))
+
+-- an end that is a refusal brings its error, and no other end one
+abbrev pub IsErrorOfEnd : Given → Asked → Ending → ℕ → Type 0
+IsErrorOfEnd e asked (ends.Untold zone ds name t (Some refusal)) error = IsErrorOf e zone ds.items (sought_of asked name t) refusal error
+IsErrorOfEnd e asked _ error = error ≡ 0
+
+-- ---- replies
+
+-- What is replied to an end with an error: what it says behind the names that aliases lead through, how long that lasts from a moment
+-- in seconds on, and how often was verified and hashed.
+abbrev pub end_reply : ℕ → Walk → ℕ → Replied
+end_reply second w error = record {
+  code = code_of_end w.ending;
+  octets = names_octets w.through.items ++ octets_of_end w.ending;
+  verifications = w.counts.verifications;
+  hashes = w.counts.hashes;
+  ttl = ttl_of w.lasting;
+  until = until_of second w.lasting;
+  ede = error;
+  delegates = 0;
+}
+
+pub record IsEndReplied (second : ℕ) (e : Given) (asked : Asked) (w : Walk) (said : Replied) : Type 0 where
+  pub error : ℕ
+  pub is_error : IsErrorOfEnd e asked w.ending error
+  pub is : said ≡ end_reply second w error
+
+-- What is replied to a walk: signatures that are asked for as entries, or that they are too many; messages that are wanted, one
+-- behind another; or its end.
+abbrev pub IsEndSaid : ℕ → ℕ → ℕ → Given → Asked → Walk → Ending → Replied → Type 0
+IsEndSaid second most checked e asked w (ends.Asks asks) said = AsksOrStops (are_too_many most checked (length asks.items)) asks.items said
+IsEndSaid second most checked e asked w (ends.Wants ws) said = said ≡ record (only c.Want) { octets = flat_map wanted_octets ws.items }
+IsEndSaid second most checked e asked w ending said = IsEndReplied second e asked w said
+
+abbrev pub IsSaid : ℕ → ℕ → ℕ → Given → Asked → Walk → Replied → Type 0
+IsSaid second most checked e asked w said = IsEndSaid second most checked e asked w w.ending said

@@ -2,32 +2,42 @@
 ghost use Rattle.std.specs.Prelude.{◌≡◌, ◌++◌, ◌+◌, length, nat_lt, IfOk, OnOk};
 ghost use Rattle.std.specs.List.{flat_map};
 ghost use Rattle.definitions.specs.Name.{wire};
+ghost use Rattle.messages.specs.Questions.{asked_of};
 ghost use Rattle.answer_judge_octets.specs.Replying.{only, reply_seen};
-ghost use Rattle.resolution_octets.specs.Saying.{IsSaid, code_of_end, most_of, names_octets};
-ghost use Rattle.resolution_octets.specs.Saying.{octets_of_end, question_octets};
+ghost use Rattle.resolution_octets.specs.Saying.{IsEndReplied, IsErrorOf, IsErrorOfEnd, IsSaid};
+ghost use Rattle.resolution_octets.specs.Saying.{code_of_end, most_of, names_octets};
+ghost use Rattle.resolution_octets.specs.Saying.{octets_of_end, question_octets, sought_of};
 ghost use Rattle.resolution_octets.specs.Saying.{wanted_octets};
 
 use answer_findings::Lead;
 use answer_judge_octets::ReplyCode;
+use answer_judge_octets::errors::error_of;
 use answer_judge_octets::reply::{
-    Reply, code_of_refusal, code_of_verdict, octets_of_verdict, reply_of_asks,
+    Reply, code_of_refusal, code_of_verdict, octets_of_verdict, reply_of_asks, ttl_of, until_of,
 };
-use messages::names::{Name, ZoneName};
+use denial_data::Ds;
+use messages::names::{Name, ZoneName, copy_name};
+use messages::question::Question;
 use names_rdata::rtype::Rtype;
-use resolution_walk::{Ending, Walk, Wanted};
+use resolution_walk::{Ending, Evidence, Refusal, Walk, Wanted, case_of};
 use std::alloc::{AllocError, Global};
 
 /// How many signatures may be checked where a caller says no number.
 const MOST_SIGNATURES: u32 = 256;
 
-/// The reply to what a walk says beside a table of so many signatures.
+/// The reply to what a walk over evidence says of a question, at a moment in seconds and beside a
+/// table of so many signatures.
 pub(crate) fn reply_of_walk(
     alloc: Global,
+    second: u64,
     most: u32,
     checked: usize,
+    evidence: &Evidence,
+    question: &Question,
     walk: &Walk,
 ) -> Result<Reply, AllocError>
-    ensures { IfOk result (λ r. IsSaid most checked walk.now (reply_seen r)) }
+    ensures { let e = evidence.now in let asked = asked_of question.now in
+        IfOk result (λ r. IsSaid second most checked e asked walk.now (reply_seen r)) }
 {
     match &walk.ending {
         Ending::Asks(asks) => {
@@ -38,10 +48,109 @@ pub(crate) fn reply_of_walk(
             let octets = octets_of_wanted(alloc, wanted)?;
             Ok(replied(alloc, ReplyCode::Want, octets))
         }
-        ending => {
-            let octets = octets_of_walk(alloc, &walk.through, ending)?;
-            Ok(replied(alloc, code_of_end(ending), octets))
-        }
+        _ => end_replied(alloc, second, evidence, question, walk),
+    }
+}
+
+/// The reply to an end: how long it lasts and what was counted for it, and the extended error of a
+/// refusal.
+fn end_replied(
+    alloc: Global,
+    second: u64,
+    evidence: &Evidence,
+    question: &Question,
+    walk: &Walk,
+) -> Result<Reply, AllocError>
+    ensures { let e = evidence.now in let asked = asked_of question.now in
+        IfOk result (λ r. IsEndReplied second e asked walk.now (reply_seen r)) }
+{
+    let octets = octets_of_walk(alloc, &walk.through, &walk.ending)?;
+    let ede = error_of_end(alloc, evidence, question, &walk.ending)?;
+    Ok(Reply {
+        code: code_of_end(&walk.ending),
+        octets,
+        verifications: walk.counts.verifications,
+        hashes: walk.counts.hashes,
+        ttl: ttl_of(walk.lasting),
+        until: until_of(second, walk.lasting),
+        ede,
+        delegates: 0,
+    })
+}
+
+/// The extended error of an end that is a refusal; 0 of another end.
+fn error_of_end(
+    alloc: Global,
+    evidence: &Evidence,
+    question: &Question,
+    ending: &Ending,
+) -> Result<u16, AllocError>
+    ensures { let e = evidence.now in let asked = asked_of question.now in
+        IfOk result (IsErrorOfEnd e asked ending.now) }
+{
+    match ending {
+        Ending::Untold {
+            zone,
+            ds,
+            name,
+            rtype,
+            refusal: Some(refusal),
+        } => error_of_answer(alloc, evidence, question, zone, ds, name, *rtype, *refusal),
+        _ => Ok(0),
+    }
+}
+
+/// The extended error of a zone's answer to a question for a name and a type, of the class that was
+/// asked for.
+fn error_of_answer(
+    alloc: Global,
+    evidence: &Evidence,
+    question: &Question,
+    zone: &Name<Vec<u8>>,
+    ds: &[Ds<Vec<u8>>],
+    name: &Name<Vec<u8>>,
+    rtype: Rtype,
+    refusal: Refusal,
+) -> Result<u16, AllocError>
+    ensures { let sought = sought_of (asked_of question.now) name.now rtype in
+        IfOk result (IsErrorOf evidence.now zone.now ds.now sought refusal) }
+{
+    let sought = sought_of(alloc, question, name, rtype)?;
+    refused(alloc, evidence, zone, ds, &sought, refusal)
+}
+
+/// A question for a name and a type, of the class that was asked for.
+fn sought_of(
+    alloc: Global,
+    question: &Question,
+    name: &Name<Vec<u8>>,
+    rtype: Rtype,
+) -> Result<Question, AllocError>
+    ensures { let asked = asked_of question.now in
+        IfOk result (λ q. asked_of q ≡ sought_of asked name.now rtype) }
+{
+    Ok(Question {
+        name: copy_name(alloc, name)?,
+        rtype,
+        class: question.class,
+    })
+}
+
+/// Why a zone's answer to a question is refused, as an extended error.
+fn refused(
+    alloc: Global,
+    evidence: &Evidence,
+    zone: &Name<Vec<u8>>,
+    ds: &[Ds<Vec<u8>>],
+    sought: &Question,
+    refusal: Refusal,
+) -> Result<u16, AllocError>
+    ensures { let asked = asked_of sought.now in
+        IfOk result (IsErrorOf evidence.now zone.now ds.now asked refusal) }
+{
+    match case_of(evidence, zone, ds, sought) {
+        Some(case) => error_of(alloc, &case, evidence.table, refusal),
+        None => Ok(0),
     }
 }
 

@@ -2,19 +2,19 @@
 ghost use Rattle.std.specs.Prelude.{◌≡◌, IfOk};
 ghost use Rattle.answer_judge_rules.specs.Rules.{verdict_of};
 ghost use Rattle.answer_findings.specs.Seen.{seen};
-ghost use Rattle.resolution_step.specs.Told.{IsCutTold, cut_said, cut_searched, cut_told};
-ghost use Rattle.resolution_step.specs.Told.{search_of, told};
+ghost use Rattle.resolution_step.specs.Told.{IsCutFound, IsCutTelling, cut_said, cut_told, told};
 ghost use Rattle.resolution_step.specs.Truth.{TellsCutTruly};
 
 use crate::canonical::canonical_name;
 use crate::known::bound;
-use crate::telling::Step;
+use crate::telling::{Counts, Step, Telling};
 use answer_findings::{Case, CheckedSignature, Finding, Found, Verdict, find};
 use messages::names::Name;
 use std::alloc::{AllocError, Global};
 
 /// Says what a message tells of a delegation at a name, which a case asks DS for. It is the way
-/// down, or unsigned, or there is none at the name or above it.
+/// down, or unsigned, or there is none at the name or above it. With it comes how long that lasts,
+/// and how often was verified and hashed for it.
 ///
 /// A name without DS is a delegation only where NS records show it: an empty set alone is not
 /// insecure. An alias at the name means that no delegation is there (RFC 4035, 3.1.4.1).
@@ -27,9 +27,10 @@ pub fn cut_step(
     case: &Case,
     table: &[CheckedSignature],
     algorithms: &[u8],
-) -> Result<Step, AllocError>
-    ensures told { IfOk result (λ s. IsCutTold algorithms.now table.now case.now (told s)) }
-    ensures honest { IfOk result (λ s. TellsCutTruly algorithms.now table.now case.now (told s)) }
+) -> Result<Telling, AllocError>
+    ensures told { IfOk result (IsCutTelling algorithms.now table.now case.now) }
+    ensures honest { let h = case.now in
+        IfOk result (λ t. TellsCutTruly algorithms.now table.now h (told t.step)) }
 {
     let found = find(alloc, case, table)?;
     searched_cut(alloc, algorithms, &case.question.name, found)
@@ -41,14 +42,44 @@ fn searched_cut(
     algorithms: &[u8],
     name: &Name<Vec<u8>>,
     found: Found,
-) -> Result<Step, AllocError>
-    ensures { let came = search_of found in
-        IfOk result (λ s. told s ≡ cut_searched algorithms.now name.now came) }
+) -> Result<Telling, AllocError>
+    ensures { IfOk result (IsCutFound algorithms.now name.now found) }
 {
     match found {
-        Found::Finds { finding, .. } => cut_found(alloc, algorithms, name, finding),
-        Found::Refused { refusal, .. } => Ok(Step::Untold(Some(refusal))),
-        Found::Asks(asks) => Ok(Step::Asks(asks)),
+        Found::Finds {
+            finding,
+            lasting,
+            verifications,
+            hashes,
+        } => {
+            let step = cut_found(alloc, algorithms, name, finding)?;
+            let counts = Counts {
+                verifications,
+                hashes,
+            };
+            Ok(Telling {
+                step,
+                lasting,
+                counts,
+            })
+        }
+        Found::Refused {
+            refusal,
+            verifications,
+            hashes,
+        } => Ok(Telling {
+            step: Step::Untold(Some(refusal)),
+            lasting: None,
+            counts: Counts {
+                verifications,
+                hashes,
+            },
+        }),
+        Found::Asks(asks) => Ok(Telling {
+            step: Step::Asks(asks),
+            lasting: None,
+            counts: Counts::none(),
+        }),
     }
 }
 

@@ -12,5 +12,5 @@ pub mod telling;
 
 pub use crate::cuts::cut_step;
 pub use crate::steps::step;
-pub use crate::telling::Step;
-pub use answer_findings::{Ask, Case, CheckedSignature, Lead, Refusal, Verdict};
+pub use crate::telling::{Counts, Step, Telling, least_of};
+pub use answer_findings::{Ask, Case, CheckedSignature, Lasting, Lead, Refusal, Verdict};

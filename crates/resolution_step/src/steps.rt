@@ -4,21 +4,25 @@ ghost use Rattle.messages.specs.Questions.{asked_of};
 ghost use Rattle.answer_judge_rules.specs.Rules.{verdict_of};
 ghost use Rattle.answer_findings.specs.Judgements.{asking, aside};
 ghost use Rattle.answer_findings.specs.Seen.{seen};
-ghost use Rattle.resolution_step.specs.Told.{IsCutTold, IsSearchTold, IsSeenTold, IsTold, IsToldAt};
-ghost use Rattle.resolution_step.specs.Told.{at_cut, referral_told, search_of, told, verdict_told};
+ghost use Rattle.resolution_step.specs.Told.{IsCutTelling, IsFoundTelling, IsSeenTelling};
+ghost use Rattle.resolution_step.specs.Told.{IsTelling, IsTellingAt, at_cut, referral_told, told};
+ghost use Rattle.resolution_step.specs.Told.{verdict_told};
 ghost use Rattle.resolution_step.specs.Truth.{TellsTruly};
 
 use crate::cuts::cut_step;
 use crate::known::bound;
-use crate::telling::Step;
-use answer_findings::{Case, CheckedSignature, DataList, Finding, Found, Lead, Verdict, find};
+use crate::telling::{Counts, Step, Telling, least_of};
+use answer_findings::{
+    Case, CheckedSignature, DataList, Finding, Found, Lasting, Lead, Verdict, find,
+};
 use messages::names::{Name, ToName};
 use messages::question::Question;
 use names_rdata::rtype::Rtype;
 use std::alloc::{AllocError, Global};
 
 /// Says what a message of a zone tells of a question: the zone's verdict, where the name leads as
-/// an alias, the way down to the zone below, or from where on nothing is signed.
+/// an alias, the way down to the zone below, or from where on nothing is signed. With it comes how
+/// long that lasts, and how often was verified and hashed for it.
 ///
 /// A referral is proved by its DS records, or by a denial that the delegation has any; the message
 /// of a name that is delegated is judged for these too. So there are at most eight judgements a
@@ -32,9 +36,10 @@ pub fn step(
     case: &Case,
     table: &[CheckedSignature],
     algorithms: &[u8],
-) -> Result<Step, AllocError>
-    ensures told { IfOk result (λ s. IsTold algorithms.now table.now case.now (told s)) }
-    ensures honest { IfOk result (λ s. TellsTruly algorithms.now table.now case.now (told s)) }
+) -> Result<Telling, AllocError>
+    ensures told { IfOk result (IsTelling algorithms.now table.now case.now) }
+    ensures honest { let h = case.now in
+        IfOk result (λ t. TellsTruly algorithms.now table.now h (told t.step)) }
 {
     let found = find(alloc, case, table)?;
     searched_step(alloc, case, table, algorithms, found)
@@ -47,14 +52,39 @@ fn searched_step(
     table: &[CheckedSignature],
     algorithms: &[u8],
     found: Found,
-) -> Result<Step, AllocError>
-    ensures { let came = search_of found in
-        IfOk result (λ s. IsSearchTold algorithms.now table.now case.now came (told s)) }
+) -> Result<Telling, AllocError>
+    ensures { IfOk result (IsFoundTelling algorithms.now table.now case.now found) }
 {
     match found {
-        Found::Finds { finding, .. } => finding_step(alloc, case, table, algorithms, finding),
-        Found::Refused { refusal, .. } => Ok(Step::Untold(Some(refusal))),
-        Found::Asks(asks) => Ok(Step::Asks(asks)),
+        Found::Finds {
+            finding,
+            lasting,
+            verifications,
+            hashes,
+        } => {
+            let counts = Counts {
+                verifications,
+                hashes,
+            };
+            finding_step(alloc, case, table, algorithms, finding, lasting, counts)
+        }
+        Found::Refused {
+            refusal,
+            verifications,
+            hashes,
+        } => Ok(Telling {
+            step: Step::Untold(Some(refusal)),
+            lasting: None,
+            counts: Counts {
+                verifications,
+                hashes,
+            },
+        }),
+        Found::Asks(asks) => Ok(Telling {
+            step: Step::Asks(asks),
+            lasting: None,
+            counts: Counts::none(),
+        }),
     }
 }
 
@@ -66,36 +96,58 @@ fn finding_step(
     table: &[CheckedSignature],
     algorithms: &[u8],
     finding: Finding,
-) -> Result<Step, AllocError>
+    lasting: Option<Lasting>,
+    counts: Counts,
+) -> Result<Telling, AllocError>
     ensures { let x = seen finding in
-        IfOk result (λ s. IsSeenTold algorithms.now table.now case.now x (told s)) }
+        IfOk result (IsSeenTelling algorithms.now table.now case.now x lasting counts) }
 {
     match finding {
-        Finding::Verdict(verdict) => Ok(verdict_step(verdict)),
-        Finding::Delegated(Some(cut)) => delegated_step(alloc, case, table, algorithms, cut),
-        Finding::Delegated(None) => Ok(Step::Untold(None)),
-        Finding::NoDs(_) => Ok(Step::Answer(Verdict::NoType)),
-        Finding::Alias(target) => Ok(Step::Leads(Lead::To(target))),
-        Finding::WildcardAlias(target) => Ok(Step::Leads(Lead::To(target))),
-        Finding::Dname { leads, .. } => Ok(Step::Leads(leads)),
+        Finding::Delegated(Some(cut)) => {
+            delegated_step(alloc, case, table, algorithms, cut, lasting, counts)
+        }
+        Finding::Delegated(None) => Ok(lasts(Step::Untold(None), lasting, counts)),
+        Finding::Verdict(verdict) => Ok(lasts(verdict_step(verdict), lasting, counts)),
+        Finding::NoDs(_) => Ok(lasts(Step::Answer(Verdict::NoType), lasting, counts)),
+        Finding::Alias(target) => Ok(lasts(Step::Leads(Lead::To(target)), lasting, counts)),
+        Finding::WildcardAlias(target) => Ok(lasts(Step::Leads(Lead::To(target)), lasting, counts)),
+        Finding::Dname { leads, .. } => Ok(lasts(Step::Leads(leads), lasting, counts)),
         Finding::Referral { cut, ds } => {
-            referral_step(alloc, case.question, algorithms, &cut, &ds)
-        },
+            let step = referral_step(alloc, case.question, algorithms, &cut, &ds)?;
+            Ok(lasts(step, lasting, counts))
+        }
     }
 }
 
-/// What the message tells of DS at a delegation that is proved.
+/// A step that lasts so long, and was counted so.
+fn lasts(step: Step, lasting: Option<Lasting>, counts: Counts) -> Telling
+    ensures step { told result.step ≡ told step }
+    ensures lasting { result.lasting ≡ lasting }
+    ensures counts { result.counts ≡ counts }
+{
+    Telling {
+        step,
+        lasting,
+        counts,
+    }
+}
+
+/// What the message tells of DS at a delegation that is proved. It lasts as long as both do.
 fn delegated_step(
     alloc: Global,
     case: &Case,
     table: &[CheckedSignature],
     algorithms: &[u8],
     cut: Name<Vec<u8>>,
-) -> Result<Step, AllocError>
-    ensures { IfOk result (λ s. IsToldAt algorithms.now table.now case.now cut (told s)) }
+    lasting: Option<Lasting>,
+    counts: Counts,
+) -> Result<Telling, AllocError>
+    ensures { IfOk result (IsTellingAt algorithms.now table.now case.now cut lasting counts) }
 {
     let below = ds_step(alloc, case, table, algorithms, cut)?;
-    Ok(at_cut(below))
+    let both = least_of(lasting, below.lasting);
+    let sums = counts.plus(below.counts);
+    Ok(lasts(at_cut(below.step), both, sums))
 }
 
 /// What the case's messages tell of a delegation at another name.
@@ -105,9 +157,9 @@ fn ds_step(
     table: &[CheckedSignature],
     algorithms: &[u8],
     name: Name<Vec<u8>>,
-) -> Result<Step, AllocError>
+) -> Result<Telling, AllocError>
     ensures { let h = aside case.now (asking case.now name 43) in
-        IfOk result (λ s. IsCutTold algorithms.now table.now h (told s)) }
+        IfOk result (IsCutTelling algorithms.now table.now h) }
 {
     let question = Question {
         name,

@@ -1,5 +1,9 @@
 //! What a message tells.
-use answer_findings::{Ask, Lead, Refusal, Verdict};
+ghost use Rattle.std.specs.Prelude.{◌≡◌};
+ghost use Rattle.answer_findings.specs.Lasts.{least, least_of};
+ghost use Rattle.resolution_step.specs.Counted.{no_counts, plus};
+
+use answer_findings::{Ask, Lasting, Lead, Refusal, Verdict};
 use denial_data::Ds;
 use messages::names::Name;
 
@@ -27,4 +31,62 @@ pub enum Step {
     Untold(Option<Refusal>),
     /// The table does not have these signatures.
     Asks(Vec<Ask>),
+}
+
+/// What a message tells, how long that lasts, and how often was verified and hashed for it.
+#[derive(Debug, Drop)]
+pub struct Telling {
+    pub step: Step,
+    /// The least of what it rests on; none where nothing is found.
+    pub lasting: Option<Lasting>,
+    pub counts: Counts,
+}
+
+/// How often was verified and hashed.
+#[derive(Clone, Copy, Debug, PartialEq, Eq)]
+pub struct Counts {
+    pub verifications: u64,
+    pub hashes: u64,
+}
+
+impl Counts {
+    /// Nothing was verified or hashed.
+    pub fn none() -> Counts
+        ensures { result ≡ no_counts }
+    {
+        Counts {
+            verifications: 0,
+            hashes: 0,
+        }
+    }
+
+    /// These and others. A sum that 64 bits do not hold is the last number that they do.
+    pub fn plus(self, other: Counts) -> Counts
+        ensures { result ≡ plus self other }
+    {
+        Counts {
+            verifications: self.verifications.saturating_add(other.verifications),
+            hashes: self.hashes.saturating_add(other.hashes),
+        }
+    }
+}
+
+/// How long what rests on both lasts, where they say it.
+pub fn least_of(one: Option<Lasting>, other: Option<Lasting>) -> Option<Lasting>
+    ensures { result ≡ least_of one other }
+{
+    match (one, other) {
+        (Some(one), Some(other)) => Some(least(one, other)),
+        (Some(one), None) => Some(one),
+        (None, other) => other,
+    }
+}
+
+fn least(one: Lasting, other: Lasting) -> Lasting
+    ensures { result ≡ least one other }
+{
+    Lasting {
+        ttl: one.ttl.min(other.ttl),
+        seconds: one.seconds.min(other.seconds),
+    }
 }

@@ -1,3 +1,3 @@
-pub mod Wanting
+pub mod Stopping
 pub mod Onward
 pub mod Truly

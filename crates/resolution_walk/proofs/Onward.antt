@@ -1,6 +1,7 @@
--- Where evidence leads, turn by turn.
+-- Where evidence leads, turn by turn, and how long that lasts.
 use Rattle.std.proofs.Common.{◌≡◌, ◌<◌, length, arith, Bool, ◌||◌, true, false, ◌&&◌, List, [], ◌∷◌, ◌++◌, Option, Some, None, Result, Ok, Err, IfOk, refl, sym, ap, subst, ◌∙◌, append-nil, append_assoc, drop}
-use Rattle.std.specs.Prelude.{◌==◌, IfSome, MatchResult}
+use Rattle.std.specs.Prelude.{◌==◌, IfNone, IfSome, MatchOption, MatchResult}
+use Rattle.std.specs.Option.{is_some}
 use Rattle.std.specs.declared.alloc.AllocError.{AllocError}
 use Rattle.std.proofs.lemmas.Bool.{false≢true}
 use Rattle.std.proofs.lemmas.Option.{none-some}
@@ -12,63 +13,72 @@ use Rattle.denial_laws.proofs.NameFacts.{above_trans, strictly_at}
 use Rattle.messages.specs.Message.{Asked}
 use Rattle.resolution_tree.specs.Tree.{Said, Secure, Unsigned, LeftOpen, Leads, leads_on}
 use Rattle.answer_judge_keys.specs.Judging.{JudgeInput}
-use Rattle.resolution_evidence.specs.Told.{StepSeen, IsCutTold, IsTold, at_cut, told}
-use Rattle.resolution_evidence.specs.Step.{Step}
+use Rattle.answer_judge_keys.specs.declared.verdict.Lasting.{Lasting}
+use Rattle.resolution_evidence.specs.Counts.{Counts}
+use Rattle.resolution_evidence.specs.Lasts.{least_of}
+use Rattle.resolution_evidence.specs.Told.{StepSeen, IsCutTelling, IsTelling, at_cut, told}
+use Rattle.resolution_evidence.specs.Telling.{Telling}
 use Rattle.resolution_evidence.specs.Given.{Given, IsOf}
 use Rattle.resolution_evidence.specs.Walking.{Onward, GoesDown, EndsIn, Stops, IsOnward, ByQuestion, ByName, IsOwnStep, IsNameStep, Tells, Ends, Goes, Follows, AtOnce, Led, ds_at, is_asked_of, onward, renamed}
-use Rattle.resolution_walk.specs.Ended.{IsWay, IsTurn, IsEnding, IsFollowed, IsWalked, ends_in, leads_to, onward_of, said_of}
-use Rattle.resolution_walk.specs.Wanted.{EndsHere, EndsWanting, IsBetween, IsLed, IsParent}
-use Rattle.resolution_walk.proofs.Wanting.{wants_at_once}
+use Rattle.resolution_walk.specs.Ended.{IsWay, IsTurn, IsEnding, IsFollowed, IsWalked, LastsIfSaid, ends_in, lasting_said, leads_to, onward_of, said_of}
+use Rattle.resolution_walk.specs.Stopping.{EndsHere, IsAliasOf, IsLed, IsNoAlias, StopsIn}
+use Rattle.resolution_walk.specs.Stopping as stopping
+use Rattle.resolution_walk.specs.Wanted.{IsBetween, IsParent}
+use Rattle.resolution_walk.specs.declared.ending.End.{End}
 use Rattle.resolution_walk.specs.declared.ending.Ending.{Ending}
-use Rattle.resolution_walk.specs.declared.ending.Turn.{Turn}
+use Rattle.resolution_walk.specs.declared.ending.Ending.TheVariants as ends
+use Rattle.resolution_walk.specs.declared.ending.Taken.{Taken}
+use Rattle.resolution_walk.specs.declared.ending.Target.{Target}
 use Rattle.resolution_walk.specs.declared.ending.Walk.{Walk}
 
 module _ (e : Given) (asked : Asked) (zone : Name) (ds : List Ds) where
-  any_way : (o : Onward) → IsOnward e asked zone ds o → IsWay e asked zone ds o
-  any_way (GoesDown c below) x = x
-  any_way (EndsIn said) x = x
-  any_way Stops x = tt
+  any_way : (o : Onward) (l : Option Lasting) → IsOnward e asked zone ds o l → IsWay e asked zone ds o l
+  any_way (GoesDown c below) l x = x
+  any_way (EndsIn said) l x = x
+  any_way Stops l x = tt
 
-  -- an ending that says nothing
-  pub nowhere : (o : Option Said) → o ≡ None → IsWay e asked zone ds (ends_in o)
-  nowhere o n = subst (λ x. IsWay e asked zone ds (ends_in x)) (sym n) tt
+  own_way : (said : StepSeen) (o : Onward) (l : Option Lasting) (n : Counts) → IsOwnStep e zone ds asked said l n → o ≡ onward zone said → IsWay e asked zone ds o l
+  own_way said o l n k is = any_way o l (ByQuestion said n k is)
 
-  pub by_question : (said : StepSeen) (o : Onward) → IsOwnStep e zone ds asked said → o ≡ onward zone said → IsWay e asked zone ds o
-  by_question said o k is = any_way o (ByQuestion said k is)
+  name_way : (q : Asked) (said cut_said : StepSeen) (o : Onward) (l : Option Lasting) (n : Counts) → IsBetween zone asked q → IsNameStep e zone ds q said l n → cut_said ≡ at_cut said → o ≡ onward zone cut_said → IsWay e asked zone ds o l
+  name_way q said cut_said o l n b k at is =
+      any_way o l (ByName b.name said n b.below b.above b.other (subst (λ x. IsNameStep e zone ds x said l n) b.is k) (is ∙ ap (onward zone) at))
 
-  pub by_name : (n : Name) (q : Asked) (said cut_said : StepSeen) (o : Onward) → q ≡ ds_at asked n → strictly_above zone n ≡ true → at_or_above n asked.name ≡ true → (same n asked.name && (asked.rtype == 43)) ≡ false
-      → IsNameStep e zone ds q said → cut_said ≡ at_cut said → o ≡ onward zone cut_said → IsWay e asked zone ds o
-  by_name n q said cut_said o by below above other k at is = any_way o (ByName n said below above other (subst (λ x. IsNameStep e zone ds x said) by k) (is ∙ ap (onward zone) at))
+  lasting_way : (t : Taken) (l : Option Lasting) → t.lasting ≡ l → IsWay e asked zone ds (onward_of t.turn) l → IsTurn e asked zone ds t
+  lasting_way t l is way = subst (IsWay e asked zone ds (onward_of t.turn)) (sym is) way
 
-  pub turned_own : (h : JudgeInput) (said now : StepSeen) (r : Result Turn AllocError) → IsOf e zone ds asked h → IsTold e.algorithms e.table h said → now ≡ said
-      → IfOk r (λ t. onward_of t ≡ onward zone now) → IfOk r (IsTurn e asked zone ds)
-  turned_own h said now (Ok t) of is same leads = by_question said (onward_of t) (record { judged = h; of = of; told_is = is }) (leads ∙ ap (onward zone) same)
-  turned_own h said now (Err x) of is same leads = tt
+  pub turned_own : (h : JudgeInput) (t : Telling) (now : StepSeen) (r : Result Taken AllocError) → IsOf e zone ds asked h → IsTelling e.algorithms e.table h t → now ≡ told t.step
+      → IfOk r (λ x. onward_of x.turn ≡ onward zone now) → IfOk r (λ x. x.lasting ≡ t.lasting) → IfOk r (IsTurn e asked zone ds)
+  turned_own h t now (Ok x) of is same leads lasts =
+      lasting_way x t.lasting lasts (own_way (told t.step) (onward_of x.turn) t.lasting t.counts (record { judged = h; of = of; told_is = is }) (leads ∙ ap (onward zone) same))
+  turned_own h t now (Err x) of is same leads lasts = tt
 
-  pub turned_at : (q : Asked) (h : JudgeInput) (said now : StepSeen) (r : Result (Option Turn) AllocError) → IsBetween zone asked q → IsOf e zone ds q h → IsCutTold e.algorithms e.table h said → now ≡ at_cut said
-      → IfOk r (λ o. IfSome o (λ t. onward_of t ≡ onward zone now)) → IfOk r (λ o. IfSome o (IsTurn e asked zone ds))
-  turned_at q h said now (Ok (Some t)) k of is cut leads =
-      by_name k.name q said now (onward_of t) k.is k.below k.above k.other (record { judged = h; of = of; told_is = is }) cut leads
-  turned_at q h said now (Ok None) k of is cut leads = tt
-  turned_at q h said now (Err x) k of is cut leads = tt
+  pub turned_at : (q : Asked) (h : JudgeInput) (t : Telling) (now : StepSeen) (r : Result (Result Taken Counts) AllocError) → IsBetween zone asked q → IsOf e zone ds q h → IsCutTelling e.algorithms e.table h t
+      → now ≡ at_cut (told t.step) → IfOk r (λ x. MatchResult x (λ y. onward_of y.turn ≡ onward zone now) (λ n. ⊥)) → IfOk r (λ x. IfOk x (λ y. y.lasting ≡ t.lasting)) → IfOk r (λ x. IfOk x (IsTurn e asked zone ds))
+  turned_at q h t now (Ok (Ok x)) b of is cut leads lasts =
+      lasting_way x t.lasting lasts (name_way q (told t.step) now (onward_of x.turn) t.lasting t.counts b (record { judged = h; of = of; told_is = is }) cut leads)
+  turned_at q h t now (Ok (Err n)) b of is cut leads lasts = tt
+  turned_at q h t now (Err x) b of is cut leads lasts = tt
 
-  pub stopped : (r : Result Turn AllocError) → IfOk r (λ t. onward_of t ≡ Stops) → IfOk r (IsTurn e asked zone ds)
-  stopped (Ok t) h = subst (IsWay e asked zone ds) (sym h) tt
+  pub stopped : (r : Result Taken AllocError) → IfOk r (λ t. onward_of t.turn ≡ Stops) → IfOk r (IsTurn e asked zone ds)
+  stopped (Ok t) h = subst (λ (o : Onward). IsWay e asked zone ds o t.lasting) (sym h) tt
   stopped (Err x) h = tt
 
   -- ---- ends
 
-  pub ends_so : (o : Option Said) → IsWay e asked zone ds (ends_in o) → IfSome o (λ s. Tells e asked s zone ds)
-  ends_so None x = tt
-  ends_so (Some s) x = Ends x
+  pub ends_so : (o : Option Said) (l : Option Lasting) → IsWay e asked zone ds (ends_in o) l → IfSome o (λ s. Tells e asked s zone ds l)
+  ends_so None l x = tt
+  ends_so (Some s) l x = Ends x
 
-  pub goes_so : (c : Name) (below : List Ds) (o : Option Said) → IsOnward e asked zone ds (GoesDown c below) → IfSome o (λ s. Tells e asked s c below) → IfSome o (λ s. Tells e asked s zone ds)
-  goes_so c below None x rest = tt
-  goes_so c below (Some s) x rest = Goes x rest
+  goes_so : (c : Name) (below : List Ds) (first rest all : Option Lasting) (o : Option Said) → IsOnward e asked zone ds (GoesDown c below) first → all ≡ least_of first rest → IfSome o (λ s. Tells e asked s c below rest)
+      → IfSome o (λ s. Tells e asked s zone ds all)
+  goes_so c below first rest all None x lasts more = tt
+  goes_so c below first rest all (Some s) x lasts more = Goes x more lasts
 
-  pub goes_in : (c : Name) (below : List Ds) (r : Result Ending AllocError) → IsOnward e asked zone ds (GoesDown c below) → IfOk r (IsEnding e asked c below) → IfOk r (IsEnding e asked zone ds)
-  goes_in c below (Ok ending) x rest = goes_so c below (said_of ending) x rest
-  goes_in c below (Err error) x rest = tt
+  pub goes_in : (c : Name) (below : List Ds) (first : Option Lasting) (end all : End) → IsOnward e asked zone ds (GoesDown c below) first → IsEnding e asked c below end
+      → all.ending ≡ end.ending → all.lasting ≡ least_of first end.lasting → IsEnding e asked zone ds all
+  goes_in c below first end all x more same lasts =
+      subst (λ (g : Ending). IfSome (said_of g) (λ s. Tells e asked s zone ds all.lasting)) (sym same) (goes_so c below first end.lasting all.lasting (said_of end.ending) x lasts more)
 
 -- ---- aliases
 
@@ -79,44 +89,109 @@ no_lead (LeftOpen n) h = refl
 no_lead (Leads (To n)) h = absurd (none-some n (sym h))
 no_lead (Leads TooLong) h = refl
 
-pub says_here : (e : Given) (asked : Asked) (o : Option Said) → is_asked_of e.anchor asked ≡ true → IfSome o (λ s. Tells e asked s e.anchor e.ds) → leads_to o ≡ None → IfSome o (λ s. Follows e s asked [])
-says_here e asked None w is l = tt
-says_here e asked (Some s) w is l = AtOnce w is (no_lead s l)
+says_here : (e : Given) (asked : Asked) (o : Option Said) (l : Option Lasting) → is_asked_of e.anchor asked ≡ true → IfSome o (λ s. Tells e asked s e.anchor e.ds l) → leads_to o ≡ None → IfSome o (λ s. Follows e s asked [] l)
+says_here e asked None l w is leads = tt
+says_here e asked (Some s) l w is leads = AtOnce w is (no_lead s leads)
 
--- an ending with no aliases, behind those so far
-pub walk_ends : (e : Given) (asked : Asked) (before : List Name) (o : Option Said) → IfSome o (λ s. Follows e s asked []) → IfSome o (IsFollowed e asked before before)
-walk_ends e asked before None f = tt
-walk_ends e asked before (Some s) f = record { names = []; through_are = sym (append-nil before); follows = f }
+at_once : (e : Given) (asked : Asked) (before : List Name) (o : Option Said) (l : Option Lasting) → IfSome o (λ s. Follows e s asked [] l) → IfSome o (IsFollowed e asked before before l)
+at_once e asked before None l f = tt
+at_once e asked before (Some s) l f = record { names = []; through_are = sym (append-nil before); follows = f }
 
-led_so : (e : Given) (asked : Asked) (n : Name) (before through : List Name) (s : Said) → is_asked_of e.anchor asked ≡ true → Tells e asked (Leads (To n)) e.anchor e.ds
-    → IsFollowed e (renamed asked n) (before ++ n ∷ []) through s → IsFollowed e asked before through s
-led_so e asked n before through s w x k = record { names = n ∷ k.names; through_are = k.through_are ∙ append_assoc before (n ∷ []) k.names; follows = Led w x k.follows }
+-- an end with no aliases, behind those so far
+pub walk_ends : (e : Given) (asked : Asked) (before : List Name) (end : End) (w : Walk) → IfSome (said_of end.ending) (λ s. Follows e s asked [] end.lasting)
+    → w.ending ≡ end.ending → w.through.items ≡ before → w.lasting ≡ end.lasting → IsWalked e asked before w
+walk_ends e asked before end w f same through lasts =
+    let by_end : IfSome (said_of end.ending) (IsFollowed e asked before before end.lasting) = at_once e asked before (said_of end.ending) end.lasting f in
+    let by_ending : IfSome (said_of w.ending) (IsFollowed e asked before before end.lasting) =
+    subst (λ (g : Ending). IfSome (said_of g) (IsFollowed e asked before before end.lasting)) (sym same) by_end in
+    let by_names : IfSome (said_of w.ending) (IsFollowed e asked before w.through.items end.lasting) =
+    subst (λ (ns : List Name). IfSome (said_of w.ending) (IsFollowed e asked before ns end.lasting)) (sym through) by_ending in
+    subst (λ (l : Option Lasting). IfSome (said_of w.ending) (IsFollowed e asked before w.through.items l)) (sym lasts) by_names
 
-pub walk_led : (e : Given) (asked : Asked) (n : Name) (before : List Name) (r : Result Walk AllocError) → is_asked_of e.anchor asked ≡ true → Tells e asked (Leads (To n)) e.anchor e.ds
-    → IfOk r (IsWalked e (renamed asked n) (before ++ n ∷ [])) → IfOk r (IsWalked e asked before)
-walk_led e asked n before (Ok w) at x k = go (said_of w.ending) k
-  where
-    go : (o : Option Said) → IfSome o (IsFollowed e (renamed asked n) (before ++ n ∷ []) w.through.items) → IfSome o (IsFollowed e asked before w.through.items)
-    go None k = tt
-    go (Some s) k = led_so e asked n before w.through.items s at x k
-walk_led e asked n before (Err error) at x k = tt
+-- the limit allows no alias more
+pub walk_many : (e : Given) (asked : Asked) (before : List Name) (w : Walk) → w.ending ≡ ends.TooManyAliases → IsWalked e asked before w
+walk_many e asked before w same = subst (λ (g : Ending). IfSome (said_of g) (IsFollowed e asked before w.through.items w.lasting)) (sym same) tt
 
-pub lead_is : (e : Given) (asked : Asked) (n : Name) (o : Option Said) → o ≡ Some (Leads (To n)) → IfSome o (λ s. Tells e asked s e.anchor e.ds) → Tells e asked (Leads (To n)) e.anchor e.ds
-lead_is e asked n o h is = subst (λ x. IfSome x (λ s. Tells e asked s e.anchor e.ds)) h is
+module _ (e : Given) (asked : Asked) (counts : Counts) (t : Target) (k : IsLed e asked counts t) (before longer : List Name) (longer_are : longer ≡ before ++ t.name ∷ []) where
+  led_so : (through : List Name) (rest all : Option Lasting) (s : Said) → all ≡ least_of t.lasting rest → IsFollowed e (renamed asked t.name) longer through rest s → IsFollowed e asked before through all s
+  led_so through rest all s lasts f = record {
+    names = t.name ∷ f.names;
+    through_are = f.through_are ∙ ap (λ (ns : List Name). ns ++ f.names) longer_are ∙ append_assoc before (t.name ∷ []) f.names;
+    follows = Led k.asked_of_it k.tells f.follows lasts;
+  }
+
+  led_all : (through : List Name) (rest all : Option Lasting) (o : Option Said) → all ≡ least_of t.lasting rest → IfSome o (IsFollowed e (renamed asked t.name) longer through rest) → IfSome o (IsFollowed e asked before through all)
+  led_all through rest all None lasts f = tt
+  led_all through rest all (Some s) lasts f = led_so through rest all s lasts f
+
+  -- behind an alias
+  pub walk_led : (walk w : Walk) → IsWalked e (renamed asked t.name) longer walk → w.ending ≡ walk.ending → w.through.items ≡ walk.through.items → w.lasting ≡ least_of t.lasting walk.lasting → IsWalked e asked before w
+  walk_led walk w f same through lasts =
+      let all : IfSome (said_of walk.ending) (IsFollowed e asked before walk.through.items w.lasting) = led_all walk.through.items walk.lasting w.lasting (said_of walk.ending) lasts f in
+      let by_ending : IfSome (said_of w.ending) (IsFollowed e asked before walk.through.items w.lasting) =
+      subst (λ (g : Ending). IfSome (said_of g) (IsFollowed e asked before walk.through.items w.lasting)) (sym same) all in
+      subst (λ (ns : List Name). IfSome (said_of w.ending) (IsFollowed e asked before ns w.lasting)) (sym through) by_ending
+
+lead_is : (e : Given) (asked : Asked) (n : Name) (o : Option Said) (l : Option Lasting) → o ≡ Some (Leads (To n)) → IfSome o (λ s. Tells e asked s e.anchor e.ds l) → Tells e asked (Leads (To n)) e.anchor e.ds l
+lead_is e asked n o l h is = subst (λ (x : Option Said). IfSome x (λ s. Tells e asked s e.anchor e.ds l)) h is
 
 -- what a name's way ends in, by evidence as it is kept
-pub alias_told : (e kept : Given) (asked : Asked) (ending : Ending) (r : Result Name Ending) → kept ≡ e → is_asked_of e.anchor asked ≡ true
-    → IsEnding e asked kept.anchor kept.ds ending → EndsWanting e asked kept.anchor kept.ds ending
-    → MatchResult r (λ n. said_of ending ≡ Some (Leads (To n))) (λ x. (x ≡ ending) × (leads_to (said_of x) ≡ None)) → MatchResult r (IsLed e asked) (EndsHere e asked)
-alias_told e kept asked ending (Ok n) at w leads wants said =
-    record { asked_of_it = w; tells = lead_is e asked n (said_of ending) said (subst (λ (g : Given). IsEnding e asked g.anchor g.ds ending) at leads) }
-alias_told e kept asked ending (Err x) at w leads wants said =
-    let led : IsEnding e asked e.anchor e.ds ending = subst (λ (g : Given). IsEnding e asked g.anchor g.ds ending) at leads in
-    let wanting : EndsWanting e asked e.anchor e.ds ending = subst (λ (g : Given). EndsWanting e asked g.anchor g.ds ending) at wants in
+pub alias_told : (e kept : Given) (asked : Asked) (before : Counts) (end : End) (r : Result Target End) → kept ≡ e → is_asked_of e.anchor asked ≡ true
+    → IsEnding e asked kept.anchor kept.ds end → StopsIn e asked kept.anchor kept.ds before end
+    → MatchResult r (IsAliasOf end) (IsNoAlias end) → MatchResult r (IsLed e asked before) (EndsHere e asked before)
+alias_told e kept asked before end (Ok t) at w leads stops said =
+    let led : IsEnding e asked e.anchor e.ds end = subst (λ (g : Given). IsEnding e asked g.anchor g.ds end) at leads in
+    let here : StopsIn e asked e.anchor e.ds before end = subst (λ (g : Given). StopsIn e asked g.anchor g.ds before end) at stops in
     record {
-      says = says_here e asked (said_of x) w (subst (λ y. IsEnding e asked e.anchor e.ds y) (sym said.0) led) said.1;
-      wants = wants_at_once e asked x w (subst (λ y. EndsWanting e asked e.anchor e.ds y) (sym said.0) wanting);
+      asked_of_it = w;
+      tells = subst (Tells e asked (Leads (To t.name)) e.anchor e.ds) (sym said.lasts) (lead_is e asked t.name (said_of end.ending) end.lasting said.says led);
+      ending = end.ending;
+      stops = subst (stopping.Stops e asked end.ending e.anchor e.ds before) (sym said.counts_are) here;
     }
+alias_told e kept asked before end (Err x) at w leads stops said =
+    let led : IsEnding e asked e.anchor e.ds end = subst (λ (g : Given). IsEnding e asked g.anchor g.ds end) at leads in
+    let here : StopsIn e asked e.anchor e.ds before end = subst (λ (g : Given). StopsIn e asked g.anchor g.ds before end) at stops in
+    let led_x : IsEnding e asked e.anchor e.ds x = subst (IsEnding e asked e.anchor e.ds) (sym said.0) led in
+    record {
+      says = says_here e asked (said_of x.ending) x.lasting w led_x said.1;
+      stops = stopping.AtOnce w (subst (StopsIn e asked e.anchor e.ds before) (sym said.0) here);
+    }
+
+-- ---- what says nothing
+
+pub kept_said : (o : Option Said) (l : Option Lasting) → is_some o ≡ true → l ≡ lasting_said o l
+kept_said (Some s) l is = refl
+kept_said None l is = absurd (false≢true is)
+
+pub kept_unsaid : (o : Option Said) (l : Option Lasting) → is_some o ≡ false → None ≡ lasting_said o l
+kept_unsaid None l is = refl
+kept_unsaid (Some s) l is = absurd (false≢true (sym is))
+
+-- a walk that lasts no time where it says nothing
+module _ (walk w : Walk) (same : w.ending ≡ walk.ending) (lasts : w.lasting ≡ lasting_said (said_of walk.ending) walk.lasting) where
+  pub settled_walked : (e : Given) (asked : Asked) → w.through.items ≡ walk.through.items → IsWalked e asked [] walk → IsWalked e asked [] w
+  settled_walked e asked through k =
+      let by_lasting : IfSome (said_of walk.ending) (IsFollowed e asked [] walk.through.items (lasting_said (said_of walk.ending) walk.lasting)) = go (said_of walk.ending) k in
+      let by_ending : IfSome (said_of w.ending) (IsFollowed e asked [] walk.through.items (lasting_said (said_of walk.ending) walk.lasting)) =
+      subst (λ (g : Ending). IfSome (said_of g) (IsFollowed e asked [] walk.through.items (lasting_said (said_of walk.ending) walk.lasting))) (sym same) by_lasting in
+      let by_names : IfSome (said_of w.ending) (IsFollowed e asked [] w.through.items (lasting_said (said_of walk.ending) walk.lasting)) =
+      subst (λ (ns : List Name). IfSome (said_of w.ending) (IsFollowed e asked [] ns (lasting_said (said_of walk.ending) walk.lasting))) (sym through) by_ending in
+      subst (λ (l : Option Lasting). IfSome (said_of w.ending) (IsFollowed e asked [] w.through.items l)) (sym lasts) by_names
+    where
+      go : (o : Option Said) → IfSome o (IsFollowed e asked [] walk.through.items walk.lasting) → IfSome o (IsFollowed e asked [] walk.through.items (lasting_said o walk.lasting))
+      go None k = tt
+      go (Some s) k = k
+
+  pub settled_lasts : LastsIfSaid w
+  settled_lasts =
+      let by_walk : IfNone (said_of walk.ending) (lasting_said (said_of walk.ending) walk.lasting ≡ None) = go (said_of walk.ending) in
+      let by_ending : IfNone (said_of w.ending) (lasting_said (said_of walk.ending) walk.lasting ≡ None) =
+      subst (λ (g : Ending). IfNone (said_of g) (lasting_said (said_of walk.ending) walk.lasting ≡ None)) (sym same) by_walk in
+      subst (λ (l : Option Lasting). IfNone (said_of w.ending) (l ≡ None)) (sym lasts) by_ending
+    where
+      go : (o : Option Said) → IfNone o (lasting_said o walk.lasting ≡ None)
+      go None = refl
+      go (Some s) = tt
 
 -- ---- names between
 
@@ -130,25 +205,27 @@ fewer (l ∷ n) some = omega arith
 
 parent_is : (n parent : Name) → (n ≡ [] → ⊥) → parent ≡ drop 1 n → IsParent n parent
 parent_is n parent some is = record {
+  is = is;
   shorter = subst (λ m. length m < length n) (sym is) (fewer n some);
   above = λ q a. subst (λ m. at_or_above m q ≡ true) (sym is) (above_dropped n q a);
 }
 
-pub parent_in : (n parent : Name) (r : Result (Option Name) AllocError) → (n ≡ [] → true ≡ false) → parent ≡ drop 1 n → IfOk r (λ o. IfSome o (λ m. m ≡ parent)) → IfOk r (λ o. IfSome o (IsParent n))
+pub parent_in : (n parent : Name) (r : Result (Option Name) AllocError) → (n ≡ [] → true ≡ false) → parent ≡ drop 1 n → IfOk r (λ o. MatchOption o ⊥ (λ m. m ≡ parent))
+    → IfOk r (λ o. MatchOption o (n ≡ []) (IsParent n))
 parent_in n parent (Ok (Some m)) some is copy = parent_is n m (λ e. false≢true (sym (some e))) (copy ∙ is)
-parent_in n parent (Ok None) some is copy = tt
+parent_in n parent (Ok None) some is copy = absurd copy
 parent_in n parent (Err x) some is copy = tt
 
 -- ---- what is judged
 
 -- by evidence as it is kept, and unless memory lacked
-pub own_told : (e kept : Given) (h : JudgeInput) (said : StepSeen) (r : Result Step AllocError) → kept ≡ e → IsTold kept.algorithms kept.table h said → IfOk r (λ s. told s ≡ said) → IfOk r (λ s. IsTold e.algorithms e.table h (told s))
-own_told e kept h said (Ok s) at is k = subst (IsTold e.algorithms e.table h) (sym k) (subst (λ (g : Given). IsTold g.algorithms g.table h said) at is)
-own_told e kept h said (Err x) at is k = tt
+pub own_told : (e kept : Given) (h : JudgeInput) (t : Telling) (r : Result Telling AllocError) → kept ≡ e → IsTelling kept.algorithms kept.table h t → IfOk r (λ x. x ≡ t) → IfOk r (IsTelling e.algorithms e.table h)
+own_told e kept h t (Ok x) at is k = subst (IsTelling e.algorithms e.table h) (sym k) (subst (λ (g : Given). IsTelling g.algorithms g.table h t) at is)
+own_told e kept h t (Err x) at is k = tt
 
-pub name_told : (e kept : Given) (h : JudgeInput) (said : StepSeen) (r : Result Step AllocError) → kept ≡ e → IsCutTold kept.algorithms kept.table h said → IfOk r (λ s. told s ≡ said) → IfOk r (λ s. IsCutTold e.algorithms e.table h (told s))
-name_told e kept h said (Ok s) at is k = subst (IsCutTold e.algorithms e.table h) (sym k) (subst (λ (g : Given). IsCutTold g.algorithms g.table h said) at is)
-name_told e kept h said (Err x) at is k = tt
+pub name_told : (e kept : Given) (h : JudgeInput) (t : Telling) (r : Result Telling AllocError) → kept ≡ e → IsCutTelling kept.algorithms kept.table h t → IfOk r (λ x. x ≡ t) → IfOk r (IsCutTelling e.algorithms e.table h)
+name_told e kept h t (Ok x) at is k = subst (IsCutTelling e.algorithms e.table h) (sym k) (subst (λ (g : Given). IsCutTelling g.algorithms g.table h t) at is)
+name_told e kept h t (Err x) at is k = tt
 
 pub or_right_true : (a b : Bool) → b ≡ true → (a || b) ≡ true
 or_right_true true b h = refl

@@ -1,16 +1,19 @@
 -- What a walk ends in, as it is kept.
-use Rattle.std.specs.Prelude.{◌≡◌, List, ◌++◌, Option, Some, None, IfSome}
+use Rattle.std.specs.Prelude.{◌≡◌, List, ◌++◌, Option, Some, None, IfNone, IfSome}
 use Rattle.definitions.specs.Dnskey.{Ds}
 use Rattle.definitions.specs.Name.{Name}
 use Rattle.denial_laws.specs.Leading.{To}
 use Rattle.messages.specs.Message.{Asked}
 use Rattle.answer_judge_rules.specs.Rules.{verdict_of}
+use Rattle.answer_judge_keys.specs.declared.verdict.Lasting.{Lasting}
 use Rattle.resolution_evidence.specs.Seen.{lead_seen}
 use Rattle.resolution_tree.specs.Tree.{Said, Secure, Unsigned, LeftOpen, Leads}
 use Rattle.resolution_evidence.specs.Given.{Given}
 use Rattle.resolution_evidence.specs.Walking.{Onward, GoesDown, EndsIn, Stops, IsOnward, Tells, Follows}
+use Rattle.resolution_walk.specs.declared.ending.End.{End}
 use Rattle.resolution_walk.specs.declared.ending.Ending.{Ending}
 use Rattle.resolution_walk.specs.declared.ending.Ending.TheVariants as ends
+use Rattle.resolution_walk.specs.declared.ending.Taken.{Taken}
 use Rattle.resolution_walk.specs.declared.ending.Turn.{Turn}
 use Rattle.resolution_walk.specs.declared.ending.Turn.TheVariants as turns
 use Rattle.resolution_walk.specs.declared.ending.Walk.{Walk}
@@ -36,23 +39,31 @@ abbrev pub onward_of : Turn → Onward
 onward_of (turns.Down c ds) = GoesDown c ds.items
 onward_of (turns.Ends ending) = ends_in (said_of ending)
 
--- a turn is where evidence leads, if anywhere
-abbrev pub IsWay : Given → Asked → Name → List Ds → Onward → Type 0
-IsWay e asked zone ds Stops = Unit {0}
-IsWay e asked zone ds o = IsOnward e asked zone ds o
+-- a turn is where evidence leads, if anywhere, and lasts as long
+abbrev pub IsWay : Given → Asked → Name → List Ds → Onward → Option Lasting → Type 0
+IsWay e asked zone ds Stops lasting = Unit {0}
+IsWay e asked zone ds o lasting = IsOnward e asked zone ds o lasting
 
-abbrev pub IsTurn : Given → Asked → Name → List Ds → Turn → Type 0
-IsTurn e asked zone ds turn = IsWay e asked zone ds (onward_of turn)
+abbrev pub IsTurn : Given → Asked → Name → List Ds → Taken → Type 0
+IsTurn e asked zone ds t = IsWay e asked zone ds (onward_of t.turn) t.lasting
 
-abbrev pub IsEnding : Given → Asked → Name → List Ds → Ending → Type 0
-IsEnding e asked zone ds ending = IfSome (said_of ending) (λ s. Tells e asked s zone ds)
+abbrev pub IsEnding : Given → Asked → Name → List Ds → End → Type 0
+IsEnding e asked zone ds end = IfSome (said_of end.ending) (λ s. Tells e asked s zone ds end.lasting)
 
 -- a walk follows aliases behind those so far
-pub record IsFollowed (e : Given) (asked : Asked) (before : List Name) (through : List Name) (said : Said) : Type 0 where
+pub record IsFollowed (e : Given) (asked : Asked) (before : List Name) (through : List Name) (lasting : Option Lasting) (said : Said) : Type 0 where
   pub names : List Name
   pub through_are : through ≡ before ++ names
-  pub follows : Follows e said asked names
+  pub follows : Follows e said asked names lasting
 
 -- an end of aliases is none that leads on
 abbrev pub IsWalked : Given → Asked → List Name → Walk → Type 0
-IsWalked e asked before w = IfSome (said_of w.ending) (IsFollowed e asked before w.through.items)
+IsWalked e asked before w = IfSome (said_of w.ending) (IsFollowed e asked before w.through.items w.lasting)
+
+-- what says nothing lasts no time
+abbrev pub lasting_said : Option Said → Option Lasting → Option Lasting
+lasting_said None lasting = None
+lasting_said (Some s) lasting = lasting
+
+abbrev pub LastsIfSaid : Walk → Type 0
+LastsIfSaid w = IfNone (said_of w.ending) (w.lasting ≡ None)

@@ -1,3 +1,5 @@
 pub mod Ended
 pub mod Wanted
+pub mod Judged
+pub mod Stopping
 pub mod Truth

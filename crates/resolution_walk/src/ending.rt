@@ -2,7 +2,7 @@
 use denial_data::Ds;
 use messages::names::Name;
 use names_rdata::rtype::Rtype;
-use resolution_evidence::{Ask, Lead, Refusal, Verdict};
+use resolution_evidence::{Ask, Counts, Lasting, Lead, Refusal, Verdict};
 
 /// A message that is wanted: of which zone, and the answer to which question.
 #[derive(Debug, Drop)]
@@ -28,9 +28,10 @@ pub enum Ending {
     /// Opt-out of this zone leaves the name open: it is insecure (RFC 5155, 6).
     LeftOpen(Name<Vec<u8>>),
     /// The zone's answer to this question tells nothing of the way: it is bogus, where it was
-    /// refused, or another answer is wanted.
+    /// refused, or another answer is wanted. The zone is judged by these DS records.
     Untold {
         zone: Name<Vec<u8>>,
+        ds: Vec<Ds<Vec<u8>>>,
         name: Name<Vec<u8>>,
         rtype: Rtype,
         refusal: Option<Refusal>,
@@ -58,9 +59,40 @@ pub(crate) enum Turn {
     Ends(Ending),
 }
 
+/// Where a zone's messages lead, how long that lasts, and how often was verified and hashed so far.
+#[derive(Debug, Drop)]
+pub(crate) struct Taken {
+    pub(crate) turn: Turn,
+    pub(crate) lasting: Option<Lasting>,
+    pub(crate) counts: Counts,
+}
+
+/// Where the way of one name ends, how long that lasts, and how often was verified and hashed so
+/// far.
+#[derive(Debug, Drop)]
+pub(crate) struct End {
+    pub(crate) ending: Ending,
+    pub(crate) lasting: Option<Lasting>,
+    pub(crate) counts: Counts,
+}
+
+/// The name that an alias leads to, how long that lasts, and how often was verified and hashed so
+/// far.
+#[derive(Debug, Drop)]
+pub(crate) struct Target {
+    pub(crate) name: Name<Vec<u8>>,
+    pub(crate) lasting: Option<Lasting>,
+    pub(crate) counts: Counts,
+}
+
 /// Where a walk ends, and the names that aliases lead through on the way.
 #[derive(Debug, Drop)]
 pub struct Walk {
     pub ending: Ending,
     pub through: Vec<Name<Vec<u8>>>,
+    /// How long what the walk says lasts: the least of all that it rests on, zone by zone and alias
+    /// by alias. None where it says neither secure nor insecure.
+    pub lasting: Option<Lasting>,
+    /// How often was verified and hashed, in all judgements of the walk.
+    pub counts: Counts,
 }

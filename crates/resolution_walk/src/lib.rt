@@ -13,5 +13,6 @@ pub mod walk;
 
 pub use crate::ending::{Ending, Walk, Wanted};
 pub use crate::evidence::{Evidence, Message};
+pub use crate::place::case_of;
 pub use crate::walk::{Limits, resolve};
-pub use resolution_evidence::{Ask, CheckedSignature, Refusal, Verdict};
+pub use resolution_evidence::{Ask, CheckedSignature, Counts, Lasting, Refusal, Verdict};

@@ -1,25 +1,29 @@
 //! DS at the names between a zone and a question's name, one by one.
-ghost use Rattle.std.specs.Prelude.{◌≡◌, ◌&&◌, ◌==◌, IfOk, IfSome, false, true};
+ghost use Rattle.std.specs.Prelude.{◌≡◌, ◌&&◌, ◌==◌, [], IfErr, IfOk, IfSome, MatchOption};
+ghost use Rattle.std.specs.Prelude.{MatchResult, false, true};
 ghost use Rattle.definitions.specs.Name.{at_or_above, same, strictly_above};
 ghost use Rattle.messages.specs.Questions.{asked_of};
 ghost use Rattle.resolution_evidence.specs.Told.{at_cut, told};
 ghost use Rattle.resolution_evidence.specs.Given.{IsOf};
 ghost use Rattle.resolution_evidence.specs.Walking.{ds_at, onward};
 ghost use Rattle.resolution_walk.specs.Ended.{IsTurn, onward_of};
-ghost use Rattle.resolution_walk.specs.Wanted.{IsBetween, IsParent, TurnWants, WantsLacking, WantsNothing};
+ghost use Rattle.resolution_walk.specs.Judged.{AreJudgedDown, IsJudgedAt, IsJudgedBelow};
+ghost use Rattle.resolution_walk.specs.Judged.{IsJudgedFor, counts_in};
+ghost use Rattle.resolution_walk.specs.Stopping.{IsStop, IsTurnedTo, WantsLacking, refusal_in};
+ghost use Rattle.resolution_walk.specs.Wanted.{IsBetween, IsParent};
 
-use crate::ending::Turn;
+use crate::ending::Taken;
 use crate::evidence::Evidence;
-use crate::place::{case_of, name_step, turned, wanting};
+use crate::place::{case_of, name_step, taken, wanting};
 use denial_data::Ds;
 use messages::names::{Name, ToName, copy_name, is_above};
 use messages::question::Question;
 use names_rdata::rtype::Rtype;
-use resolution_evidence::{Case, Step};
+use resolution_evidence::{Case, Counts, Lasting, Step};
 use std::alloc::{AllocError, Global};
 
-/// Where answers for DS lead, at the names below the zone down to a name, the topmost first; none
-/// where no delegation is at any of them.
+/// Where answers for DS lead, at the names below the zone down to a name, the topmost first; the
+/// counts so far alone where no delegation is at any of them.
 ///
 /// A server that holds parent and child answers from the child and sends no referral: so these
 /// questions alone show a delegation, and that an unsigned child is insecure.
@@ -30,28 +34,36 @@ pub(crate) fn at_names(
     ds: &[Ds<Vec<u8>>],
     question: &Question,
     name: &Name<Vec<u8>>,
-) -> Result<Option<Turn>, AllocError>
+    counts: Counts,
+) -> Result<Result<Taken, Counts>, AllocError>
     requires { at_or_above name.now question.now.name ≡ true }
     ensures leads { let asked = asked_of question.now in
-        IfOk result (λ o. IfSome o (IsTurn evidence.now asked zone.now ds.now)) }
-    ensures wants { let asked = asked_of question.now in
-        IfOk result (λ o. IfSome o (TurnWants evidence.now asked zone.now)) }
+        IfOk result (λ r. IfOk r (IsTurn evidence.now asked zone.now ds.now)) }
+    ensures stops { let asked = asked_of question.now in
+        IfOk result (λ r. IfOk r (IsStop evidence.now asked zone.now ds.now)) }
+    ensures counted { let below = IsJudgedBelow evidence.now (asked_of question.now) in
+        IfOk result (λ r. below zone.now ds.now counts (counts_in r)) }
+    ensures down { let down = AreJudgedDown evidence.now (asked_of question.now) in
+        IfOk result (λ r. IfErr r (down zone.now ds.now counts name.now)) }
 {
     if !is_above(zone, name) {
-        return Ok(None);
+        return Ok(Err(counts));
     }
-    let Some(parent) = parent_of(alloc, name)? else {
-        return Ok(None);
+    let above = parent_of(alloc, name)?;
+    let parent = match above {
+        Some(parent) => parent,
+        None => return Ok(Err(counts)),
     };
-    if let Some(turn) = at_names(alloc, evidence, zone, ds, question, &parent)? {
-        return Ok(Some(turn));
+    let way = at_names(alloc, evidence, zone, ds, question, &parent, counts)?;
+    match way {
+        Ok(taken) => Ok(Ok(taken)),
+        Err(sums) => at_name(alloc, evidence, zone, ds, question, name, sums),
     }
-    at_name(alloc, evidence, zone, ds, question, name)
 }
 
 /// The name without its first label; none for the root.
 fn parent_of(alloc: Global, name: &Name<Vec<u8>>) -> Result<Option<Name<Vec<u8>>>, AllocError>
-    ensures { IfOk result (λ o. IfSome o (IsParent name.now)) }
+    ensures { IfOk result (λ o. MatchOption o (name.now ≡ []) (IsParent name.now)) }
 {
     match name.parent() {
         Some(parent) => some_copy(alloc, &parent),
@@ -61,13 +73,13 @@ fn parent_of(alloc: Global, name: &Name<Vec<u8>>) -> Result<Option<Name<Vec<u8>>
 
 /// A copy of a name.
 fn some_copy(alloc: Global, name: &Name<&[u8]>) -> Result<Option<Name<Vec<u8>>>, AllocError>
-    ensures { IfOk result (λ o. IfSome o (λ n. n ≡ name.now)) }
+    ensures { IfOk result (λ o. MatchOption o ⊥ (λ n. n ≡ name.now)) }
 {
     let copy = copy_name(alloc, name)?;
     Ok(Some(copy))
 }
 
-/// Where the answer for DS at a name leads; none where no delegation is there.
+/// Where the answer for DS at a name leads; the counts so far alone where no delegation is there.
 fn at_name(
     alloc: Global,
     evidence: &Evidence,
@@ -75,18 +87,21 @@ fn at_name(
     ds: &[Ds<Vec<u8>>],
     question: &Question,
     name: &Name<Vec<u8>>,
-) -> Result<Option<Turn>, AllocError>
+    counts: Counts,
+) -> Result<Result<Taken, Counts>, AllocError>
     requires above { at_or_above name.now question.now.name ≡ true }
     requires below { strictly_above zone.now name.now ≡ true }
     ensures leads { let asked = asked_of question.now in
-        IfOk result (λ o. IfSome o (IsTurn evidence.now asked zone.now ds.now)) }
-    ensures wants { let asked = asked_of question.now in
-        IfOk result (λ o. IfSome o (TurnWants evidence.now asked zone.now)) }
+        IfOk result (λ r. IfOk r (IsTurn evidence.now asked zone.now ds.now)) }
+    ensures stops { let asked = asked_of question.now in
+        IfOk result (λ r. IfOk r (IsStop evidence.now asked zone.now ds.now)) }
+    ensures counted { let at = IsJudgedAt evidence.now (asked_of question.now) zone.now in
+        IfOk result (λ r. at ds.now name.now counts (counts_in r)) }
 {
     if is_itself(question, name) {
-        Ok(None)
+        Ok(Err(counts))
     } else {
-        at_other(alloc, evidence, zone, ds, question, name)
+        at_other(alloc, evidence, zone, ds, question, name, counts)
     }
 }
 
@@ -106,18 +121,21 @@ fn at_other(
     ds: &[Ds<Vec<u8>>],
     question: &Question,
     name: &Name<Vec<u8>>,
-) -> Result<Option<Turn>, AllocError>
+    counts: Counts,
+) -> Result<Result<Taken, Counts>, AllocError>
     requires above { at_or_above name.now question.now.name ≡ true }
     requires below { strictly_above zone.now name.now ≡ true }
     requires other { let asked = asked_of question.now in
         (same name.now asked.name && (asked.rtype == 43)) ≡ false }
     ensures leads { let asked = asked_of question.now in
-        IfOk result (λ o. IfSome o (IsTurn evidence.now asked zone.now ds.now)) }
-    ensures wants { let asked = asked_of question.now in
-        IfOk result (λ o. IfSome o (TurnWants evidence.now asked zone.now)) }
+        IfOk result (λ r. IfOk r (IsTurn evidence.now asked zone.now ds.now)) }
+    ensures stops { let asked = asked_of question.now in
+        IfOk result (λ r. IfOk r (IsStop evidence.now asked zone.now ds.now)) }
+    ensures counted { let sought = ds_at (asked_of question.now) name.now in
+        IfOk result (λ r. IsJudgedFor evidence.now zone.now ds.now sought counts (counts_in r)) }
 {
     let asked = ds_question(alloc, question, name)?;
-    at_asked(alloc, evidence, zone, ds, question, &asked)
+    at_asked(alloc, evidence, zone, ds, question, &asked, counts)
 }
 
 /// The question for DS at a name.
@@ -145,16 +163,19 @@ fn at_asked(
     ds: &[Ds<Vec<u8>>],
     question: &Question,
     asked: &Question,
-) -> Result<Option<Turn>, AllocError>
+    counts: Counts,
+) -> Result<Result<Taken, Counts>, AllocError>
     requires { IsBetween zone.now (asked_of question.now) (asked_of asked.now) }
     ensures leads { let asked = asked_of question.now in
-        IfOk result (λ o. IfSome o (IsTurn evidence.now asked zone.now ds.now)) }
-    ensures wants { let asked = asked_of question.now in
-        IfOk result (λ o. IfSome o (TurnWants evidence.now asked zone.now)) }
+        IfOk result (λ r. IfOk r (IsTurn evidence.now asked zone.now ds.now)) }
+    ensures stops { let asked = asked_of question.now in
+        IfOk result (λ r. IfOk r (IsStop evidence.now asked zone.now ds.now)) }
+    ensures counted { let sought = asked_of asked.now in
+        IfOk result (λ r. IsJudgedFor evidence.now zone.now ds.now sought counts (counts_in r)) }
 {
     match case_of(evidence, zone, ds, asked) {
-        Some(case) => by_cut(alloc, evidence, zone, ds, question, asked, &case),
-        None => wanting_there(alloc, evidence, zone, asked),
+        Some(case) => by_cut(alloc, evidence, zone, ds, question, asked, &case, counts),
+        None => wanting_there(alloc, evidence, zone, asked, counts),
     }
 }
 
@@ -164,15 +185,18 @@ fn wanting_there(
     evidence: &Evidence,
     zone: &Name<Vec<u8>>,
     asked: &Question,
-) -> Result<Option<Turn>, AllocError>
-    ensures { let asked = asked_of asked.now in
-        IfOk result (λ o. IfSome o (WantsLacking evidence.now zone.now asked)) }
+    counts: Counts,
+) -> Result<Result<Taken, Counts>, AllocError>
+    ensures wants { let wants = WantsLacking evidence.now zone.now (asked_of asked.now) in
+        IfOk result (λ r. MatchResult r (λ t. wants t.turn) (λ n. ⊥)) }
+    ensures counted { IfOk result (λ r. counts_in r ≡ counts) }
 {
-    let turn = wanting(alloc, evidence, zone, asked)?;
-    Ok(Some(turn))
+    let taken = wanting(alloc, evidence, zone, asked, counts)?;
+    Ok(Ok(taken))
 }
 
-/// Where a message that is judged for DS leads; none where it tells that no delegation is there.
+/// Where a message that is judged for DS leads; the counts so far alone where it tells that no
+/// delegation is there.
 fn by_cut(
     alloc: Global,
     evidence: &Evidence,
@@ -181,18 +205,23 @@ fn by_cut(
     question: &Question,
     asked: &Question,
     case: &Case,
-) -> Result<Option<Turn>, AllocError>
+    counts: Counts,
+) -> Result<Result<Taken, Counts>, AllocError>
     requires between { IsBetween zone.now (asked_of question.now) (asked_of asked.now) }
     requires of { IsOf evidence.now zone.now ds.now (asked_of asked.now) case.now }
     ensures leads { let asked = asked_of question.now in
-        IfOk result (λ o. IfSome o (IsTurn evidence.now asked zone.now ds.now)) }
-    ensures wants { let asked = asked_of question.now in
-        IfOk result (λ o. IfSome o (TurnWants evidence.now asked zone.now)) }
+        IfOk result (λ r. IfOk r (IsTurn evidence.now asked zone.now ds.now)) }
+    ensures stops { let asked = asked_of question.now in
+        IfOk result (λ r. IfOk r (IsStop evidence.now asked zone.now ds.now)) }
+    ensures counted { let sought = asked_of asked.now in
+        IfOk result (λ r. IsJudgedFor evidence.now zone.now ds.now sought counts (counts_in r)) }
 {
-    let step = name_step(alloc, evidence, case)?;
-    match at_cut(step) {
-        Some(step) => turned_there(alloc, zone, asked, step),
-        None => Ok(None),
+    let telling = name_step(alloc, evidence, case)?;
+    let lasting = telling.lasting;
+    let sums = counts.plus(telling.counts);
+    match at_cut(telling.step) {
+        Some(step) => taken_there(alloc, zone, ds, asked, step, lasting, sums),
+        None => Ok(Err(sums)),
     }
 }
 
@@ -207,16 +236,23 @@ fn at_cut(step: Step) -> Option<Step>
 }
 
 /// Where what a message tells of a delegation leads.
-fn turned_there(
+fn taken_there(
     alloc: Global,
     zone: &Name<Vec<u8>>,
+    ds: &[Ds<Vec<u8>>],
     asked: &Question,
     step: Step,
-) -> Result<Option<Turn>, AllocError>
+    lasting: Option<Lasting>,
+    counts: Counts,
+) -> Result<Result<Taken, Counts>, AllocError>
     ensures leads { let o = onward zone.now (told step) in
-        IfOk result (λ turn. IfSome turn (λ t. onward_of t ≡ o)) }
-    ensures wants { IfOk result (λ turn. IfSome turn (λ t. WantsNothing zone.now t)) }
+        IfOk result (λ r. MatchResult r (λ t. onward_of t.turn ≡ o) (λ n. ⊥)) }
+    ensures stops { let to = IsTurnedTo zone.now ds.now (asked_of asked.now) in
+        let r = refusal_in (told step) in
+        IfOk result (λ x. IfOk x (λ t. to r t.turn)) }
+    ensures lasts { IfOk result (λ r. IfOk r (λ t. t.lasting ≡ lasting)) }
+    ensures counted { IfOk result (λ r. counts_in r ≡ counts) }
 {
-    let turn = turned(alloc, zone, asked, step)?;
-    Ok(Some(turn))
+    let there = taken(alloc, zone, ds, asked, step, lasting, counts)?;
+    Ok(Ok(there))
 }

@@ -1,54 +1,69 @@
 //! What the messages of a zone on the way tell.
 ghost use Rattle.std.specs.Prelude.{◌≡◌, IfNone, IfOk, IfSome, Some, true};
 ghost use Rattle.messages.specs.Questions.{asked_of};
-ghost use Rattle.answer_judge_rules.specs.Rules.{verdict_of};
-ghost use Rattle.resolution_tree.specs.Tree.{LeftOpen, Secure};
-ghost use Rattle.resolution_evidence.specs.Told.{IsCutTold, IsTold, told};
+ghost use Rattle.resolution_evidence.specs.Told.{IsCutTelling, IsTelling, told};
 ghost use Rattle.resolution_evidence.specs.Given.{IsOf, message_of};
-ghost use Rattle.resolution_evidence.specs.Walking.{EndsIn, Stops, onward};
+ghost use Rattle.resolution_evidence.specs.Walking.{Stops, onward};
 ghost use Rattle.resolution_walk.specs.Ended.{onward_of};
-ghost use Rattle.resolution_walk.specs.Wanted.{WantsLacking, WantsNothing, is_lacking, lacking, wanted_of};
+ghost use Rattle.resolution_walk.specs.Stopping.{IsTurnedTo, WantsLacking, refusal_in};
+ghost use Rattle.resolution_walk.specs.Wanted.{is_lacking, lacking, wanted_of};
 
-use crate::ending::{Ending, Turn, Wanted};
+use crate::ending::{Ending, Taken, Turn, Wanted};
 use crate::evidence::Evidence;
 use denial_data::Ds;
 use messages::names::{Name, copy_name};
 use messages::question::Question;
 use names_rdata::rtype::Rtype;
-use resolution_evidence::{Case, Refusal, Step, Verdict, cut_step, step};
+use resolution_evidence::{Case, Counts, Lasting, Refusal, Step, Telling, cut_step, step};
 use std::alloc::{AllocError, Global};
 
 /// What the zone's answer to a question tells of it.
-pub(crate) fn own_step(alloc: Global, evidence: &Evidence, case: &Case) -> Result<Step, AllocError>
+pub(crate) fn own_step(
+    alloc: Global,
+    evidence: &Evidence,
+    case: &Case,
+) -> Result<Telling, AllocError>
     ensures { let e = evidence.now in
-        IfOk result (λ s. IsTold e.algorithms e.table case.now (told s)) }
+        IfOk result (IsTelling e.algorithms e.table case.now) }
 {
-    let step = step(alloc, case, evidence.table, evidence.algorithms)?;
-    unless_memory_lacked(step)
+    let telling = step(alloc, case, evidence.table, evidence.algorithms)?;
+    unless_memory_lacked(telling)
 }
 
 /// What the zone's answer to a question for DS tells of a delegation there.
-pub(crate) fn name_step(alloc: Global, evidence: &Evidence, case: &Case) -> Result<Step, AllocError>
+pub(crate) fn name_step(
+    alloc: Global,
+    evidence: &Evidence,
+    case: &Case,
+) -> Result<Telling, AllocError>
     ensures { let e = evidence.now in
-        IfOk result (λ s. IsCutTold e.algorithms e.table case.now (told s)) }
+        IfOk result (IsCutTelling e.algorithms e.table case.now) }
 {
-    let step = cut_step(alloc, case, evidence.table, evidence.algorithms)?;
-    unless_memory_lacked(step)
+    let telling = cut_step(alloc, case, evidence.table, evidence.algorithms)?;
+    unless_memory_lacked(telling)
 }
 
 /// What is told, unless memory lacked for that: no zone is bogus for this.
-fn unless_memory_lacked(step: Step) -> Result<Step, AllocError>
-    ensures { IfOk result (λ s. told s ≡ told step) }
+fn unless_memory_lacked(telling: Telling) -> Result<Telling, AllocError>
+    ensures { IfOk result (λ t. t ≡ telling) }
 {
+    if lacked_memory(&telling.step) {
+        Err(AllocError)
+    } else {
+        Ok(telling)
+    }
+}
+
+fn lacked_memory(step: &Step) -> bool {
     match step {
-        Step::Untold(Some(Refusal::Memory)) => Err(AllocError),
-        step => Ok(step),
+        Step::Untold(Some(Refusal::Memory)) => true,
+        _ => false,
     }
 }
 
 /// A zone's messages, to be judged for a question: its keys, and the answer. None where one of them
 /// is not there.
-pub(crate) fn case_of<'a>(
+pub fn case_of<'a>(
     evidence: &'a Evidence,
     zone: &'a Name<Vec<u8>>,
     ds: &'a [Ds<Vec<u8>>],
@@ -96,18 +111,24 @@ fn case_with<'a>(
 }
 
 /// The end where messages are wanted for a question of a zone: of its keys and the answer those
-/// that are not there.
+/// that are not there. None is judged for it.
 pub(crate) fn wanting(
     alloc: Global,
     evidence: &Evidence,
     zone: &Name<Vec<u8>>,
     question: &Question,
-) -> Result<Turn, AllocError>
-    ensures { let asked = asked_of question.now in
-        IfOk result (WantsLacking evidence.now zone.now asked) }
+    counts: Counts,
+) -> Result<Taken, AllocError>
+    ensures wants { let asked = asked_of question.now in
+        IfOk result (λ t. WantsLacking evidence.now zone.now asked t.turn) }
+    ensures counted { IfOk result (λ t. t.counts ≡ counts) }
 {
     let wanted = lacking(alloc, evidence, zone, question)?;
-    Ok(Turn::Ends(Ending::Wants(wanted)))
+    Ok(Taken {
+        turn: Turn::Ends(Ending::Wants(wanted)),
+        lasting: None,
+        counts,
+    })
 }
 
 /// What is not there of a zone's keys and its answer to a question.
@@ -146,62 +167,103 @@ fn wanted_of(
     })
 }
 
-/// Where what a zone's message tells leads.
-pub(crate) fn turned(
+/// Where what a zone's message tells leads, how long it lasts and what is counted so far.
+pub(crate) fn taken(
     alloc: Global,
     zone: &Name<Vec<u8>>,
+    ds: &[Ds<Vec<u8>>],
+    question: &Question,
+    step: Step,
+    lasting: Option<Lasting>,
+    counts: Counts,
+) -> Result<Taken, AllocError>
+    ensures leads { IfOk result (λ t. onward_of t.turn ≡ onward zone.now (told step)) }
+    ensures stops { let sought = asked_of question.now in let r = refusal_in (told step) in
+        IfOk result (λ t. IsTurnedTo zone.now ds.now sought r t.turn) }
+    ensures lasts { IfOk result (λ t. t.lasting ≡ lasting) }
+    ensures counted { IfOk result (λ t. t.counts ≡ counts) }
+{
+    let turn = turned(alloc, zone, ds, question, step)?;
+    Ok(Taken {
+        turn,
+        lasting,
+        counts,
+    })
+}
+
+/// Where what a zone's message tells leads.
+fn turned(
+    alloc: Global,
+    zone: &Name<Vec<u8>>,
+    ds: &[Ds<Vec<u8>>],
     question: &Question,
     step: Step,
 ) -> Result<Turn, AllocError>
     ensures leads { IfOk result (λ t. onward_of t ≡ onward zone.now (told step)) }
-    ensures wants { IfOk result (λ t. WantsNothing zone.now t) }
+    ensures stops { let sought = asked_of question.now in let r = refusal_in (told step) in
+        IfOk result (IsTurnedTo zone.now ds.now sought r) }
 {
     match step {
-        Step::Answer(verdict) => secure(alloc, zone, verdict),
+        Step::Answer(verdict) => {
+            let zone = copy_name(alloc, zone)?;
+            Ok(Turn::Ends(Ending::Secure { zone, verdict }))
+        }
         Step::Leads(lead) => Ok(Turn::Ends(Ending::Leads(lead))),
         Step::Down { cut, ds } => Ok(Turn::Down { zone: cut, ds }),
         Step::Unsigned(cut) => Ok(Turn::Ends(Ending::Unsigned(cut))),
-        Step::LeftOpen => left_open(alloc, zone),
-        Step::NoCut => untold(alloc, zone, question, None),
-        Step::Untold(refusal) => untold(alloc, zone, question, refusal),
+        Step::LeftOpen => {
+            let zone = copy_name(alloc, zone)?;
+            Ok(Turn::Ends(Ending::LeftOpen(zone)))
+        }
+        Step::NoCut => untold(alloc, zone, ds, question, None),
+        Step::Untold(refusal) => untold(alloc, zone, ds, question, refusal),
         Step::Asks(asks) => Ok(Turn::Ends(Ending::Asks(asks))),
     }
-}
-
-/// The end with a zone's verdict.
-fn secure(alloc: Global, zone: &Name<Vec<u8>>, verdict: Verdict) -> Result<Turn, AllocError>
-    ensures leads { IfOk result (λ t. onward_of t ≡ EndsIn (Secure zone.now (verdict_of verdict))) }
-    ensures wants { IfOk result (λ t. WantsNothing zone.now t) }
-{
-    let zone = copy_name(alloc, zone)?;
-    Ok(Turn::Ends(Ending::Secure { zone, verdict }))
-}
-
-/// The end where opt-out of a zone leaves a name open.
-fn left_open(alloc: Global, zone: &Name<Vec<u8>>) -> Result<Turn, AllocError>
-    ensures leads { IfOk result (λ t. onward_of t ≡ EndsIn (LeftOpen zone.now)) }
-    ensures wants { IfOk result (λ t. WantsNothing zone.now t) }
-{
-    let zone = copy_name(alloc, zone)?;
-    Ok(Turn::Ends(Ending::LeftOpen(zone)))
 }
 
 /// The end where a zone's answer to a question tells nothing of the way.
 pub(crate) fn untold(
     alloc: Global,
     zone: &Name<Vec<u8>>,
+    ds: &[Ds<Vec<u8>>],
     question: &Question,
     refusal: Option<Refusal>,
 ) -> Result<Turn, AllocError>
     ensures leads { IfOk result (λ t. onward_of t ≡ Stops) }
-    ensures wants { IfOk result (λ t. WantsNothing zone.now t) }
+    ensures stops { let sought = asked_of question.now in
+        IfOk result (IsTurnedTo zone.now ds.now sought refusal) }
 {
     let (zone, name) = (copy_name(alloc, zone)?, copy_name(alloc, &question.name)?);
+    let ds = copied_ds(alloc, ds)?;
     let rtype = question.rtype;
     Ok(Turn::Ends(Ending::Untold {
         zone,
+        ds,
         name,
         rtype,
         refusal,
     }))
+}
+
+/// A copy of DS records.
+fn copied_ds(alloc: Global, ds: &[Ds<Vec<u8>>]) -> Result<Vec<Ds<Vec<u8>>>, AllocError>
+    ensures { IfOk result (λ v. v.items ≡ ds.now) }
+{
+    let mut copied = Vec::new(alloc);
+    for one in ds {
+        copied.push(copied_one(alloc, one)?)?;
+    }
+    Ok(copied)
+}
+
+/// A copy of a DS record. Longer data than a record has room for, of which there is none, are
+/// refused as out of memory.
+fn copied_one(alloc: Global, ds: &Ds<Vec<u8>>) -> Result<Ds<Vec<u8>>, AllocError>
+    ensures { IfOk result (λ d. d ≡ ds.now) }
+{
+    let digest = ds.digest().to_vec(alloc)?;
+    match Ds::new(ds.key_tag(), ds.algorithm(), ds.digest_type(), digest) {
+        Ok(copy) => Ok(copy),
+        Err(_) => Err(AllocError),
+    }
 }

@@ -1,38 +1,44 @@
 //! Where the messages of a zone lead.
-ghost use Rattle.std.specs.Prelude.{◌≡◌, IfOk, IfSome};
+ghost use Rattle.std.specs.Prelude.{◌≡◌, IfOk, MatchResult};
 ghost use Rattle.messages.specs.Questions.{asked_of};
-ghost use Rattle.resolution_evidence.specs.Told.{told};
 ghost use Rattle.resolution_evidence.specs.Given.{IsOf};
-ghost use Rattle.resolution_walk.specs.Ended.{IsTurn};
-ghost use Rattle.resolution_walk.specs.Wanted.{TurnWants};
+ghost use Rattle.resolution_evidence.specs.Told.{TellsNothing, told};
+ghost use Rattle.resolution_evidence.specs.Walking.{Stops};
+ghost use Rattle.resolution_walk.specs.Ended.{IsTurn, onward_of};
+ghost use Rattle.resolution_walk.specs.Judged.{IsAnswerUntold, IsJudgedBelow, counts_in};
+ghost use Rattle.resolution_walk.specs.Stopping.{IsCounted, IsStop, IsTurnedTo};
 
-use crate::ending::Turn;
+use crate::ending::Taken;
 use crate::evidence::Evidence;
 use crate::names_between::at_names;
-use crate::place::{case_of, own_step, turned, untold, wanting};
+use crate::place::{case_of, own_step, taken, untold, wanting};
 use denial_data::Ds;
 use messages::names::Name;
 use messages::question::Question;
-use resolution_evidence::{Case, Refusal, Step};
+use resolution_evidence::{Case, Counts, Refusal, Step};
 use std::alloc::{AllocError, Global};
 
 /// Where the messages of a zone lead with a question: by the answer to it, and where that tells
-/// nothing of the way, by answers for DS at the names between.
+/// nothing of the way, by answers for DS at the names between. What is counted so far comes with
+/// it.
 pub(crate) fn in_zone(
     alloc: Global,
     evidence: &Evidence,
     zone: &Name<Vec<u8>>,
     ds: &[Ds<Vec<u8>>],
     question: &Question,
-) -> Result<Turn, AllocError>
+    counts: Counts,
+) -> Result<Taken, AllocError>
     ensures leads { let asked = asked_of question.now in
         IfOk result (IsTurn evidence.now asked zone.now ds.now) }
-    ensures wants { let asked = asked_of question.now in
-        IfOk result (TurnWants evidence.now asked zone.now) }
+    ensures stops { let asked = asked_of question.now in
+        IfOk result (IsStop evidence.now asked zone.now ds.now) }
+    ensures counted { let asked = asked_of question.now in
+        IfOk result (IsCounted evidence.now asked zone.now ds.now counts) }
 {
     match case_of(evidence, zone, ds, question) {
-        Some(case) => by_answer(alloc, evidence, zone, ds, question, &case),
-        None => wanting(alloc, evidence, zone, question),
+        Some(case) => by_answer(alloc, evidence, zone, ds, question, &case, counts),
+        None => wanting(alloc, evidence, zone, question, counts),
     }
 }
 
@@ -44,23 +50,28 @@ fn by_answer(
     ds: &[Ds<Vec<u8>>],
     question: &Question,
     case: &Case,
-) -> Result<Turn, AllocError>
+    counts: Counts,
+) -> Result<Taken, AllocError>
     requires { IsOf evidence.now zone.now ds.now (asked_of question.now) case.now }
     ensures leads { let asked = asked_of question.now in
         IfOk result (IsTurn evidence.now asked zone.now ds.now) }
-    ensures wants { let asked = asked_of question.now in
-        IfOk result (TurnWants evidence.now asked zone.now) }
+    ensures stops { let asked = asked_of question.now in
+        IfOk result (IsStop evidence.now asked zone.now ds.now) }
+    ensures counted { let asked = asked_of question.now in
+        IfOk result (IsCounted evidence.now asked zone.now ds.now counts) }
 {
-    let step = own_step(alloc, evidence, case)?;
-    match told_way(step) {
-        Ok(step) => turned(alloc, zone, question, step),
-        Err(refusal) => between(alloc, evidence, zone, ds, question, refusal),
+    let telling = own_step(alloc, evidence, case)?;
+    let (lasting, own) = (telling.lasting, telling.counts);
+    let sums = counts.plus(own);
+    match told_way(telling.step) {
+        Ok(step) => taken(alloc, zone, ds, question, step, lasting, sums),
+        Err(refusal) => between(alloc, evidence, zone, ds, question, refusal, counts, own),
     }
 }
 
 /// What is told, or why nothing is.
 fn told_way(step: Step) -> Result<Step, Option<Refusal>>
-    ensures { IfOk result (λ s. told s ≡ told step) }
+    ensures { MatchResult result (λ s. told s ≡ told step) (λ r. told step ≡ TellsNothing r) }
 {
     match step {
         Step::Untold(refusal) => Err(refusal),
@@ -68,7 +79,8 @@ fn told_way(step: Step) -> Result<Step, Option<Refusal>>
     }
 }
 
-/// Where answers for DS lead at the names between; or nowhere, if no delegation is there.
+/// Where answers for DS lead at the names between; or nowhere, if no delegation is there. The
+/// answer to the question tells nothing, and has counts of its own.
 fn between(
     alloc: Global,
     evidence: &Evidence,
@@ -76,16 +88,45 @@ fn between(
     ds: &[Ds<Vec<u8>>],
     question: &Question,
     refusal: Option<Refusal>,
-) -> Result<Turn, AllocError>
+    counts: Counts,
+    own: Counts,
+) -> Result<Taken, AllocError>
+    requires { IsAnswerUntold evidence.now (asked_of question.now) zone.now ds.now refusal own }
     ensures leads { let asked = asked_of question.now in
         IfOk result (IsTurn evidence.now asked zone.now ds.now) }
-    ensures wants { let asked = asked_of question.now in
-        IfOk result (TurnWants evidence.now asked zone.now) }
+    ensures stops { let asked = asked_of question.now in
+        IfOk result (IsStop evidence.now asked zone.now ds.now) }
+    ensures counted { let asked = asked_of question.now in
+        IfOk result (IsCounted evidence.now asked zone.now ds.now counts) }
 {
-    match down_between(alloc, evidence, zone, ds, question, &refusal)? {
-        Some(turn) => Ok(turn),
-        None => untold(alloc, zone, question, refusal),
+    let sums = counts.plus(own);
+    let way = down_between(alloc, evidence, zone, ds, question, &refusal, sums)?;
+    match way {
+        Ok(taken) => Ok(taken),
+        Err(counts) => untold_there(alloc, zone, ds, question, refusal, counts),
     }
+}
+
+/// The end where the answer to a question tells nothing, with what is counted so far.
+fn untold_there(
+    alloc: Global,
+    zone: &Name<Vec<u8>>,
+    ds: &[Ds<Vec<u8>>],
+    question: &Question,
+    refusal: Option<Refusal>,
+    counts: Counts,
+) -> Result<Taken, AllocError>
+    ensures leads { IfOk result (λ t. onward_of t.turn ≡ Stops) }
+    ensures stops { let sought = asked_of question.now in
+        IfOk result (λ t. IsTurnedTo zone.now ds.now sought refusal t.turn) }
+    ensures counted { IfOk result (λ t. t.counts ≡ counts) }
+{
+    let turn = untold(alloc, zone, ds, question, refusal)?;
+    Ok(Taken {
+        turn,
+        lasting: None,
+        counts,
+    })
 }
 
 /// Where answers for DS lead at the names between. None is looked at if the zone's keys are
@@ -97,16 +138,19 @@ fn down_between(
     ds: &[Ds<Vec<u8>>],
     question: &Question,
     refusal: &Option<Refusal>,
-) -> Result<Option<Turn>, AllocError>
+    counts: Counts,
+) -> Result<Result<Taken, Counts>, AllocError>
     ensures leads { let asked = asked_of question.now in
-        IfOk result (λ o. IfSome o (IsTurn evidence.now asked zone.now ds.now)) }
-    ensures wants { let asked = asked_of question.now in
-        IfOk result (λ o. IfSome o (TurnWants evidence.now asked zone.now)) }
+        IfOk result (λ r. IfOk r (IsTurn evidence.now asked zone.now ds.now)) }
+    ensures stops { let asked = asked_of question.now in
+        IfOk result (λ r. IfOk r (IsStop evidence.now asked zone.now ds.now)) }
+    ensures counted { let below = IsJudgedBelow evidence.now (asked_of question.now) in
+        IfOk result (λ r. below zone.now ds.now counts (counts_in r)) }
 {
     if are_keys_refused(refusal) {
-        Ok(None)
+        Ok(Err(counts))
     } else {
-        at_names(alloc, evidence, zone, ds, question, &question.name)
+        at_names(alloc, evidence, zone, ds, question, &question.name, counts)
     }
 }
 

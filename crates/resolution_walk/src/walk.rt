@@ -1,21 +1,24 @@
 //! The way from a trust anchor down.
 ghost use Rattle.std.specs.Prelude.{◌≡◌, ◌++◌, [], ◌∷◌, IfOk, MatchResult, None, Some, true};
-ghost use Rattle.denial_laws.specs.Leading.{To};
-ghost use Rattle.resolution_tree.specs.Tree.{Leads};
+ghost use Rattle.std.specs.Option.{is_some};
 ghost use Rattle.messages.specs.Questions.{asked_of};
-ghost use Rattle.resolution_walk.specs.Truth.{WalksTruly};
+ghost use Rattle.resolution_evidence.specs.Counted.{no_counts};
+ghost use Rattle.resolution_evidence.specs.Lasts.{least_of};
 ghost use Rattle.resolution_evidence.specs.Walking.{is_asked_of};
-ghost use Rattle.resolution_walk.specs.Ended.{IsEnding, IsTurn, IsWalked, leads_to, said_of};
-ghost use Rattle.resolution_walk.specs.Wanted.{EndsHere, EndsWanting, IsLed, TurnWants, WalkWants};
+ghost use Rattle.resolution_walk.specs.Ended.{IsEnding, IsWalked, LastsIfSaid, lasting_said};
+ghost use Rattle.resolution_walk.specs.Ended.{said_of};
+ghost use Rattle.resolution_walk.specs.Stopping.{EndsHere, IsAliasOf, IsLed, IsNoAlias};
+ghost use Rattle.resolution_walk.specs.Stopping.{StopsIn, WalkStops};
+ghost use Rattle.resolution_walk.specs.Truth.{WalksTruly};
 
-use crate::ending::{Ending, Turn, Walk};
+use crate::ending::{End, Ending, Taken, Target, Turn, Walk};
 use crate::evidence::Evidence;
 use crate::turns::in_zone;
 use denial_data::Ds;
 use messages::names::{Name, ToName, copy_name, is_at_or_above};
 use messages::question::Question;
 use names_rdata::rtype::Rtype;
-use resolution_evidence::Lead;
+use resolution_evidence::{Counts, Lasting, Lead, least_of};
 use std::alloc::{AllocError, Global};
 
 /// How far a walk goes.
@@ -38,6 +41,11 @@ pub struct Limits {
 /// to: of its keys and its answer. For one name a message is judged once, so that the judgements
 /// grow with the messages and not with their square.
 ///
+/// What is said lasts as long as each step of the way, through all zones and aliases; what says
+/// neither secure nor insecure lasts no time. The counts are those of all judgements that are made:
+/// in each zone on the way of the answer to the question, and of those for DS at the names between
+/// that are looked at.
+///
 /// Where nothing in the evidence is forged, zone by zone, beside an anchor of the tree, this is what
 /// the tree says: secure with the verdict of the zone that has the name, insecure below a
 /// delegation that the tree leaves unsigned or where opt-out leaves the name open, through the
@@ -50,14 +58,61 @@ pub fn resolve(
 ) -> Result<Walk, AllocError>
     ensures walked { let asked = asked_of question.now in
         IfOk result (IsWalked evidence.now asked []) }
-    ensures wants { let asked = asked_of question.now in
-        IfOk result (WalkWants evidence.now asked []) }
+    ensures stops { let asked = asked_of question.now in
+        IfOk result (WalkStops evidence.now asked [] no_counts) }
+    ensures lasts { IfOk result LastsIfSaid }
     ensures honest { let asked = asked_of question.now in
         IfOk result (WalksTruly evidence.now asked) }
 {
     let asked = copied(alloc, question)?;
     let through = Vec::new(alloc);
-    follow(alloc, evidence, asked, through, limits.cuts, limits.aliases)
+    let counts = Counts::none();
+    let walk = follow(
+        alloc,
+        evidence,
+        asked,
+        through,
+        limits.cuts,
+        limits.aliases,
+        counts,
+    )?;
+    Ok(lasting_if_said(walk))
+}
+
+/// The walk; where it says nothing, it lasts no time.
+fn lasting_if_said(walk: Walk) -> Walk
+    ensures ending { result.ending ≡ walk.ending }
+    ensures through { result.through ≡ walk.through }
+    ensures lasts { result.lasting ≡ lasting_said (said_of walk.ending) walk.lasting }
+    ensures counts { result.counts ≡ walk.counts }
+{
+    if says(&walk.ending) {
+        walk
+    } else {
+        with_no_lasting(walk)
+    }
+}
+
+fn with_no_lasting(walk: Walk) -> Walk
+    ensures ending { result.ending ≡ walk.ending }
+    ensures through { result.through ≡ walk.through }
+    ensures lasts { result.lasting ≡ None }
+    ensures counts { result.counts ≡ walk.counts }
+{
+    let mut walk = walk;
+    walk.lasting = None;
+    walk
+}
+
+/// Whether an ending says secure or insecure.
+fn says(ending: &Ending) -> bool
+    ensures { result ≡ is_some (said_of ending.now) }
+{
+    match ending {
+        Ending::Secure { .. } | Ending::Leads(_) => true,
+        Ending::Unsigned(_) | Ending::LeftOpen(_) => true,
+        _ => false,
+    }
 }
 
 /// A copy of a question.
@@ -72,8 +127,8 @@ fn copied(alloc: Global, question: &Question) -> Result<Question, AllocError>
     })
 }
 
-/// Says what evidence tells of a question, behind the aliases so far.
-#[cycle(aliases)]
+/// Says what evidence tells of a question, behind the aliases and the counts so far: also what it
+/// tells of a name that an alias leads to, if the limit allows one more.
 fn follow(
     alloc: Global,
     evidence: &Evidence,
@@ -81,87 +136,110 @@ fn follow(
     through: Vec<Name<Vec<u8>>>,
     cuts: u16,
     aliases: u16,
+    counts: Counts,
 ) -> Result<Walk, AllocError>
     ensures walked { let asked = asked_of question in
         IfOk result (IsWalked evidence.now asked through.items) }
-    ensures wants { let asked = asked_of question in
-        IfOk result (WalkWants evidence.now asked through.items) }
+    ensures stops { let asked = asked_of question in
+        IfOk result (WalkStops evidence.now asked through.items counts) }
 {
-    let end = led(alloc, evidence, &question, cuts)?;
-    match end {
-        Ok(target) => behind(alloc, evidence, &question, target, through, cuts, aliases),
-        Err(ending) => Ok(Walk { ending, through }),
+    let end = led(alloc, evidence, &question, cuts, counts)?;
+    let target = match end {
+        Ok(target) => target,
+        Err(end) => return Ok(walk_with(end, through)),
+    };
+    if aliases == 0 {
+        return Ok(too_many_aliases(target.counts, through));
+    }
+    let longer = with_name(alloc, through, &target.name)?;
+    let (lasting, sums) = (target.lasting, target.counts);
+    let next = Question {
+        name: target.name,
+        rtype: question.rtype,
+        class: question.class,
+    };
+    let walk = follow(alloc, evidence, next, longer, cuts, aliases - 1, sums)?;
+    Ok(behind(lasting, walk))
+}
+
+/// The walk that ends so, behind the aliases so far.
+fn walk_with(end: End, through: Vec<Name<Vec<u8>>>) -> Walk
+    ensures ending { result.ending ≡ end.ending }
+    ensures through { result.through ≡ through }
+    ensures lasts { result.lasting ≡ end.lasting }
+    ensures counts { result.counts ≡ end.counts }
+{
+    Walk {
+        ending: end.ending,
+        through,
+        lasting: end.lasting,
+        counts: end.counts,
     }
 }
 
-/// The name that an alias leads to, where one ends the way; or the ending.
+/// The walk that stops where the limit allows no alias more.
+fn too_many_aliases(counts: Counts, through: Vec<Name<Vec<u8>>>) -> Walk
+    ensures ending { result.ending ≡ Ending.TooManyAliases }
+    ensures through { result.through ≡ through }
+    ensures counts { result.counts ≡ counts }
+{
+    Walk {
+        ending: Ending::TooManyAliases,
+        through,
+        lasting: None,
+        counts,
+    }
+}
+
+/// The walk behind an alias, which lasts as long as that too.
+fn behind(lasting: Option<Lasting>, walk: Walk) -> Walk
+    ensures ending { result.ending ≡ walk.ending }
+    ensures through { result.through ≡ walk.through }
+    ensures lasts { result.lasting ≡ least_of lasting walk.lasting }
+    ensures counts { result.counts ≡ walk.counts }
+{
+    let mut walk = walk;
+    walk.lasting = least_of(lasting, walk.lasting);
+    walk
+}
+
+/// The name that an alias leads to, where one ends the way; or the end.
 fn led(
     alloc: Global,
     evidence: &Evidence,
     question: &Question,
     cuts: u16,
-) -> Result<Result<Name<Vec<u8>>, Ending>, AllocError>
-    ensures { let asked = asked_of question.now in
-        IfOk result (λ r. MatchResult r (IsLed evidence.now asked) (EndsHere evidence.now asked)) }
+    counts: Counts,
+) -> Result<Result<Target, End>, AllocError>
+    ensures { let e = evidence.now in let asked = asked_of question.now in
+        IfOk result (λ r. MatchResult r (IsLed e asked counts) (EndsHere e asked counts)) }
 {
     if is_asked_of(evidence.anchor, question) {
-        from_anchor(alloc, evidence, question, cuts)
+        from_anchor(alloc, evidence, question, cuts, counts)
     } else {
-        Ok(Err(Ending::Outside))
+        Ok(Err(End {
+            ending: Ending::Outside,
+            lasting: None,
+            counts,
+        }))
     }
 }
 
-/// The name that an alias leads to, where one ends the way from the anchor; or the ending.
+/// The name that an alias leads to, where one ends the way from the anchor; or the end.
 fn from_anchor(
     alloc: Global,
     evidence: &Evidence,
     question: &Question,
     cuts: u16,
-) -> Result<Result<Name<Vec<u8>>, Ending>, AllocError>
+    counts: Counts,
+) -> Result<Result<Target, End>, AllocError>
     requires { is_asked_of evidence.now.anchor (asked_of question.now) ≡ true }
-    ensures { let asked = asked_of question.now in
-        IfOk result (λ r. MatchResult r (IsLed evidence.now asked) (EndsHere evidence.now asked)) }
+    ensures { let e = evidence.now in let asked = asked_of question.now in
+        IfOk result (λ r. MatchResult r (IsLed e asked counts) (EndsHere e asked counts)) }
 {
-    let ending = descend(
-        alloc,
-        evidence,
-        evidence.anchor,
-        evidence.ds,
-        question,
-        cuts,
-    )?;
-    Ok(alias_of(ending))
-}
-
-/// Says what evidence tells of the name that an alias leads to, if the limit allows one more.
-#[cycle(aliases)]
-fn behind(
-    alloc: Global,
-    evidence: &Evidence,
-    question: &Question,
-    target: Name<Vec<u8>>,
-    through: Vec<Name<Vec<u8>>>,
-    cuts: u16,
-    aliases: u16,
-) -> Result<Walk, AllocError>
-    requires { IsLed evidence.now (asked_of question.now) target }
-    ensures walked { let asked = asked_of question.now in
-        IfOk result (IsWalked evidence.now asked through.items) }
-    ensures wants { let asked = asked_of question.now in
-        IfOk result (WalkWants evidence.now asked through.items) }
-{
-    if aliases == 0 {
-        let ending = Ending::TooManyAliases;
-        Ok(Walk { ending, through })
-    } else {
-        let longer = with_name(alloc, through, &target)?;
-        let next = Question {
-            name: target,
-            rtype: question.rtype,
-            class: question.class,
-        };
-        follow(alloc, evidence, next, longer, cuts, aliases - 1)
-    }
+    let (anchor, ds) = (evidence.anchor, evidence.ds);
+    let end = descend(alloc, evidence, anchor, ds, question, cuts, counts)?;
+    Ok(alias_of(end))
 }
 
 /// Names, with a copy of one more.
@@ -178,18 +256,26 @@ fn with_name(
     Ok(names)
 }
 
-/// The name that an alias leads to, where one ends the way; or the ending.
-fn alias_of(ending: Ending) -> Result<Name<Vec<u8>>, Ending>
-    ensures { MatchResult result (λ n. said_of ending ≡ Some (Leads (To n)))
-        (λ x. (x ≡ ending) × (leads_to (said_of x) ≡ None)) }
+/// The name that an alias leads to, where one ends the way; or the end.
+fn alias_of(end: End) -> Result<Target, End>
+    ensures { MatchResult result (IsAliasOf end) (IsNoAlias end) }
 {
-    match ending {
-        Ending::Leads(Lead::To(target)) => Ok(target),
-        ending => Err(ending),
+    let (lasting, counts) = (end.lasting, end.counts);
+    match end.ending {
+        Ending::Leads(Lead::To(name)) => Ok(Target {
+            name,
+            lasting,
+            counts,
+        }),
+        ending => Err(End {
+            ending,
+            lasting,
+            counts,
+        }),
     }
 }
 
-/// What evidence tells of a question, from a zone with a DS set on down.
+/// What evidence tells of a question, from a zone with a DS set on down, behind the counts so far.
 #[cycle(down)]
 fn descend(
     alloc: Global,
@@ -198,38 +284,38 @@ fn descend(
     ds: &[Ds<Vec<u8>>],
     question: &Question,
     cuts: u16,
-) -> Result<Ending, AllocError>
+    counts: Counts,
+) -> Result<End, AllocError>
     ensures leads { let asked = asked_of question.now in
         IfOk result (IsEnding evidence.now asked zone.now ds.now) }
-    ensures wants { let asked = asked_of question.now in
-        IfOk result (EndsWanting evidence.now asked zone.now ds.now) }
+    ensures stops { let asked = asked_of question.now in
+        IfOk result (StopsIn evidence.now asked zone.now ds.now counts) }
 {
-    let turn = in_zone(alloc, evidence, zone, ds, question)?;
-    onward(alloc, evidence, zone, ds, question, cuts, turn)
+    let taken = in_zone(alloc, evidence, zone, ds, question, counts)?;
+    let (lasting, sums) = (taken.lasting, taken.counts);
+    let turn = taken.turn;
+    match turn {
+        Turn::Ends(ending) => Ok(End {
+            ending,
+            lasting,
+            counts: sums,
+        }),
+        Turn::Down { zone, ds } => {
+            let end = below(alloc, evidence, &zone, ds.as_slice(), question, cuts, sums)?;
+            Ok(lasting_with(lasting, end))
+        }
+    }
 }
 
-/// What evidence tells behind a turn.
-#[cycle(down)]
-fn onward(
-    alloc: Global,
-    evidence: &Evidence,
-    zone: &Name<Vec<u8>>,
-    ds: &[Ds<Vec<u8>>],
-    question: &Question,
-    cuts: u16,
-    turn: Turn,
-) -> Result<Ending, AllocError>
-    requires leads { IsTurn evidence.now (asked_of question.now) zone.now ds.now turn }
-    requires wants { TurnWants evidence.now (asked_of question.now) zone.now turn }
-    ensures leads { let asked = asked_of question.now in
-        IfOk result (IsEnding evidence.now asked zone.now ds.now) }
-    ensures wants { let asked = asked_of question.now in
-        IfOk result (EndsWanting evidence.now asked zone.now ds.now) }
+/// The end below a step, which lasts as long as that too.
+fn lasting_with(lasting: Option<Lasting>, end: End) -> End
+    ensures ending { result.ending ≡ end.ending }
+    ensures lasts { result.lasting ≡ least_of lasting end.lasting }
+    ensures counts { result.counts ≡ end.counts }
 {
-    match turn {
-        Turn::Ends(ending) => Ok(ending),
-        Turn::Down { zone, ds } => below(alloc, evidence, &zone, ds.as_slice(), question, cuts),
-    }
+    let mut end = end;
+    end.lasting = least_of(lasting, end.lasting);
+    end
 }
 
 /// What evidence tells from the zone below on, if the limit allows one more.
@@ -241,16 +327,21 @@ fn below(
     ds: &[Ds<Vec<u8>>],
     question: &Question,
     cuts: u16,
-) -> Result<Ending, AllocError>
+    counts: Counts,
+) -> Result<End, AllocError>
     ensures leads { let asked = asked_of question.now in
         IfOk result (IsEnding evidence.now asked zone.now ds.now) }
-    ensures wants { let asked = asked_of question.now in
-        IfOk result (EndsWanting evidence.now asked zone.now ds.now) }
+    ensures stops { let asked = asked_of question.now in
+        IfOk result (StopsIn evidence.now asked zone.now ds.now counts) }
 {
     if cuts == 0 {
-        Ok(Ending::TooManyCuts)
+        Ok(End {
+            ending: Ending::TooManyCuts,
+            lasting: None,
+            counts,
+        })
     } else {
-        descend(alloc, evidence, zone, ds, question, cuts - 1)
+        descend(alloc, evidence, zone, ds, question, cuts - 1, counts)
     }
 }
 

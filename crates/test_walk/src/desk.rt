@@ -2,8 +2,8 @@
 
 use crate::grown::{Anchor, Grown, Walker};
 use crate::octets::{Part, last_reply};
-use crate::replied::reply_text;
-use crate::said::{Kind, kind_of, said};
+use crate::replied::{reply_text, report_text};
+use crate::said::{Kind, kind_of, lasting_text, said};
 use crate::signatures::Signatures;
 use crate::store::{Replay, Store};
 use crate::words::{name_of, question_of};
@@ -91,6 +91,7 @@ impl Desk {
         let said = match name {
             "resolve" => self.resolved(alloc, &question)?,
             "octets" => self.from_octets(alloc, &question, None)?,
+            "counts" => self.counts(alloc, &question)?,
             _ => self.replayed(alloc, &question)?,
         };
         format!(in alloc; "{line}: {said}").ok()
@@ -113,7 +114,15 @@ impl Desk {
             reply_text(alloc, replied.code, &replied.octets)?,
             replied.count,
         );
-        format!(in alloc; "{said}; {count} messages").ok()
+        let report = report_text(alloc, &replied.report)?;
+        format!(in alloc; "{said}; {count} messages{report}").ok()
+    }
+
+    /// What is counted for the last reply to a question.
+    fn counts(&self, alloc: Global, question: &Question) -> Option<String> {
+        let replied = last_reply(alloc, &self.walker(None)?, question, None)?;
+        let (verified, hashed) = (replied.report.verifications, replied.report.hashes);
+        format!(in alloc; "{verified} verified, {hashed} hashed").ok()
     }
 
     fn walker(&self, replay: Option<Replay>) -> Option<Walker> {
@@ -129,14 +138,17 @@ impl Desk {
 
     /// What is said of a question.
     fn resolved(&self, alloc: Global, question: &Question) -> Option<String> {
-        let walker = self.walker(None)?;
+        let (walker, second) = (self.walker(None)?, self.anchor.as_ref()?.second);
         let Grown { walk, places } = walker.grown(alloc, question, Vec::new(alloc))?;
         let (first, count) = (said(alloc, &walk)?, places.len());
-        let again = said(alloc, &walker.grown(alloc, question, places)?.walk)?;
-        if again == first {
-            return format!(in alloc; "{first}; {count} messages").ok();
+        let lasts = lasting_text(alloc, second, walk.lasting)?;
+        let walk = walker.grown(alloc, question, places)?.walk;
+        let again = said(alloc, &walk)?;
+        let lasts_again = lasting_text(alloc, second, walk.lasting)?;
+        if again == first && lasts_again == lasts {
+            return format!(in alloc; "{first}; {count} messages{lasts}").ok();
         }
-        format!(in alloc; "{first}; {count} messages; at once {again}").ok()
+        format!(in alloc; "{first}; {count} messages{lasts}; at once {again}{lasts_again}").ok()
     }
 
     /// What is said of a question where messages are replayed.

@@ -53,7 +53,12 @@ impl<'a> Walker<'a> {
         let (mut places, mut asked) = (places, Vec::new(alloc));
         for _ in 0..ROUNDS {
             let walk = self.walk(alloc, question, &places, &asked)?;
-            let Walk { ending, through } = walk;
+            let Walk {
+                ending,
+                through,
+                lasting,
+                counts,
+            } = walk;
             match ending {
                 Ending::Asks(asks) => {
                     for ask in asks {
@@ -63,12 +68,22 @@ impl<'a> Walker<'a> {
                 Ending::Wants(wanted) => {
                     if !self.take(&mut places, &wanted)? {
                         let ending = Ending::Wants(wanted);
-                        let walk = Walk { ending, through };
+                        let walk = Walk {
+                            ending,
+                            through,
+                            lasting,
+                            counts,
+                        };
                         return Some(Grown { walk, places });
                     }
                 }
                 ending => {
-                    let walk = Walk { ending, through };
+                    let walk = Walk {
+                        ending,
+                        through,
+                        lasting,
+                        counts,
+                    };
                     return Some(Grown { walk, places });
                 }
             }

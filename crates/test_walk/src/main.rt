@@ -16,6 +16,7 @@
 //!   these, and how often something else was said then: another verdict, another alias, or insecure
 //!   what is secure.
 //! - `octets NAME TYPE`: what is said of a question from octets to octets, from no message on.
+//! - `counts NAME TYPE`: how often was verified and hashed for the last reply to it.
 //! - `cut PART NAME TYPE`: what is said in the end where a part of the octets lacks the last: the
 //!   `anchor`, the `ds` set, the `name`, the `messages` or the `checked` signatures.
 //! - `most NUMBER`: so many signatures may be checked from here on where octets are handed in.
@@ -23,7 +24,9 @@
 //! - `without ZONE NAME TYPE`: this message is not there from here on; `with all`: each is again.
 //!
 //! Each line is printed without octets of messages, keys and signatures, or not at all where it has
-//! nothing else, and behind it what is said.
+//! nothing else, and behind it what is said; behind that, of what is secure or insecure, how many
+//! seconds it may be kept and the last one in which it stands; and from octets the extended error of
+//! a refusal.
 #![tactic(auto)]
 
 mod desk;
@@ -52,7 +55,7 @@ fn reply(alloc: Global, desk: &mut Desk, line: &str) -> Option<String> {
         "anchor" => desk.take_anchor(alloc, &words),
         "message" => desk.take_message(alloc, &words),
         "without" | "with" | "limits" | "most" => desk.set(alloc, line, name, &words),
-        "resolve" | "replay" | "octets" => desk.asked(alloc, line, name, &words),
+        "resolve" | "replay" | "octets" | "counts" => desk.asked(alloc, line, name, &words),
         "cut" => desk.cut(alloc, line, &words),
         _ => None,
     }

@@ -29,6 +29,7 @@ pub enum Part {
 pub struct Replied {
     pub code: ReplyCode,
     pub octets: Vec<u8>,
+    pub report: Report,
     pub count: usize,
 }
 
@@ -142,6 +143,7 @@ impl Handed {
                 return Some(Replied {
                     code,
                     octets,
+                    report,
                     count,
                 });
             }

@@ -1,7 +1,7 @@
 //! Replies in octets in print, in the words of what a walk says.
 
-use answer_judge_octets::ReplyCode;
 use answer_judge_octets::parts::split_short;
+use answer_judge_octets::{ReplyCode, Report};
 use messages::names::{Name, name_from_octets};
 use names_rdata::rtype::Rtype;
 use resolution_walk::Wanted;
@@ -29,6 +29,18 @@ pub fn reply_text(alloc: Global, code: ReplyCode, octets: &[u8]) -> Option<Strin
     }
     let through = joined(alloc, &names, " ")?;
     format!(in alloc; "{ending}; through {through}").ok()
+}
+
+/// What a report says beside a reply: how long it lasts, if it says so, and an extended error.
+pub fn report_text(alloc: Global, report: &Report) -> Option<String> {
+    let (ttl, until, ede) = (report.ttl, report.until, report.ede);
+    if ede != 0 {
+        return format!(in alloc; "; EDE {ede}").ok();
+    }
+    if until == 0 {
+        return Some(String::new(alloc));
+    }
+    format!(in alloc; "; TTL {ttl} until {until}").ok()
 }
 
 fn ending_text(alloc: Global, code: ReplyCode, octets: &[u8]) -> Option<String> {

@@ -2,7 +2,7 @@
 
 use messages::names::Name;
 use names_rdata::rtype::Rtype;
-use resolution_walk::{Ending, Refusal, Verdict, Walk, Wanted};
+use resolution_walk::{Ending, Lasting, Refusal, Verdict, Walk, Wanted};
 use std::alloc::Global;
 use test_lines::{joined, text};
 
@@ -14,6 +14,18 @@ pub fn said(alloc: Global, walk: &Walk) -> Option<String> {
     }
     let through = joined(alloc, &walk.through, " ")?;
     format!(in alloc; "{ending}; through {through}").ok()
+}
+
+/// How long what is said at a moment lasts, in the words of a report; nothing where it does not.
+pub fn lasting_text(alloc: Global, second: u64, lasting: Option<Lasting>) -> Option<String> {
+    match lasting {
+        Some(lasting) => {
+            let until = second.checked_add(u64::from(lasting.seconds))?;
+            let ttl = lasting.ttl.as_secs();
+            format!(in alloc; "; TTL {ttl} until {until}").ok()
+        }
+        None => Some(String::new(alloc)),
+    }
 }
 
 fn ending_text(alloc: Global, ending: &Ending) -> Option<String> {
@@ -30,6 +42,7 @@ fn ending_text(alloc: Global, ending: &Ending) -> Option<String> {
             name,
             rtype,
             refusal,
+            ..
         } => untold_text(alloc, zone, name, *rtype, refusal),
         Ending::Asks(_) => text(alloc, "signatures are asked for"),
         Ending::Wants(wanted) => wanted_text(alloc, wanted),

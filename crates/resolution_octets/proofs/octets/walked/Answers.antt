@@ -1,7 +1,8 @@
 use Rattle.std.proofs.Common.{◌≡◌, [], length, rules}
-use Rattle.resolution_walk.specs.Ended.{IsWalked}
+use Rattle.resolution_evidence.specs.Counted.{no_counts}
+use Rattle.resolution_walk.specs.Ended.{IsWalked, LastsIfSaid}
+use Rattle.resolution_walk.specs.Stopping.{WalkStops}
 use Rattle.resolution_walk.specs.Truth.{WalksTruly}
-use Rattle.resolution_walk.specs.Wanted.{WalkWants}
 use Rattle.resolution_octets.specs.ReadEvidence.{asked_in, given_of}
 use Rattle.resolution_octets.proofs.Walked.{says_in}
 use Rattle.resolution_octets.proofs.octets.walked.Goals as goal
@@ -14,7 +15,8 @@ returns c =
     let asked = asked_in read in
     let walk = c.in_ok-walk.walk in
     let walked : IsWalked e asked [] walk = search rules in
-    let wants : WalkWants e asked [] walk = search rules in
+    let stops : WalkStops e asked [] no_counts walk = search rules in
+    let lasts : LastsIfSaid walk = search rules in
     let honest : WalksTruly e asked walk = search rules in
-    let count : c.len.result ≡ length read.table.items = search rules in
-    says_in case read c.len.result walk c.reply_of_walk.result count (record { walked = walked; wants = wants; honest = honest }) c.reply_of_walk.ensures
+    let count : c.len-checked.result ≡ length read.table.items = search rules in
+    says_in case read _ c.len-checked.result walk c.reply_of_walk.result c.reply_of_walk.ensures (search rules) count (record { walked = walked; stops = stops; lasts = lasts; honest = honest })

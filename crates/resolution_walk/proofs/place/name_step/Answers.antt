@@ -1,6 +1,5 @@
-use Rattle.resolution_evidence.specs.Told.{told}
 use Rattle.resolution_walk.proofs.Onward.{name_told}
 use Rattle.resolution_walk.proofs.place.name_step.Goals as goal
 
 pub returns : goal.returns
-returns c = name_told c.args.evidence.now _ c.args.case.now (told c.in_ok-step.step) c.unless_memory_lacked.result c.evidence.view_is c.in_ok-step.ensures.told c.unless_memory_lacked.ensures
+returns c = name_told c.args.evidence.now _ c.args.case.now c.in_ok-telling.telling c.unless_memory_lacked.result c.evidence.view_is c.in_ok-telling.ensures.told c.unless_memory_lacked.ensures

@@ -1,14 +1,35 @@
+use Rattle.std.proofs.Common.{Result, subst}
 use Rattle.messages.specs.Questions.{asked_of}
+use Rattle.resolution_evidence.specs.Counts.{Counts}
+use Rattle.resolution_walk.specs.Judged.{IsJudgedBelow, counts_in}
+use Rattle.resolution_walk.specs.declared.ending.Taken.{Taken}
 use Rattle.resolution_walk.proofs.Onward.{stopped}
-use Rattle.resolution_walk.proofs.Wanting.{any_wants}
+use Rattle.resolution_walk.proofs.Stopping.{between_counted, untold_counted_in, untold_stops_in}
 use Rattle.resolution_walk.proofs.turns.between.Goals as goal
 
-pub returns-in-None : goal.returns-in-None
-returns-in-None c =
+pub returns-in-Err : goal.returns-in-Err
+returns-in-Err c =
     let e = c.args.evidence.now in
     let asked = asked_of c.args.question.now in
     let zone = c.args.zone.now in
+    let ds = c.args.ds.now in
+    let refusal = c.args.refusal in
+    let own = c.args.own in
+    let sums = c.plus-sums.result in
+    let r = c.untold_there.result in
+    let below = subst (λ (x : Result Taken Counts). IsJudgedBelow e asked zone ds sums (counts_in x)) c.in-Err.is c.in_ok-way.ensures.counted in
     record {
-      leads = stopped e asked zone c.args.ds.now c.untold.result c.untold.ensures.leads;
-      wants = any_wants e asked zone c.untold.result c.untold.ensures.wants;
+      leads = stopped e asked zone ds r c.untold_there.ensures.leads;
+      stops = untold_stops_in e asked zone ds refusal own r c.requires c.untold_there.ensures.stops;
+      counted = untold_counted_in e asked zone ds refusal own c.args.counts sums c.in-Err.counts r c.requires c.plus-sums.ensures below c.untold_there.ensures.counted;
     }
+
+pub returns-in-Ok-clause-counted : goal.returns-in-Ok-clause-counted
+returns-in-Ok-clause-counted c =
+    let e = c.args.evidence.now in
+    let asked = asked_of c.args.question.now in
+    let zone = c.args.zone.now in
+    let ds = c.args.ds.now in
+    let sums = c.plus-sums.result in
+    let below = subst (λ (x : Result Taken Counts). IsJudgedBelow e asked zone ds sums (counts_in x)) c.in-Ok.is c.in_ok-way.ensures.counted in
+    between_counted e asked zone ds c.args.refusal c.args.own c.args.counts sums c.in-Ok.taken.counts c.requires c.plus-sums.ensures below

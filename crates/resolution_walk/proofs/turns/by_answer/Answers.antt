@@ -1,7 +1,7 @@
 use Rattle.messages.specs.Questions.{asked_of}
 use Rattle.resolution_evidence.specs.Told.{told}
 use Rattle.resolution_walk.proofs.Onward.{turned_own}
-use Rattle.resolution_walk.proofs.Wanting.{any_wants}
+use Rattle.resolution_walk.proofs.Stopping.{own_counted_in, own_stops_in, untold_own}
 use Rattle.resolution_walk.proofs.turns.by_answer.Goals as goal
 
 pub returns-in-Ok : goal.returns-in-Ok
@@ -9,7 +9,19 @@ returns-in-Ok c =
     let e = c.args.evidence.now in
     let asked = asked_of c.args.question.now in
     let zone = c.args.zone.now in
+    let ds = c.args.ds.now in
+    let h = c.args.case.now in
+    let t = c.in_ok-telling.telling in
+    let now = told c.in-Ok.step in
+    let r = c.taken.result in
     record {
-      leads = turned_own e asked zone c.args.ds.now c.args.case.now (told c.in_ok-step.step) (told c.in-Ok.step) c.turned.result c.requires c.in_ok-step.ensures c.in-Ok.ensures c.turned.ensures.leads;
-      wants = any_wants e asked zone c.turned.result c.turned.ensures.wants;
+      leads = turned_own e asked zone ds h t now r c.requires c.in_ok-telling.ensures c.in-Ok.ensures c.taken.ensures.leads c.taken.ensures.lasts;
+      stops = own_stops_in e asked zone ds h t now r c.requires c.in_ok-telling.ensures c.in-Ok.ensures c.taken.ensures.stops;
+      counted = own_counted_in e asked zone ds h t c.args.counts c.plus-sums.result r c.requires c.in_ok-telling.ensures c.plus-sums.ensures c.taken.ensures.counted;
     }
+
+pub between-requires : goal.between-requires
+between-requires c =
+    let e = c.args.evidence.now in
+    let asked = asked_of c.args.question.now in
+    untold_own e asked c.args.zone.now c.args.ds.now c.args.case.now c.in_ok-telling.telling c.in-Err.refusal c.requires c.in_ok-telling.ensures c.in-Err.ensures

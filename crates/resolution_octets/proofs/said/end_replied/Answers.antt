@@ -1,0 +1,7 @@
+use Rattle.std.proofs.Common.{◌≡◌, rules}
+use Rattle.answer_judge_octets.specs.Replying.{reply_seen}
+use Rattle.resolution_octets.specs.Saying.{end_reply}
+use Rattle.resolution_octets.proofs.said.end_replied.Goals as goal
+
+pub returns : goal.returns
+returns c = record { error = c.in_ok-ede.ede; is_error = c.in_ok-ede.ensures; is = search rules }

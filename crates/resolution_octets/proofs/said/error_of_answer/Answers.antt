@@ -1,0 +1,9 @@
+use Rattle.std.proofs.Common.{IfOk, subst}
+use Rattle.messages.specs.Message.{Asked}
+use Rattle.resolution_octets.specs.Saying.{IsErrorOf}
+use Rattle.resolution_octets.proofs.said.error_of_answer.Goals as goal
+
+pub returns : goal.returns
+returns c =
+    let e = c.args.evidence.now in
+    subst (λ (q : Asked). IfOk c.refused.result (IsErrorOf e c.args.zone.now c.args.ds.now q c.args.refusal)) c.in_ok-sought.ensures c.refused.ensures

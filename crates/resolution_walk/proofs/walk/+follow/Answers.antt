@@ -1,0 +1,62 @@
+use Rattle.std.proofs.Common.{◌∷◌, ◌++◌, [], ap, List, Result, subst, ◌∙◌}
+use Rattle.std.specs.Prelude.{◌≡◌, MatchResult}
+use Rattle.std.specs.Global.{Vec}
+use Rattle.definitions.specs.Name.{Name}
+use Rattle.messages.specs.Questions.{asked_of}
+use Rattle.resolution_evidence.specs.Walking.{renamed}
+use Rattle.resolution_walk.specs.Stopping.{EndsHere, IsLed}
+use Rattle.resolution_walk.specs.declared.ending.End.{End}
+use Rattle.resolution_walk.specs.declared.ending.Target.{Target}
+use Rattle.resolution_walk.proofs.Onward.{walk_ends, walk_led, walk_many}
+use Rattle.resolution_walk.proofs.Stopping.{walk_stops, walk_stops_led, walk_stops_many}
+use Rattle.resolution_walk.proofs.walk.+follow.Goals as goal
+
+pub returns-in-Err : goal.returns-in-Err
+returns-in-Err t c =
+    let e = c.args.evidence.now in
+    let asked = asked_of c.args.question in
+    let names = c.args.through.items in
+    let end = c.in-Err.end in
+    let w = c.walk_with.result in
+    let kept = c.walk_with.ensures in
+    let through = ap (λ (v : Vec Name). v.items) kept.through in
+    let here : EndsHere e asked c.args.counts end =
+    subst (λ (r : Result Target End). MatchResult r (IsLed e asked c.args.counts) (EndsHere e asked c.args.counts)) c.in-Err.is c.in_ok-end.ensures in
+    record {
+      walked = walk_ends e asked names end w here.says kept.ending through kept.lasts;
+      stops = walk_stops e asked names c.args.counts end w here.stops kept.ending through kept.counts;
+    }
+
+pub returns-then-aliases-eq0 : goal.returns-then-aliases-eq0
+returns-then-aliases-eq0 t c =
+    let e = c.args.evidence.now in
+    let asked = asked_of c.args.question in
+    let names = c.args.through.items in
+    let target = c.in-Ok.target in
+    let w = c.too_many_aliases.result in
+    let kept = c.too_many_aliases.ensures in
+    let through = ap (λ (v : Vec Name). v.items) kept.through in
+    let led : IsLed e asked c.args.counts target =
+    subst (λ (r : Result Target End). MatchResult r (IsLed e asked c.args.counts) (EndsHere e asked c.args.counts)) c.in-Ok.is c.in_ok-end.ensures in
+    record {
+      walked = walk_many e asked names w kept.ending;
+      stops = walk_stops_many e asked names c.args.counts target w led kept.ending through kept.counts;
+    }
+
+pub returns : goal.returns
+returns t c =
+    let e = c.args.evidence.now in
+    let asked = asked_of c.args.question in
+    let names = c.args.through.items in
+    let target = c.in-Ok.target in
+    let longer = c.in_ok-longer.longer.items in
+    let walk = c.in_ok-walk.walk in
+    let w = c.behind.result in
+    let kept = c.behind.ensures in
+    let through = ap (λ (v : Vec Name). v.items) kept.through in
+    let led : IsLed e asked c.args.counts target =
+    subst (λ (r : Result Target End). MatchResult r (IsLed e asked c.args.counts) (EndsHere e asked c.args.counts)) c.in-Ok.is c.in_ok-end.ensures in
+    record {
+      walked = walk_led e asked c.args.counts target led names longer c.in_ok-longer.ensures walk w c.in_ok-walk.ensures.walked kept.ending through kept.lasts;
+      stops = walk_stops_led e asked names c.args.counts target longer walk w led c.in_ok-longer.ensures c.in_ok-walk.ensures.stops kept.ending through kept.counts;
+    }
