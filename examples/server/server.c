@@ -2,7 +2,7 @@
  * A name server of one zone, whose keys are PEM files: it answers by UDP and TCP, signs by OpenSSL as it answers, and its keys roll as
  * a socket says. docs/use/SERVER.md is about it.
  *
- * usage: server [--address=A] [--port=N] [--backdate=SECONDS] [--step=SECONDS] [--rate=N] [--chain=WORDS] [--auto]
+ * usage: server [--address=A] [--port=N] [--share] [--backdate=SECONDS] [--step=SECONDS] [--rate=N] [--chain=WORDS] [--auto]
  *               FOLDER [MASTER-FILE]
  *        server --ctl FOLDER COMMAND..
  *
@@ -37,6 +37,12 @@ struct server {
     bool is_auto, is_stopping;
 };
 
+struct options {
+    const char *address, *port, *chain, *folder, *file;
+    unsigned long backdate, step, rate;
+    bool is_auto, is_shared;
+};
+
 static volatile sig_atomic_t is_told_to_stop;
 
 static void on_signal(int number) {
@@ -49,17 +55,19 @@ static void fail(const char *what) {
     exit(EXIT_FAILURE);
 }
 
-static int bound(int type, const char *address, const char *port) {
+/* A socket at the address, which servers share if they are all told to. */
+static int bound(int type, const struct options *options) {
     struct addrinfo wanted = {.ai_flags = AI_NUMERICHOST | AI_NUMERICSERV | AI_PASSIVE, .ai_socktype = type}, *at = NULL;
-    if (getaddrinfo(address, port, &wanted, &at) != 0) {
-        fprintf(stderr, "%s: no address, or no port %s\n", address, port);
+    if (getaddrinfo(options->address, options->port, &wanted, &at) != 0) {
+        fprintf(stderr, "%s: no address, or no port %s\n", options->address, options->port);
         exit(EXIT_FAILURE);
     }
     int fd = socket(at->ai_family, type | SOCK_NONBLOCK | SOCK_CLOEXEC, 0), yes = 1;
     bool is_stream = type == SOCK_STREAM;
     if (fd < 0 || (is_stream && setsockopt(fd, SOL_SOCKET, SO_REUSEADDR, &yes, sizeof yes) != 0)
+        || (options->is_shared && setsockopt(fd, SOL_SOCKET, SO_REUSEPORT, &yes, sizeof yes) != 0)
         || bind(fd, at->ai_addr, at->ai_addrlen) != 0 || (is_stream && listen(fd, 64) != 0)) {
-        fail(address);
+        fail(options->address);
     }
     freeaddrinfo(at);
     return fd;
@@ -335,12 +343,6 @@ static void read_keys(struct keys *keys) {
     }
 }
 
-struct options {
-    const char *address, *port, *chain, *folder, *file;
-    unsigned long backdate, step, rate;
-    bool is_auto;
-};
-
 /* What an option says, if the word is this one. */
 static bool is_option(const char *word, const char *name, const char **said) {
     size_t len = strlen(name);
@@ -357,6 +359,8 @@ static bool read_options(struct options *options, int argc, char **argv) {
         const char *word = argv[at];
         if (strcmp(word, "--auto") == 0) {
             options->is_auto = true;
+        } else if (strcmp(word, "--share") == 0) {
+            options->is_shared = true;
         } else if (!is_option(word, "--address=", &options->address) && !is_option(word, "--port=", &options->port)
                    && !is_option(word, "--chain=", &options->chain) && !is_option(word, "--backdate=", &backdate)
                    && !is_option(word, "--step=", &step) && !is_option(word, "--rate=", &rate)) {
@@ -409,8 +413,8 @@ int main(int argc, char **argv) {
         return send_command(argc - 2, argv + 2);
     }
     if (!read_options(&options, argc, argv)) {
-        fputs("usage: server [--address=A] [--port=N] [--backdate=SECONDS] [--step=SECONDS] [--rate=N] [--chain=WORDS] [--auto]\n"
-              "              FOLDER [MASTER-FILE]\n"
+        fputs("usage: server [--address=A] [--port=N] [--share] [--backdate=SECONDS] [--step=SECONDS] [--rate=N] [--chain=WORDS]\n"
+              "              [--auto] FOLDER [MASTER-FILE]\n"
               "       server --ctl FOLDER COMMAND..\n", stderr);
         return EXIT_FAILURE;
     }
@@ -424,8 +428,8 @@ int main(int argc, char **argv) {
     signal(SIGXFSZ, SIG_IGN);
     server->is_auto = options.is_auto;
     open_folder(&server->served, &options);
-    server->polled[0] = (struct pollfd){.fd = bound(SOCK_DGRAM, options.address, options.port), .events = POLLIN};
-    server->polled[1] = (struct pollfd){.fd = bound(SOCK_STREAM, options.address, options.port), .events = POLLIN};
+    server->polled[0] = (struct pollfd){.fd = bound(SOCK_DGRAM, &options), .events = POLLIN};
+    server->polled[1] = (struct pollfd){.fd = bound(SOCK_STREAM, &options), .events = POLLIN};
     server->polled[2] = (struct pollfd){.fd = bound_in(options.folder), .events = POLLIN};
     for (size_t i = 0; i < CONNECTIONS; i++) {
         server->polled[FIRST + i].fd = -1;

@@ -1,16 +1,20 @@
-"""A name server on addresses of its own. Of the zones under test it hands out a publisher's messages, to which it adds what a
-server has to add, and nothing else: number, question as it was asked, EDNS, addresses of servers (glue), truncation.
+"""A name server on addresses of its own: the root, the parent, and the zones below delegations (see static.py), each on another
+address. On one address it answers for all of them, as a server does that forwards, for programs that only validate.
 
-The root, the parent, and the zones below delegations are its own (see static.py). Each is on another address; on one address it
-answers for all of them, as a server does that forwards, for programs that only validate.
+Zones under test have servers of their own, which validators ask by themselves. Where the parent's server has such a zone too, where
+stages are mixed, and on the address for all of them, a question's octets are handed to the zone's server, by UDP or TCP as they came,
+and its answer's octets handed back. Of BIND's zones it hands out messages that named gave before, to which it adds what a server has
+to add, and nothing else: number, question as it was asked, EDNS, addresses of servers (glue), truncation.
 """
 
 import asyncio
 import collections
+import socket
 import struct
 import typing
 
 import wire
+from served import dotted
 from static import Static
 from wire import A, DS, NS, OPT, Record
 from zones import BELOW, SERVER
@@ -20,10 +24,31 @@ FORWARD = bytes([198, 51, 100, 5])
 ADDRESSES = [ROOT, PARENT, SERVER, BELOW, FORWARD]
 ABOVE = wire.wire("parent")
 LIMIT = 1232
+# Seconds in which a server has to answer.
+PATIENCE = 5
 
 
-def dotted(address):
-    return ".".join(map(str, address))
+class Relay(typing.NamedTuple):
+    """A server at an address, which answers a question."""
+
+    address: bytes
+
+    async def by_datagram(self, octets):
+        loop = asyncio.get_running_loop()
+        with socket.socket(socket.AF_INET, socket.SOCK_DGRAM) as it:
+            it.setblocking(False)
+            it.connect((dotted(self.address), 53))
+            await loop.sock_sendall(it, octets)
+            return await asyncio.wait_for(loop.sock_recv(it, 65535), PATIENCE)
+
+    async def by_stream(self, octets):
+        reader, writer = await asyncio.open_connection(dotted(self.address), 53)
+        try:
+            writer.write(len(octets).to_bytes(2, "big") + octets)
+            length = int.from_bytes(await reader.readexactly(2), "big")
+            return await reader.readexactly(length)
+        finally:
+            writer.close()
 
 
 class Packed(typing.NamedTuple):
@@ -57,8 +82,9 @@ class Missing(Exception):
 class Tree:
     """The root, the parent, and the zones under test with what is below them.
 
-    A zone under test has `apex`, `ds()`, `servers()`, `below()` (zones by their apexes) and `answer(name, rtype)`, a message that
-    is packed, or none; it may raise `Missing`. The servers at some addresses may be so many seconds late.
+    A zone under test has `apex`, `ds()`, `servers()`, `addresses(target)`, `below()` (zones by their apexes) and `answer(name, rtype)`:
+    a message that is packed, a server that answers, or none; it may raise `Missing`. The servers at some addresses may be so many
+    seconds late.
     """
 
     def __init__(self, keys, ttl=3600):
@@ -125,7 +151,8 @@ class Tree:
     def addresses(self, target):
         """The addresses of a server."""
         known = {wire.wire("ns.parent"): [PARENT, SERVER], wire.wire("a.root"): [ROOT]}
-        return known.get(target) or [BELOW if self.zone_of(target, self.children) else SERVER]
+        case = self.zone_of(target, self.cases)
+        return known.get(target) or (case.addresses(target) if case else [])
 
 
 class Question:
@@ -151,11 +178,16 @@ class Server:
         self.tree, self.address, self.finding = tree, address, {}
 
     async def answered(self, octets, limit=None):
-        """The answer to a question in octets, cut off behind a limit."""
+        """The answer to a question in octets, cut off behind a limit where it came by a datagram."""
         question = Question(octets)
         if self.address in self.tree.late:
             await asyncio.sleep(self.tree.late[self.address])
         answer = await self.found(question)
+        if isinstance(answer, Relay):
+            return await (answer.by_stream(octets) if limit is None else answer.by_datagram(octets))
+        return self.whole(question, answer, limit)
+
+    def whole(self, question, answer, limit):
         flags = question.flags & (wire.RD | wire.CD) | (wire.RA if self.address == FORWARD else 0)
         edns = b"\0" + struct.pack(">HHIH", OPT, LIMIT, 0x8000, 0) if question.has_edns else b""
         if answer is None:
@@ -197,7 +229,10 @@ class Datagrams(asyncio.DatagramProtocol):
         task.add_done_callback(self.tasks.discard)
 
     async def answer(self, data, peer):
-        self.transport.sendto(await self.server.answered(data, LIMIT), peer)
+        try:
+            self.transport.sendto(await self.server.answered(data, LIMIT), peer)
+        except (asyncio.TimeoutError, ConnectionError):
+            pass
 
 
 async def stream(server, reader, writer):
@@ -208,7 +243,7 @@ async def stream(server, reader, writer):
             answer = await server.answered(await reader.readexactly(length))
             writer.write(len(answer).to_bytes(2, "big") + answer)
             await writer.drain()
-    except (asyncio.IncompleteReadError, asyncio.CancelledError, ConnectionError):
+    except (asyncio.IncompleteReadError, asyncio.CancelledError, asyncio.TimeoutError, ConnectionError):
         pass
     finally:
         writer.close()

@@ -7,11 +7,10 @@ import threading
 import time
 
 import wire
-from authority import Missing, PARENT, packed
+from authority import Missing, packed
 from cases import Zoned
 from keys import ds_of
-from wire import DNSKEY
-from zones import BELOW, SERVER
+from wire import A, AAAA, DNSKEY, DS, NS, SOA
 
 ADDRESS = "127.0.0.1", 5300
 ALGORITHMS = {13: ["-a", "ECDSAP256SHA256"], 8: ["-a", "RSASHA256", "-b", "2048"]}
@@ -28,6 +27,15 @@ def run(folder, *words):
 def line(owner, rtype, ttl, data):
     """A record in a master file, as RFC 3597 writes data."""
     return f"{wire.text(owner)} {ttl} IN TYPE{rtype} \\# {len(data)} {data.hex()}"
+
+
+def likely(zone, questions):
+    """What is asked on the way: names and those above them, delegations, the names right below the apex, servers."""
+    asked = sorted({name[at:] for name, _rtype in questions for at in range(len(name))})
+    found = dict.fromkeys((name, rtype) for name in asked for rtype in (A, NS))
+    found.update(dict.fromkeys((name, DS) for name in asked if len(name) == 1 or name in zone.cuts))
+    found.update(dict.fromkeys(((("ns",), A), (("ns",), AAAA), ((), A), ((), NS), ((), SOA))))
+    return list(found)
 
 
 class BindCase(Zoned):
@@ -61,6 +69,11 @@ class BindCase(Zoned):
         points = [it.data for it in message.sections[0] if it.rtype == DNSKEY and it.data[1] & 1]
         return sorted(ds_of(self.apex, data) for data in points)
 
+    def all_questions(self):
+        """The questions, and those on the way to them."""
+        questions = dict.fromkeys([*self.questions, *likely(self.zone, self.questions)])
+        return [(self.zone.owner(name, self.apex), rtype) for name, rtype in questions]
+
     def find(self):
         for question in self.all_questions():
             self.find_one(*question)
@@ -72,21 +85,16 @@ class BindCase(Zoned):
         self.answers[name, rtype] = packed(message._replace(flags=flags, sections=sections), self.addresses)
         return self.answers[name, rtype]
 
-    def addresses(self, target):
-        if target == wire.wire("ns.parent"):
-            return [PARENT, SERVER]
-        return [SERVER if target == b"\2ns" + self.apex else BELOW]
-
     def answer(self, name, rtype):
         if (name, rtype) not in self.answers:
             raise Missing(lambda: self.find_one(name, rtype))
         return self.answers[name, rtype]
 
 
-def ask(name, rtype):
-    """What named answers, over TCP."""
+def ask(name, rtype, address=ADDRESS):
+    """What a server answers, over TCP; what named does, if no other is named."""
     octets = query(name, rtype)
-    with socket.create_connection(ADDRESS, timeout=20) as it:
+    with socket.create_connection(address, timeout=20) as it:
         it.sendall(len(octets).to_bytes(2, "big") + octets)
         with it.makefile("rb") as answer:
             return wire.read(answer.read(int.from_bytes(answer.read(2), "big")))

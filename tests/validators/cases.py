@@ -1,78 +1,24 @@
-"""Zones under test, as a name server knows them: at one stage of a roll, of mixed stages, or against the clock."""
+"""Zones under test: at one stage of a roll, of mixed stages, or against the clock."""
 
+import asyncio
+import contextlib
+import multiprocessing.pool
 import random
-import threading
 import time
 
 import wire
-from authority import Missing, PARENT, packed
-from bench import SHOWN, STAGES
+from authority import Relay
+from bench import SHOWN, STAGES, STEPS
 from static import Static
-from wire import A, AAAA, DNSKEY, DS, NS, NSEC, NSEC3, NSEC3PARAM, RRSIG, SOA
-from zones import BELOW, SERVER
+from wire import A, DNSKEY, NS
+from zones import BELOW, PLACES, SERVER
 
-# How far moments lie behind the clock.
-BEHIND = 3600
 # How long before the report the last server has a change, in seconds: answers may be under way.
 MARGIN = 0.5
-
-# Types that signing adds: a publisher shows the DNSKEY set, and refuses all other questions for these.
-ADDED = {RRSIG, NSEC, DNSKEY, NSEC3, NSEC3PARAM}
-
-
-def likely(zone, questions):
-    """What is asked on the way: names and those above them, delegations, the names right below the apex, servers."""
-    asked = sorted({name[at:] for name, _rtype in questions for at in range(len(name))})
-    found = dict.fromkeys((name, rtype) for name in asked for rtype in (A, NS))
-    found.update(dict.fromkeys((name, DS) for name in asked if len(name) == 1 or name in zone.cuts))
-    found.update(dict.fromkeys((("ns", *name), AAAA) for name in asked if name in zone.cuts))
-    found.update(dict.fromkeys(((("ns",), A), (("ns",), AAAA), ((), A), ((), NS), ((), SOA))))
-    return list(found)
-
-
-class Shown:
-    """What a source shows at a stage: the DS set, the DNSKEY answer, answers to questions."""
-
-    def __init__(self, source, stage, moment):
-        self.source, self.stage, self.moment = source, stage, moment
-        self.ds, self.dnskey, self.answers = None, None, {}
-        self.lock = threading.Lock()
-
-    def find(self, questions):
-        """Has the bench answer questions."""
-        with self.lock:
-            wanted = [it for it in questions if it not in self.answers]
-            if self.ds is not None and not wanted:
-                return
-            ds, dnskey, answers = self.source.asked(self.stage, self.moment(), wanted)
-            self.answers.update((it, self.packed(message)) for it, message in zip(wanted, answers))
-            self.ds, self.dnskey = self.ds or ds, self.dnskey or self.packed(dnskey)
-
-    def packed(self, message):
-        return message and packed(message, self.addresses)
-
-    def addresses(self, target):
-        if target == wire.wire("ns.parent"):
-            return [PARENT, SERVER]
-        return [SERVER if target == b"\2ns" + self.source.apex else BELOW]
-
-    def answer(self, name, rtype):
-        if rtype in ADDED:
-            return self.dnskey if (name, rtype) == (self.source.apex, DNSKEY) else None
-        if (name, rtype) not in self.answers:
-            raise Missing(lambda: self.found(name, rtype))
-        return self.answers[name, rtype]
-
-    def found(self, name, rtype):
-        self.find([(name, rtype)])
-        return self.answers[name, rtype]
-
-    def __getstate__(self):
-        return self.ds, self.dnskey, self.answers
-
-    def take(self, state):
-        """Takes what was found in another process."""
-        self.ds, self.dnskey, self.answers = state
+# In seconds, how long a keeper tries a step that is refused, since a wait is over at a whole second, and how often.
+TRIES, PAUSE = 4, 0.1
+# In seconds, how long a resolver may take beyond a TTL.
+SLACK = 1.5
 
 
 class Zoned:
@@ -84,75 +30,182 @@ class Zoned:
     def servers(self):
         return [it(self.apex) for it in self.zone.sets[(), NS]]
 
+    def addresses(self, target):
+        """Those of a server that the zone itself names (glue)."""
+        return PLACES.get(self.apex, [SERVER]) if target == b"\2ns" + self.apex else []
+
     def below(self):
         """The zones below delegations."""
         return {self.zone.owner(cut, self.apex): self.child(cut, signed) for cut, signed in self.zone.cuts.items()}
 
     def child(self, cut, is_signed):
         apex = self.zone.owner(cut, self.apex)
-        records = [(apex, NS, b"\2ns" + apex), (b"\2ns" + apex, A, BELOW), (b"\4host" + apex, A, BELOW)]
+        records = [(apex, NS, b"\5below" + self.apex), (b"\4host" + apex, A, BELOW)]
         return Static(apex, self.below_key if is_signed else None, records)
 
-    def all_questions(self):
-        """The questions, and those on the way to them."""
-        questions = dict.fromkeys([*self.questions, *likely(self.zone, self.questions)])
-        return [(self.zone.owner(name, self.apex), rtype) for name, rtype in questions]
+    def says(self, question, _asked):
+        """What the zone may say of a question from a moment on."""
+        return [self.zone.says(*question)]
+
+    def drawn_questions(self, drawn, count):
+        return drawn.sample(self.questions, count)
 
 
 class Case(Zoned):
-    """DS set, DNSKEY answer and answers of three stages, all of one stage as a rule."""
+    """DS set, DNSKEY answer and answers of three stages, all of one stage as a rule. A server answers for each stage; validators ask
+    it by themselves where it is one."""
 
     def __init__(self, source, below_key, stages, questions):
         super().__init__(source.zone, source.apex, below_key, questions)
         self.source, self.stages = source, stages
-        now = int(time.time()) - BEHIND
-        self.shown = {it: Shown(source, it, lambda: now) for it in dict.fromkeys(stages)}
+        self.at = {it: source.workshop.address() for it in dict.fromkeys(stages[1:])}
+        if len(self.at) == 1:
+            PLACES[self.apex] = [*self.at.values()]
 
-    def find(self):
-        """All that is needed, in a form that other processes take."""
-        for stage, shown in self.shown.items():
-            shown.find(self.all_questions() if stage == self.stages[2] else [])
-        return {stage: shown.__getstate__() for stage, shown in self.shown.items()}
+    def prepare(self):
+        """Has servers come to the stages. They do not run yet."""
+        found = self.source.live(set(self.stages), self.at)
+        self.of_parent = found[self.stages[0]][0]
+        self.running = [found[it][1] for it in self.at]
 
-    def take(self, found):
-        for stage, state in found.items():
-            self.shown[stage].take(state)
+    def start(self):
+        for it in self.running:
+            it.start()
+
+    def stop(self):
+        for it in self.running:
+            it.remove()
 
     def ds(self):
-        return self.shown[self.stages[0]].ds
+        return self.of_parent
 
-    def answer(self, name, rtype):
-        return self.shown[self.stages[1 if rtype == DNSKEY else 2]].answer(name, rtype)
+    def answer(self, _name, rtype):
+        return Relay(self.at[self.stages[1 if rtype == DNSKEY else 2]])
 
 
-class Clocked(Case):
-    """All stages, one after the other, at moments of the clock. Behind a change half the answers are still of the stage before,
-    until it is reported that all servers have it."""
+class Version:
+    """A zone as it is from a moment of the clock on, until another one is."""
 
-    def __init__(self, source, below_key, questions, begin, steps):
-        """`begin` is shared by processes: the moment at which the roll begins. Steps come so many seconds behind it."""
-        super().__init__(source, below_key, range(STAGES), questions)
-        self.begin, self.steps = begin, steps
+    def __init__(self, zone, begin):
+        self.zone, self.begin, self.end = zone, begin, float("inf")
+
+
+class Clocked(Zoned):
+    """A zone on two servers, whose keys roll against the clock. Of each change the second server hears later, a while before it is
+    reported that all servers have it; so does the parent as often as not."""
+
+    def __init__(self, source, below_key, questions, steps, reported):
+        """Steps come so many seconds behind the beginning; `reported` is the TTL that the keeper reports."""
+        super().__init__(source.zone, source.apex, below_key, questions)
+        self.source, self.steps, self.reported = source, steps, reported
         self.drawn = random.Random(source.apex)
-        calls = source.plan.moments()
-        for stage, moment in enumerate([calls[0] - 1, *calls]):
-            # An answer is of the moment at which its stage begins.
-            self.shown[stage].moment = lambda moment=moment: moment
+        PLACES[self.apex] = [source.workshop.address() for _ in range(2)]
+        self.versions, self.touched, self.gone = [Version(self.zone, 0)], [], None
+        # In seconds, the longest until both servers had a version.
+        self.slowest = 0.0
 
-    def find(self):
-        for shown in self.shown.values():
-            shown.find(self.all_questions())
-        return {stage: shown.__getstate__() for stage, shown in self.shown.items()}
+    def start(self):
+        self.running = [self.source.server(it) for it in PLACES[self.apex]]
+        for it in self.running:
+            self.source.begin(it)
 
-    def stage(self):
-        now = time.time() - self.begin.value
-        passed = sum(now >= it for it in self.steps)
-        changed = passed and SHOWN[passed] != SHOWN[passed - 1]
-        is_under_way = passed < len(self.steps) and now < self.steps[passed] - MARGIN
-        return passed - 1 if changed and is_under_way and self.drawn.random() < 0.5 else passed
+    def stop(self):
+        for it in self.running:
+            it.remove()
 
     def ds(self):
-        return self.shown[self.stage()].ds
+        return random.choice(self.running).ds()
 
-    def answer(self, name, rtype):
-        return self.shown[self.stage()].answer(name, rtype)
+    def answer(self, _name, _rtype):
+        return Relay(random.choice(PLACES[self.apex]))
+
+    # What its keeper does.
+
+    async def keep(self, begin):
+        """Goes through the steps of the rolls."""
+        for at, step in enumerate(STEPS):
+            await until(begin + self.steps[at])
+            late = self.steps[at + 1] - self.steps[at] - MARGIN if SHOWN[at + 1] != SHOWN[at] else 0
+            await asyncio.gather(self.step(self.running[0], step), self.step(self.running[1], step, late))
+
+    async def step(self, server, step, late=0):
+        await asyncio.sleep(late)
+        for command in self.source.commands(step, self.reported):
+            await self.done(server, command)
+
+    @staticmethod
+    async def done(server, command):
+        """Gives a command, until it is done: a wait may not be over for parts of a second."""
+        end = time.time() + TRIES
+        while True:
+            is_done, said = await asyncio.to_thread(server.tell, command)
+            if is_done:
+                return
+            if time.time() > end:
+                raise RuntimeError(f"{server.folder}: {command}: {said}")
+            await asyncio.sleep(PAUSE)
+
+    async def replace(self, begin, moments, late):
+        """Replaces the zone at moments behind the beginning; at the second server later."""
+        for moment in moments:
+            await until(begin + moment)
+            serial = len(self.versions) + 1
+            after, name, self.gone = self.versions[-1].zone.changed(serial, self.drawn, self.gone)
+            self.touch(after, name)
+            version = Version(after, time.time())
+            before = self.versions[-1]
+            self.versions.append(version)
+            await self.replaced(self.running[0], after)
+            await asyncio.sleep(max(0.0, version.begin + late - time.time()))
+            await self.replaced(self.running[1], after)
+            # A cache may have had the version before until now.
+            before.end = time.time() + self.zone.ttl + SLACK
+            self.slowest = max(self.slowest, time.time() - version.begin)
+
+    async def replaced(self, server, zone):
+        await asyncio.to_thread(server.replace, self.source.records(zone))
+
+    def touch(self, after, name):
+        """Notes questions about a name that was changed."""
+        zones = (self.versions[-1].zone, after)
+        rtypes = {rtype for zone in zones for owner, rtype in zone.sets if owner == name} | {A}
+        self.touched = [*((name, it) for it in sorted(rtypes)), (("under", *name), A), ((), wire.SOA)]
+
+    def says(self, question, asked):
+        """What a cache may hold from a moment on: that of each version that was there then, the last one first."""
+        now = time.time()
+        versions = [it for it in reversed(self.versions) if it.begin <= now and it.end >= asked]
+        return [it.zone.says(*question) for it in versions]
+
+    def drawn_questions(self, drawn, count):
+        """Half the questions are about what was replaced last."""
+        touched = [it for it in self.touched if drawn.random() < 0.5][: count // 2]
+        return [*touched, *drawn.sample(self.questions, count - len(touched))]
+
+
+async def until(moment):
+    await asyncio.sleep(max(0.0, moment - time.time()))
+
+
+def prepare(cases):
+    """Has the servers of all cases come to their stages, side by side."""
+    with multiprocessing.pool.ThreadPool(4) as pool:
+        for _ in pool.imap_unordered(lambda it: it.prepare(), cases):
+            pass
+
+
+@contextlib.contextmanager
+def serving(cases):
+    """Has the servers of cases run while this lasts."""
+    begun = []
+    try:
+        for it in cases:
+            begun.append(it)
+            it.start()
+        yield
+    finally:
+        for it in begun:
+            it.stop()
+
+
+STAGED = [(it,) * 3 for it in range(STAGES)]

@@ -6,7 +6,7 @@ import math
 import random
 import struct
 
-from cryptography.hazmat.primitives import hashes
+from cryptography.hazmat.primitives import hashes, serialization
 from cryptography.hazmat.primitives.asymmetric import ec, padding, rsa, utils
 
 import wire
@@ -78,6 +78,11 @@ class Key:
     @property
     def base64(self):
         return base64.b64encode(self.pair.public).decode()
+
+    @property
+    def pem(self):
+        form = serialization.PrivateFormat.PKCS8
+        return self.pair.secret.private_bytes(serialization.Encoding.PEM, form, serialization.NoEncryption())
 
     def ds(self, owner):
         return ds_of(owner, self.data)

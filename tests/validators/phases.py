@@ -3,7 +3,6 @@
 import asyncio
 import itertools
 import multiprocessing
-import os
 import time
 import typing
 
@@ -55,21 +54,6 @@ def address_of(at):
     return f"198.51.100.{21 + at}"
 
 
-CASES = []
-
-
-def find(at):
-    return CASES[at].find()
-
-
-def find_all(cases):
-    """Has the bench answer what all zones are asked, on all processors."""
-    CASES[:] = cases
-    with FORKED.Pool(os.cpu_count()) as pool:
-        for case, found in zip(cases, pool.imap(find, range(len(cases)))):
-            case.take(found)
-
-
 async def serve_for_ever(tree):
     await authority.serve(tree, True)
     await asyncio.Event().wait()
@@ -113,11 +97,12 @@ class Phase:
             it.join()
 
     async def tell(self, validator, case, question):
-        """Asks a validator."""
-        name, rtype = question
-        says = case.zone.says(name, rtype)
+        """Asks a validator. Where the zone is replaced, it may say what a version said that a cache may hold."""
+        (name, rtype), asked = question, time.time()
         heard = await validator.ask(case.zone.owner(name, case.apex), rtype)
-        return Told(case, question, validator.NAME, says, heard, agrees(validator, says, heard, case.apex))
+        may_say = case.says(question, asked)
+        agreeing = [it for it in may_say if agrees(validator, it, heard, case.apex)]
+        return Told(case, question, validator.NAME, (agreeing or may_say)[0], heard, bool(agreeing))
 
     async def tell_all(self, cases, questions, is_control=False):
         """Asks each validator about zones; `questions` gives those for a validator and a zone. What differs is asked anew,
@@ -164,17 +149,21 @@ class Phase:
         return told
 
 
-async def by_the_clock(phase, begin, steps, per_second, drawn):
-    """Asks each resolver some questions about each zone, each second, while zones go through their stages and for a while
-    behind."""
-    begin.value = int(time.time()) + LEAD
+async def by_the_clock(phase, replacements, late, per_second, drawn):
+    """Asks each resolver some questions about each zone, each second, while keys roll, zones are replaced at these moments, and for a
+    while behind."""
+    # Steps come in the midst of a second, since moments are whole ones.
+    begin = int(time.time()) + LEAD + 0.3
+    end = begin + max(it.steps[-1] for it in phase.cases) + LEAD
+    keepers = [asyncio.create_task(it) for case in phase.cases for it in (case.keep(begin), case.replace(begin, replacements, late))]
     tasks = []
-    while time.time() < begin.value + steps[-1] + LEAD:
+    while time.time() < end:
         began = time.time()
         for case in phase.cases:
             for validator in phase.validators:
-                for question in drawn.sample(case.questions, per_second):
+                for question in case.drawn_questions(drawn, per_second):
                     tasks.append(asyncio.create_task(phase.tell(validator, case, question)))
             await asyncio.sleep(0)
         await asyncio.sleep(max(0.0, began + 1 - time.time()))
+    await asyncio.gather(*keepers)
     return await asyncio.gather(*tasks)

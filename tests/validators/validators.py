@@ -73,13 +73,22 @@ class Client(asyncio.DatagramProtocol):
         return None
 
     async def ask_by_stream(self, name, rtype):
+        """Asks over TCP, again where a connection is closed, since resolvers take few at a time."""
+        for pause in (0.5, 1, 2):
+            try:
+                return await asyncio.wait_for(self.asked_by_stream(query(1, name, rtype)), PATIENCE)
+            except (OSError, asyncio.IncompleteReadError, asyncio.TimeoutError):
+                await asyncio.sleep(pause)
+        return None
+
+    async def asked_by_stream(self, octets):
         reader, writer = await asyncio.open_connection(*self.address)
-        octets = query(1, name, rtype)
-        writer.write(len(octets).to_bytes(2, "big") + octets)
-        length = int.from_bytes(await reader.readexactly(2), "big")
-        answer = await reader.readexactly(length)
-        writer.close()
-        return answer
+        try:
+            writer.write(len(octets).to_bytes(2, "big") + octets)
+            length = int.from_bytes(await reader.readexactly(2), "big")
+            return await reader.readexactly(length)
+        finally:
+            writer.close()
 
 
 class Validator:
@@ -130,7 +139,7 @@ class Resolver(Validator):
 
     async def is_up(self):
         """Waits until it answers."""
-        for _ in range(100):
+        for _ in range(300):
             self.client.transport.sendto(query(1, b"\0", wire.SOA))
             self.client.waiting[1] = asyncio.get_running_loop().create_future()
             try:

@@ -1,17 +1,15 @@
 """Zones put together from answers, as other programs verify them."""
 
 import itertools
-import os
+import multiprocessing.pool
 import subprocess
-import time
 
 import wire
-from bench import STATES, Plan
-from bind import line
-from cases import BEHIND
+from bench import STATES
+from bind import ask, line
 from keys import POINT
-from phases import FORKED
-from wire import A, DS, NSEC, NSEC3, NSEC3PARAM, RRSIG, SRV, Record
+from served import dotted
+from wire import A, DNSKEY, DS, NSEC, NSEC3, NSEC3PARAM, RRSIG, SRV, Record
 
 
 def questions(zone):
@@ -23,14 +21,17 @@ def questions(zone):
     return list(found)
 
 
-def records(source, moment, stage):
-    """All records of the answers."""
+def records(source, stage):
+    """All records of the answers of a server at a stage."""
     asked = [(source.zone.owner(name, source.apex), rtype) for name, rtype in questions(source.zone)]
-    _ds, dnskey, answers = source.asked(stage, moment, asked)
+    address = source.workshop.address()
+    _ds, server = source.live({stage}, {stage: address})[stage]
+    server.start()
     found = {}
-    for message in (dnskey, *answers):
-        for section in message.sections:
-            found.update(((it.owner.lower(), it.rtype, it.data), it) for it in section)
+    for question in ((source.apex, DNSKEY), *asked):
+        for section in ask(*question, (dotted(address), 53)).sections:
+            found.update(((it.owner.lower(), it.rtype, it.data), it) for it in section if it.rtype != wire.OPT)
+    server.remove()
     return [it._replace(owner=it.owner.lower()) for it in found.values()]
 
 
@@ -43,7 +44,7 @@ def parameters(source, of_zone):
     for record in of_zone:
         if record.rtype == RRSIG and record.data[:2] == wire.SOA.to_bytes(2, "big"):
             fields = NSEC3PARAM.to_bytes(2, "big") + record.data[2 : wire.read_name(record.data, 18)[1]]
-            key = source.signer.by_tag[int.from_bytes(fields[16:18], "big")]
+            key = source.ring.keys.by_tag()[int.from_bytes(fields[16:18], "big")]
             octets = wire.signed_octets(fields, source.apex, NSEC3PARAM, [data])
             yield record._replace(data=fields + key.sign(octets))
 
@@ -51,7 +52,7 @@ def parameters(source, of_zone):
 def is_combined(source, of_zone):
     """Whether each key that signs the zone signs keys, too: dnssec-verify is told that."""
     of_soa = (it.data for it in of_zone if it.rtype == RRSIG and it.data[:2] == wire.SOA.to_bytes(2, "big"))
-    return all(source.signer.by_tag[int.from_bytes(it[16:18], "big")].flags == POINT for it in of_soa)
+    return all(source.ring.keys.by_tag()[int.from_bytes(it[16:18], "big")].flags == POINT for it in of_soa)
 
 
 def said(words):
@@ -59,9 +60,9 @@ def said(words):
     return "well" if ran.returncode == 0 else " ".join((ran.stdout + ran.stderr).split())[-300:]
 
 
-def whole(source, moment, stage):
+def whole(source, stage):
     """All records of a zone at a stage, the SOA record first."""
-    found = records(source, moment, stage)
+    found = records(source, stage)
     if any(it.rtype == NSEC3 for it in found):
         found += parameters(source, found)
     return sorted(found, key=lambda it: it.rtype != wire.SOA)
@@ -75,26 +76,20 @@ def broken(of_zone):
     return [it for it in of_zone if it != gone and it not in is_signature]
 
 
-STAGED = []
-
-
 def verify(world, folder):
     """Each program, a zone at a stage, whether it is broken, and what the program says: of each zone what each change of each roll
     leaves, and as a control, once of each roll, the zone without a record of its chain."""
     folder.mkdir()
-    moment = int(time.time()) - BEHIND
-    plan = Plan(moment - 4 * 3600, 10, 3600)
     pairs = itertools.product(world.pairs(), STATES)
-    STAGED[:] = [(world.source(*pair, f"whole{stage}", plan), stage, moment, folder) for pair, stage in pairs]
-    with FORKED.Pool(os.cpu_count()) as pool:
-        for told in pool.imap(verified_at, range(len(STAGED))):
+    staged = [(world.source(*pair, f"whole{stage}"), stage, folder) for pair, stage in pairs]
+    with multiprocessing.pool.ThreadPool(4) as pool:
+        for told in pool.imap(lambda it: verified_at(*it), staged):
             yield from told
 
 
-def verified_at(at):
+def verified_at(source, stage, folder):
     """What the programs say of a zone at a stage."""
-    source, stage, moment, folder = STAGED[at]
-    of_zone, apex = whole(source, moment, stage), wire.text(source.apex)
+    of_zone, apex = whole(source, stage), wire.text(source.apex)
     dnssec_verify = ["dnssec-verify", "-q", *["-z"] * is_combined(source, of_zone), "-o", apex]
     told = [*verified(dnssec_verify, folder / apex, of_zone, False)]
     if stage == STATES[0]:

@@ -4,6 +4,7 @@ RFC 5155, 9.2).
 Names are tuples of labels below the apex, the lowest first: `()` is the apex.
 """
 
+import copy
 import itertools
 import random
 import typing
@@ -13,8 +14,10 @@ from wire import A, AAAA, DS, MX, NAMES, NS, SOA, TXT, text, wire
 QUESTIONS = 49
 TYPES = [A, TXT, MX, AAAA]
 WORDS = "ant bee cat dog elk fox gnu hen ibis jay kid lark mole newt owl pig quail ram seal toad urial vole wasp yak zebu".split()
-# Where the servers of a zone, and those of the zones below it, are reached.
+# Where the servers of a zone are reached, if it has no place of its own, and where those of the zones below it.
 SERVER, BELOW = bytes([198, 51, 100, 3]), bytes([198, 51, 100, 4])
+# The addresses of the servers of zones, by apex.
+PLACES = {}
 
 
 class Shape(typing.NamedTuple):
@@ -65,8 +68,8 @@ class Says(typing.NamedTuple):
 class Zone:
     """A zone: from owner and type to data, each of which is a function of the apex."""
 
-    def __init__(self, shape, seed, ttl=3600):
-        self.shape, self.ttl = shape, ttl
+    def __init__(self, shape, seed, ttl=3600, servers=1):
+        self.shape, self.ttl, self.servers = shape, ttl, servers
         self.drawn = random.Random(f"{seed} {shape.name}")
         self.sets = {}
         self.cuts = {}
@@ -74,24 +77,33 @@ class Zone:
         self.add_hosts()
         self.add_wildcards()
         self.add_cuts()
-        self.names = {name[at:] for name, _rtype in self.sets for at in range(len(name) + 1)}
-        self.shown = {name[at:] for name in self.chained() for at in range(len(name) + 1)}
+        self.survey()
         self.questions = self.draw_questions()
 
     # What the zone has.
+
+    def survey(self):
+        """Finds the names that exist, and those that the chain has."""
+        self.names = {name[at:] for name, _rtype in self.sets for at in range(len(name) + 1)}
+        self.shown = {name[at:] for name in self.chained() for at in range(len(name) + 1)}
 
     def add(self, name, rtype, *data):
         self.sets.setdefault((name, rtype), []).extend(data)
 
     def add_apex(self):
-        numbers = b"".join(it.to_bytes(4, "big") for it in (1, 3600, 900, 86400, self.ttl))
-        self.add((), SOA, lambda apex: wire("ns.parent") + wire("admin.parent") + numbers)
+        self.add_soa(1)
         if self.shape.is_served_above:
             self.add((), NS, lambda _apex: wire("ns.parent"))
         else:
             self.add((), NS, lambda apex: b"\2ns" + apex)
-            self.add(("ns",), A, lambda _apex: SERVER)
+            for at in range(self.servers):
+                self.add(("ns",), A, lambda apex, at=at: PLACES.get(apex, [SERVER])[at])
+        self.add(("below",), A, lambda _apex: BELOW)
         self.add((), MX, lambda apex: b"\0\12\4mail" + apex)
+
+    def add_soa(self, serial):
+        numbers = b"".join(it.to_bytes(4, "big") for it in (serial, 3600, 900, 86400, self.ttl))
+        self.add((), SOA, lambda _apex: wire("ns.parent") + wire("admin.parent") + numbers)
 
     def label(self):
         word = self.drawn.choice(WORDS)
@@ -148,11 +160,40 @@ class Zone:
     def cut(self, name, is_signed):
         prefix = b"".join(bytes([len(label)]) + label.encode() for label in name)
         self.cuts[name] = is_signed
-        self.add(name, NS, lambda apex: b"\2ns" + prefix + apex)
+        # The server is named in this zone, since the referral has no addresses.
+        self.add(name, NS, lambda apex: b"\5below" + apex)
         if is_signed:
             self.add(name, DS, lambda apex: self.child_ds(prefix + apex))
 
     child_ds = None
+
+    # Replacements.
+
+    def changed(self, serial, drawn, gone=None):
+        """The zone of a serial number, in which a name has come back, or is gone, or has other data. Gives it with the name, and the
+        RRsets that are gone."""
+        after = copy.copy(self)
+        after.sets = {at: of for at, of in self.sets.items() if at != ((), SOA)}
+        after.add_soa(serial)
+        after.sets = {at: after.sets[at] for at in (((), SOA), *after.sets)}
+        if gone:
+            after.sets.update(gone)
+            name, gone = next(iter(gone))[0], None
+        elif serial % 2:
+            name, rtype = drawn.choice([at for at in after.sets if self.is_host(at[0])])
+            after.sets[name, rtype] = [self.content(rtype)]
+        else:
+            name = drawn.choice([it for it, _rtype in after.sets if self.is_host(it) and self.is_leaf(it)])
+            gone = {at: of for at, of in after.sets.items() if at[0] == name}
+            after.sets = {at: of for at, of in after.sets.items() if at[0] != name}
+        after.survey()
+        return after, name, gone
+
+    def is_host(self, name):
+        return name not in ((), ("ns",), ("below",)) and self.cut_above(name) is None
+
+    def is_leaf(self, name):
+        return not any(len(it) > len(name) and it[-len(name) :] == name for it in self.names)
 
     def chained(self):
         """The owners that the chain has: under opt-out not those of delegations without DS."""
