@@ -19,12 +19,12 @@ use Rattle.answer_judge_keys.specs.Trusted.{is_trusted, is_usable}
 use Rattle.answer_judge_keys.specs.declared.verdict.Refusal.{Refusal}
 use Rattle.answer_judge_keys.specs.declared.verdict.Refusal.TheVariants as r
 use Rattle.answer_judge_facts.specs.Judged.{are_mixed, are_over, by_facts, facts_in, ds_authenticates_keys, is_unhashed, judged, judged_answer, judged_bytes, judged_facts, judged_messages, keys_of, trusting}
-use Rattle.answer_judge_facts.specs.Times.{are_unlike}
-use Rattle.answer_judge_facts.specs.Verified.{is_verified}
+use Rattle.answer_judge_facts.specs.Times.{are_unlike, proof_times}
+use Rattle.answer_judge_facts.specs.Verified.{Trusting, is_verified, verified_facts}
 use Rattle.answer_judge.proofs.GivenNext.{canonical_octets}
-use Rattle.answer_alike.specs.SeenAlike.{AnswersJudgedAlike, KeysJudgedAlike, SeenAlike}
+use Rattle.answer_alike.specs.SeenAlike.{AnswersJudgedAlike, KeysJudgedAlike, SeenAlike, UncoveredJudgedAlike}
 use Rattle.answer_alike.proofs.UsedAlike.{some_alike, verified_alike}
-use Rattle.answer_alike.proofs.FactsAlike.{all_times, facts_alike}
+use Rattle.answer_alike.proofs.FactsAlike.{all_bare_times, all_times, bare_facts, facts_alike}
 
 -- ---- what the judge looks at
 
@@ -68,7 +68,8 @@ judged_same a h f g e = judged_low a h f ∙ ap (judged_facts a h) e ∙ sym (ju
 
 -- ---- answers
 
-module _ (a : Answers) (k : ℕ) (h : JudgeInput) (m n : List ℕ) (seen : SeenAlike k h.asked.rtype m n) where
+-- what is used is alike of some type, and the facts and the times of signatures are those of the other
+module _ (a : Answers) (k : ℕ) (h : JudgeInput) (m n : List ℕ) (v : ℕ) (seen : SeenAlike k v m n) (facts : (w : Trusting) → low_facts (verified_facts w k m seen.one.records h.asked.name h.asked.rtype) ≡ low_facts (verified_facts w k n seen.other.records h.asked.name h.asked.rtype)) (times : (w : Trusting) → proof_times w k m seen.one.records h.asked.name h.asked.rtype ≡ proof_times w k n seen.other.records h.asked.name h.asked.rtype) where
   abbrev one_handing : JudgeInput
   one_handing = record h { answer_bytes = m }
 
@@ -90,11 +91,10 @@ module _ (a : Answers) (k : ℕ) (h : JudgeInput) (m n : List ℕ) (seen : SeenA
   answer_judged : (usable : List Dnskey) → judged_answer a k one_handing usable seen.one ≡ judged_answer a k other_handing usable seen.other
   answer_judged usable =
       let w = trusting a h usable in
-      let facts = facts_alike k m n h.asked.rtype seen.one.records seen.other.records seen.records_are w h.asked.name in
-      let times = all_times k m n h.asked.rtype seen.one.records seen.other.records seen.records_are w h.asked.name in
+      let at = times w in
       let same : judged_facts a h (facts_in a k one_handing usable seen.one) ≡ judged_facts a h (facts_in a k other_handing usable seen.other) =
-      judged_same a h (facts_in a k one_handing usable seen.one) (facts_in a k other_handing usable seen.other) facts in
-      λ i. if h.one_moment && are_unlike (times i) then Refuses r.MixedVersions else same i
+      judged_same a h (facts_in a k one_handing usable seen.one) (facts_in a k other_handing usable seen.other) (facts w) in
+      λ i. if h.one_moment && are_unlike (at i) then Refuses r.MixedVersions else same i
 
   chained_answer : (x : Message) → judged_messages a k one_handing x seen.one ≡ judged_messages a k other_handing x seen.other
   chained_answer x =
@@ -110,7 +110,16 @@ module _ (a : Answers) (k : ℕ) (h : JudgeInput) (m n : List ℕ) (seen : SeenA
   answers_judged = λ i. said_of (is_judged h) (nat_eq (length h.ds) 0) (answer_first i) (answer_bytes_judged i)
 
 pub answers_alike : AnswersJudgedAlike
-answers_alike a k h m n seen = answers_judged a k h m n seen
+answers_alike a k h m n seen =
+    answers_judged a k h m n h.asked.rtype seen
+    (λ w. facts_alike k m n h.asked.rtype seen.one.records seen.other.records seen.records_are w h.asked.name)
+    (λ w. all_times k m n h.asked.rtype seen.one.records seen.other.records seen.records_are w h.asked.name)
+
+pub uncovered_alike : UncoveredJudgedAlike
+uncovered_alike a k h m n seen bare =
+    answers_judged a k h m n 46 seen
+    (λ w. bare_facts k m n h.asked.rtype seen.one.records seen.other.records seen.records_are bare w h.asked.name)
+    (λ w. all_bare_times k m n h.asked.rtype seen.one.records seen.other.records seen.records_are bare w h.asked.name)
 
 -- ---- DNSKEY answers
 

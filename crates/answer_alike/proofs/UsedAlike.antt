@@ -2,7 +2,7 @@
 use Rattle.std.proofs.Common.{◌≡◌, ℕ, Bool, true, false, ◌&&◌, ◌||◌, List, [], ◌∷◌, Option, Some, None, eqb, refl, sym, ap, ◌∙◌}
 use Rattle.std.specs.List.{AllZip, filter, filter_map, list_any}
 use Rattle.std.specs.Option.{option_map}
-use Rattle.std.proofs.lemmas.Bool.{eqb-true, eq-eqb, or_right, true≢false}
+use Rattle.std.proofs.lemmas.Bool.{eqb-true, eq-eqb, or_parts, or_right, true≢false}
 use Rattle.definitions.specs.Name.{Name, labels_eq, low, same}
 use Rattle.definitions.specs.Signing.{Fields}
 use Rattle.definitions.specs.Zone.{sorted_data}
@@ -11,7 +11,7 @@ use Rattle.messages.specs.Message.{Spelled, canonical_data, rrsig_at}
 use Rattle.answer_shared.specs.Alike.{IsLike}
 use Rattle.answer_judge_keys.specs.Trusted.{signs}
 use Rattle.answer_judge_facts.specs.Verified.{Trusting, datum_of, is_verified, rrset_in, verified_by, verified_rrset, verified_with, verifies_with}
-use Rattle.answer_alike.specs.SeenAlike.{is_used, is_used_type}
+use Rattle.answer_alike.specs.SeenAlike.{is_covering, is_used, is_used_type}
 use Rattle.answer_alike.proofs.Picked.{any_picked, any_zipped, first_picked, first_zipped, some_picked, some_zipped}
 
 -- a record that is not used is of no type that is
@@ -116,3 +116,52 @@ module _ (k : ℕ) (m n : List ℕ) (t : ℕ) (rs ss : List Spelled) (z : AllZip
   asked_alike w o =
       let items = rrset_alike o t (asked_used t) in
       λ i. option_map (λ (f : Fields). record { datas = items i; labels = f.labels }) ((first_verified w o t (rrset_in k m rs o t) ∙ ap (verified_by w k n ss o t) items) i)
+
+  -- ---- signatures that cover a type
+
+  abbrev covers_when : Bool → ℕ → Option (Fields × List ℕ) → Bool
+  covers_when b u x = b && elim x [ None ↦ false | Some f ↦ eqb f.0.covered u ]
+
+  no_covering : (q : List ℕ) (u : ℕ) (r : Spelled) → eqb r.rtype 46 ≡ false → is_covering k q u r ≡ false
+  no_covering q u r e = ap (λ b. covers_when b u (rrsig_at k q r)) e
+
+  pub covering_alike : (u : ℕ) → list_any (is_covering k m u) rs ≡ list_any (is_covering k n u) ss
+  covering_alike u =
+      any_alike 46 (is_covering k m u) (is_covering k n u) refl (no_covering m u) (no_covering n u)
+      (λ r s like is. let sig = like.signature_is is in λ i. covers_when (eqb (like.type_is i) 46) u (sig i))
+
+-- ---- where no signature covers a type
+
+module _ (w : Trusting) (k : ℕ) (q : List ℕ) (o : Name) (u : ℕ) (items : List (List ℕ)) where
+  abbrev told : Option (Fields × List ℕ) → Bool
+  told x = elim x [ None ↦ false | Some f ↦ eqb f.0.covered u && signs w.answers w.apex w.keys w.now o items f.0 f.1 ]
+
+  abbrev told_when : Bool → Option (Fields × List ℕ) → Bool
+  told_when b x = elim b [ false ↦ false | true ↦ told x ]
+
+  untold : (b : Bool) (x : Option (Fields × List ℕ)) → told x ≡ false → told_when b x ≡ false
+  untold true x e = e
+  untold false x e = refl
+
+  not_told : (b c s : Bool) (x : Option (Fields × List ℕ)) → (b && elim x as (λ _. Bool) [ None ↦ false | Some f ↦ eqb f.0.covered u ]) ≡ false → told_when (b && c && s) x ≡ false
+  not_told false c s x e = refl
+  not_told true c s None e = untold (true && c && s) None refl
+  not_told true c s (Some f) e = untold (true && c && s) (Some f) (ap (λ b. b && signs w.answers w.apex w.keys w.now o items f.0 f.1) e)
+
+  no_fields_of : (r : Spelled) → is_covering k q u r ≡ false → verified_with w k q o u items r ≡ None
+  no_fields_of r e =
+      ap (λ b. elim b as (λ _. Option Fields) [ true ↦ option_map (λ f. f.0) (rrsig_at k q r) | false ↦ None ])
+      (not_told (eqb r.rtype 46) (eqb r.class 1) (same r.owner o) (rrsig_at k q r) e)
+
+  none_of : (xs : List Spelled) → list_any (is_covering k q u) xs ≡ false → first_some (verified_with w k q o u items) xs ≡ None
+  none_of [] e = refl
+  none_of (x ∷ xs) e =
+      let p = or_parts (is_covering k q u x) (list_any (is_covering k q u) xs) e in
+      ap (λ y. elim y as (λ _. Option Fields) [ None ↦ first_some (verified_with w k q o u items) xs | Some f ↦ Some f ]) (no_fields_of x p.0) ∙ none_of xs p.1
+
+-- nothing verifies an RRset of it
+pub none_verified : (w : Trusting) (k : ℕ) (q : List ℕ) (xs : List Spelled) (o : Name) (u : ℕ) (items : List (List ℕ)) → list_any (is_covering k q u) xs ≡ false → verified_by w k q xs o u items ≡ None
+none_verified w k q xs o u items e = none_of w k q o u items xs e
+
+pub no_rrset : (w : Trusting) (k : ℕ) (q : List ℕ) (xs : List Spelled) (o : Name) (u : ℕ) → list_any (is_covering k q u) xs ≡ false → verified_rrset w k q xs o u ≡ None
+no_rrset w k q xs o u e = ap (option_map (λ (f : Fields). record { datas = rrset_in k q xs o u; labels = f.labels })) (none_verified w k q xs o u (rrset_in k q xs o u) e)

@@ -1,8 +1,8 @@
 -- Messages that a judge sees alike, whatever other records they have.
-use Rattle.std.specs.Prelude.{◌≡◌, ℕ, Bool, ◌||◌, ◌==◌, List, Ok, filter}
-use Rattle.std.specs.List.{AllZip}
+use Rattle.std.specs.Prelude.{◌≡◌, ℕ, Bool, false, ◌&&◌, ◌||◌, ◌==◌, List, None, Ok, Some, filter}
+use Rattle.std.specs.List.{AllZip, list_any}
 use Rattle.definitions.specs.Name.{low}
-use Rattle.messages.specs.Message.{Message, Spelled, message}
+use Rattle.messages.specs.Message.{Message, Spelled, message, rrsig_at}
 use Rattle.answer_shared.specs.Alike.{IsLike}
 use Rattle.answer_scheme.specs.Answers.{Answers}
 use Rattle.answer_judge_keys.specs.Judging.{JudgeInput}
@@ -34,3 +34,15 @@ AnswersJudgedAlike = (a : Answers) (k : ℕ) (h : JudgeInput) (m n : List ℕ) �
 -- one DNSKEY answer in the place of another
 abbrev pub KeysJudgedAlike : Type 0
 KeysJudgedAlike = (a : Answers) (k : ℕ) (h : JudgeInput) (m n : List ℕ) → SeenAlike k 48 m n → judged a k (record h { dnskey_bytes = m }) ≡ judged a k (record h { dnskey_bytes = n })
+
+-- a signature, 46, that covers a type (RFC 4034, 3.1.1)
+abbrev pub is_covering : ℕ → List ℕ → ℕ → Spelled → Bool
+is_covering k m t r = (r.rtype == 46) && elim (rrsig_at k m r) [ None ↦ false | Some f ↦ f.0.covered == t ]
+
+-- One answer in the place of another that it is like in its signatures and records of chains, where no signature of that one covers
+-- the type that is asked for: nothing verifies records of this type, so either may have any of them (RFC 4035, 5.3.1).
+abbrev pub UncoveredJudgedAlike : Type 0
+UncoveredJudgedAlike =
+    (a : Answers) (k : ℕ) (h : JudgeInput) (m n : List ℕ) (seen : SeenAlike k 46 m n)
+    → list_any (is_covering k n h.asked.rtype) seen.other.records ≡ false
+    → judged a k (record h { answer_bytes = m }) ≡ judged a k (record h { answer_bytes = n })

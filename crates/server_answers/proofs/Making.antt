@@ -71,7 +71,7 @@ was_noted s asked false dnssec_ok old new (Ok (signed.Message m)) h = inr h.1
 was_noted s asked keys dnssec_ok old new (Ok (signed.Missing v)) h = inl h.2
 was_noted s asked keys dnssec_ok old new (Err f) h = inl h.1
 
-pub is_answered : (s : Serving) (q : Queried) (old new : Option ℕ) (made : Result Signed AnswerFault) (r : Response) → Makes s q.asked (is_for_keys s.world.zone.apex q.asked) (is_dnssec_ok q) old new made → IsMadeOf s.limit s.size q made r
+pub is_answered : (s : Serving) (q : Queried) (old new : Option ℕ) (made : Result Signed AnswerFault) (r : Response) → Makes s q.asked (is_for_keys s.world.zone.apex q.asked) (is_dnssec_ok q) old new made → IsMadeOf s.limit s.size q s.addresses made r
     → AnswersHeld s q old new r
 is_answered s q old new (Ok (signed.Message m)) (response.Reply v) h k = inl (record { m = m.items; is_message = h.0; answers = k; noted_is = h.1 })
 is_answered s q old new (Ok (signed.Message m)) response.Nothing h k = absurd k
@@ -88,7 +88,7 @@ is_answered s q old new (Err f) (response.Sign v) h k = absurd k
 module _ (s : Serving) (q : Queried) (old new : Option ℕ) where
   -- of a message, by whether it has records of the reserved type
   denied : (m : Vec ℕ Global) (r : Response) → IsMessage s (reserved q.asked) false (is_dnssec_ok q) m.items → new ≡ noted old s.at → (b : Bool) → has_answers m.items ≡ b
-      → MatchBool b (IsRefusal s.size q r) (IsMadeOf s.limit s.size q (Ok (signed.Message m)) r) → AnswersUnheld s q old new r
+      → MatchBool b (IsRefusal s.size q r) (IsMadeOf s.limit s.size q s.addresses (Ok (signed.Message m)) r) → AnswersUnheld s q old new r
   denied m (response.Reply v) is was true e k = inr (inl (record { m = m.items; is_message = is; held_is = e; noted_is = was }, k))
   denied m (response.Reply v) is was false e k = inl (record { m = m.items; is_message = is; held_is = e; noted_is = was }, k)
   denied m response.Nothing is was true e k = absurd k
@@ -96,7 +96,7 @@ module _ (s : Serving) (q : Queried) (old new : Option ℕ) where
   denied m (response.Sign v) is was true e k = absurd k
   denied m (response.Sign v) is was false e k = absurd k
 
-  pub unheld_answered : (made : Result Signed AnswerFault) (r : Response) → Makes s (reserved q.asked) false (is_dnssec_ok q) old new made → IsMadeUnheld s.limit s.size q made r → AnswersUnheld s q old new r
+  pub unheld_answered : (made : Result Signed AnswerFault) (r : Response) → Makes s (reserved q.asked) false (is_dnssec_ok q) old new made → IsMadeUnheld s.limit s.size q s.addresses made r → AnswersUnheld s q old new r
   unheld_answered (Ok (signed.Message m)) r h k = denied m r h.0 h.1 (has_answers m.items) refl k
   unheld_answered (Ok (signed.Missing inputs)) (response.Sign v) h k = (h.0, ap (λ x. x.items) k ∙ h.1, h.2)
   unheld_answered (Ok (signed.Missing inputs)) response.Nothing h k = absurd k

@@ -1,5 +1,6 @@
 pub mod Answering
 pub mod Blank
+pub mod Glued
 pub mod MadeOf
 pub mod Messages
 pub mod Moments
@@ -11,3 +12,4 @@ pub use Rattle.answer_publisher.specs.Inputs
 pub use Rattle.server_signatures.specs.Table
 pub use Rattle.answer_publisher.specs.Composed
 pub use Rattle.server_signatures.specs.Outcomes
+pub use Rattle.server_glue.specs.Glue

@@ -1,6 +1,7 @@
 -- What a server answers to a query.
 use Rattle.std.specs.Prelude.{◌≡◌, ◌≢◌, ◌⊎◌, ℕ, Bool, true, false, ◌&&◌, ◌==◌, List, Option}
 use Rattle.definitions.specs.Name.{Name, same}
+use Rattle.messages.specs.HandedRr.{HandedRr}
 use Rattle.messages.specs.Message.{Asked}
 use Rattle.answer_publisher_keys.specs.Bindings.{ZoneKeys}
 use Rattle.answer_publisher.specs.Inputs.{Input, answer_inputs, keys_inputs}
@@ -9,15 +10,16 @@ use Rattle.answer_publisher.specs.World.{AnswersKeysQuestion, AnswersQuestion, R
 use Rattle.answer_publisher.specs.declared.fault.AnswerFault.{AnswerFault}
 use Rattle.answer_publisher.specs.declared.fault.AnswerFault.TheVariants.{Memory, QuestionNotAllowed}
 use Rattle.server_queries.specs.Queries.{Queried}
-use Rattle.server_responses.specs.Responses.{AnswersQuery, error_response, is_dnssec_ok}
+use Rattle.server_responses.specs.Responses.{error_response, is_dnssec_ok}
 use Rattle.server_signatures.specs.Outcomes.{AnswersEach, AnswersKeysEach, RefusesEach, RefusesKeysEach, signed_by}
 use Rattle.server_signatures.specs.Table.{Made, missing}
 use Rattle.server_answers.specs.Blank.{sign_blank, verify_blank}
+use Rattle.server_answers.specs.Glued.{AnswersGlued}
 use Rattle.server_answers.specs.declared.requests.Response.{Response}
 use Rattle.server_answers.specs.declared.requests.Response.TheVariants.{Nothing, Reply, Sign}
 
--- What a server answers by: the world and the keys of its publisher, a table of signatures, the moment that everything is of, and
--- how many octets a response may have and this server takes.
+-- What a server answers by: the world and the keys of its publisher, a table of signatures, the moment that everything is of, how
+-- many octets a response may have and this server takes, and the addresses of the zone.
 pub record Serving : Type 0 where
   pub world : World
   pub keys : ZoneKeys
@@ -25,9 +27,11 @@ pub record Serving : Type 0 where
   pub at : ℕ
   pub limit : ℕ
   pub size : ℕ
+  pub addresses : List HandedRr
 
-abbrev pub serving : World → ZoneKeys → List Made → ℕ → ℕ → ℕ → Serving
-serving world keys table at limit size = record { world = world; keys = keys; table = table; at = at; limit = limit; size = size }
+abbrev pub serving : World → ZoneKeys → List Made → ℕ → ℕ → ℕ → List HandedRr → Serving
+serving world keys table at limit size addresses =
+    record { world = world; keys = keys; table = table; at = at; limit = limit; size = size; addresses = addresses }
 
 -- a question for the DNSKEY RRset of the apex
 abbrev pub is_for_keys : Name → Asked → Bool
@@ -67,11 +71,11 @@ abbrev pub rcode_of : AnswerFault → ℕ
 rcode_of QuestionNotAllowed = 5
 rcode_of _ = 2
 
--- the response of the message
+-- the response of the message, with the glue of a referral
 pub record IsAnswered (s : Serving) (q : Queried) (old new : Option ℕ) (octets : List ℕ) : Type 0 where
   pub m : List ℕ
   pub is_message : IsMessage s q.asked (is_for_keys s.world.zone.apex q.asked) (is_dnssec_ok q) m
-  pub answers : AnswersQuery s.limit s.size q m octets
+  pub answers : AnswersGlued s.limit s.size q s.addresses m octets
   pub noted_is : new ≡ latest_with old s.at (is_for_keys s.world.zone.apex q.asked)
 
 -- a reply that says why there is none

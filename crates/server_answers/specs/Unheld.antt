@@ -1,16 +1,17 @@
 -- What a server answers to questions for types of which no accepted zone holds a record.
 use Rattle.std.specs.Prelude.{◌≡◌, ◌≢◌, ◌⊎◌, MatchBool, ℕ, Bool, true, false, not, ◌&&◌, ◌||◌, ◌==◌, List, [], ◌∷◌, Option, Result, Ok, Err, nat_lt, slice_index}
 use Rattle.definitions.specs.Name.{Name, same}
-use Rattle.messages.specs.HandedRr.{among}
+use Rattle.messages.specs.HandedRr.{HandedRr, among}
 use Rattle.messages.specs.Message.{Asked}
 use Rattle.answer_publisher.specs.Replacing.{noted}
 use Rattle.answer_publisher.specs.declared.fault.AnswerFault.{AnswerFault}
 use Rattle.answer_publisher.specs.declared.fault.AnswerFault.TheVariants.{Memory}
 use Rattle.server_queries.specs.Queries.{Queried}
-use Rattle.server_responses.specs.Responses.{AnswersQuery, error_response, is_dnssec_ok}
+use Rattle.server_responses.specs.Responses.{error_response, is_dnssec_ok}
 use Rattle.server_signatures.specs.Table.{missing}
 use Rattle.server_signatures.specs.declared.answering.Signed.{Signed}
 use Rattle.server_signatures.specs.declared.answering.Signed.TheVariants.{Message, Missing}
+use Rattle.server_answers.specs.Glued.{AnswersGlued}
 use Rattle.server_answers.specs.MadeOf.{IsMadeOf}
 use Rattle.server_answers.specs.Responding.{IsFault, IsMessage, Serving, inputs_for, is_for_keys, rcode_of}
 use Rattle.server_answers.specs.declared.requests.Response.{Response}
@@ -38,8 +39,8 @@ abbrev pub IsRefusal : ℕ → Queried → Response → Type 0
 IsRefusal size q (Reply v) = v.items ≡ error_response size q 5
 IsRefusal size q response = ⊥
 
-abbrev pub IsMadeUnheld : ℕ → ℕ → Queried → Result Signed AnswerFault → Response → Type 0
-IsMadeUnheld limit size q made response = MatchBool (is_held made) (IsRefusal size q response) (IsMadeOf limit size q made response)
+abbrev pub IsMadeUnheld : ℕ → ℕ → Queried → List HandedRr → Result Signed AnswerFault → Response → Type 0
+IsMadeUnheld limit size q addresses made response = MatchBool (is_held made) (IsRefusal size q response) (IsMadeOf limit size q addresses made response)
 
 -- the response of a message for the reserved type, and whether it has records of that type
 pub record IsMadeReserved (s : Serving) (q : Queried) (old new : Option ℕ) (held : Bool) : Type 0 where
@@ -48,9 +49,9 @@ pub record IsMadeReserved (s : Serving) (q : Queried) (old new : Option ℕ) (he
   pub held_is : has_answers m ≡ held
   pub noted_is : new ≡ noted old s.at
 
--- the zone's answer for the reserved type, where it has no record of it
+-- the zone's answer for the reserved type, where it has no record of it; a referral with its glue
 abbrev pub IsDenied : Serving → Queried → Option ℕ → Option ℕ → List ℕ → Type 0
-IsDenied s q old new octets = (r : IsMadeReserved s q old new false) × AnswersQuery s.limit s.size q r.m octets
+IsDenied s q old new octets = (r : IsMadeReserved s q old new false) × AnswersGlued s.limit s.size q s.addresses r.m octets
 
 -- REFUSED, where it has
 abbrev pub IsRefused : Serving → Queried → Option ℕ → Option ℕ → List ℕ → Type 0

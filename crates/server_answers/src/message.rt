@@ -1,5 +1,5 @@
 //! The message of which a response is made.
-ghost use Rattle.std.specs.Prelude.{◌≡◌, false, true};
+ghost use Rattle.std.specs.Prelude.{◌≡◌, [], false, true};
 ghost use Rattle.answer_publisher.specs.World.{world_of};
 ghost use Rattle.messages.specs.Message.{Asked};
 ghost use Rattle.messages.specs.Questions.{asked_of};
@@ -29,7 +29,7 @@ pub(crate) fn message_for<S: Scheme, H: Nsec3Hasher>(
 ) -> Result<Signed, AnswerFault>
     ensures made { let p = publisher.old in
         let w = world_of S.signature_of S.verifies S.digest_of H.hash_of p in
-        let s = serving w p.keys table.now at.now 0 0 in let asked = asked_of question.now in
+        let s = serving w p.keys table.now at.now 0 0 [] in let asked = asked_of question.now in
         let keys = is_for_keys p.zone.apex asked in
         Makes s asked keys is_signed p.latest publisher.new.latest result }
     ensures rest { publisher.new ≡ record publisher.old { latest = publisher.new.latest } }
@@ -50,7 +50,7 @@ fn zone_message<S: Scheme, H: Nsec3Hasher>(
 ) -> Result<Signed, AnswerFault>
     ensures made { let p = publisher.old in
         let w = world_of S.signature_of S.verifies S.digest_of H.hash_of p in
-        let s = serving w p.keys table.now at.now 0 0 in let asked = asked_of question.now in
+        let s = serving w p.keys table.now at.now 0 0 [] in let asked = asked_of question.now in
         Makes s asked false is_signed p.latest publisher.new.latest result }
     ensures rest { publisher.new ≡ record publisher.old { latest = publisher.new.latest } }
 {
@@ -72,7 +72,7 @@ fn keys_message<S: Scheme, H: Nsec3Hasher>(
 ) -> Result<Signed, AnswerFault>
     ensures { let p = publisher.now in
         let w = world_of S.signature_of S.verifies S.digest_of H.hash_of p in
-        let s = serving w p.keys table.now at.now 0 0 in
+        let s = serving w p.keys table.now at.now 0 0 [] in
         (asked : Asked) → Makes s asked true is_signed p.latest p.latest result }
 {
     if is_signed {

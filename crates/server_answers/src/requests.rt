@@ -1,7 +1,10 @@
 //! Requests, octets to octets.
-ghost use Rattle.std.specs.Prelude.{◌≡◌, IfOk, OnErr};
+ghost use Rattle.std.specs.Prelude.{◌≡◌, IfOk, IsOk, OnErr};
+ghost use Rattle.definitions.specs.Limits.{pointer_limit};
 ghost use Rattle.answer_publisher.specs.World.{world_of};
+ghost use Rattle.messages.specs.Message.{message};
 ghost use Rattle.messages.specs.Questions.{asked_of};
+ghost use Rattle.server_answers.specs.Glued.{AnswersGlued};
 ghost use Rattle.server_answers.specs.MadeOf.{IsMadeOf, ReadsWhole};
 ghost use Rattle.server_answers.specs.Moments.{backdated};
 ghost use Rattle.server_answers.specs.Requests.{IsOrWasNoted, Responds};
@@ -19,6 +22,7 @@ use denial_nsec3_hash::hasher::Nsec3Hasher;
 use keyset::UnixTime;
 use messages::names::ToName;
 use messages::question::Question;
+use server_glue::Addresses;
 use server_queries::{Query, Refusal, read_query, write_refusal};
 use server_responses::{
     ResponseError, Transport, error_response, is_dnssec_ok, response, size_limit,
@@ -60,11 +64,13 @@ pub(crate) const REFUSED: u16 = 5;
 /// is answered as [`read_query`] says. Questions for CNAME, DNAME and NSEC3 records, and but at the
 /// apex for DNSKEY and NSEC3PARAM records, are answered as the zone answers for a type that it does
 /// not hold. Any other question that the publisher does not answer is REFUSED; SERVFAIL says that no
-/// message holds the answer, or that a name has no hash. Without DO nothing is signed. Where memory
-/// is refused, the second may have been noted.
+/// message holds the answer, or that a name has no hash. Without DO nothing is signed. A referral
+/// has its glue among the addresses of the zone (RFC 9471). Where memory is refused, the second may
+/// have been noted.
 pub fn respond<S: Scheme, H: Nsec3Hasher>(
     alloc: Global,
     publisher: &mut Publisher<'_, S, H>,
+    addresses: &Addresses,
     table: &[MadeSignature<'_>],
     request: &[u8],
     now: &UnixTime,
@@ -74,7 +80,7 @@ pub fn respond<S: Scheme, H: Nsec3Hasher>(
     ensures response { let p = publisher.old in
         let w = world_of S.signature_of S.verifies S.digest_of H.hash_of p in
         let at = backdated now.now terms.now.backdate in
-        let s = serving w p.keys table.now at 0 terms.now.udp_size in
+        let s = serving w p.keys table.now at 0 terms.now.udp_size addresses.now in
         IfOk result (Responds s transport request.now p.latest publisher.new.latest) }
     ensures rest { publisher.new ≡ record publisher.old { latest = publisher.new.latest } }
     ensures memory { let at = backdated now.now terms.now.backdate in
@@ -84,7 +90,8 @@ pub fn respond<S: Scheme, H: Nsec3Hasher>(
         Ok(query) => {
             let at = backdated(now, terms.backdate);
             let limit = size_limit(transport, query.edns);
-            answer_query(alloc, publisher, table, &query, &at, limit, terms.udp_size)
+            let size = terms.udp_size;
+            answer_query(alloc, publisher, addresses, table, &query, &at, limit, size)
         }
         Err(Refusal::NoReply) => Ok(Response::Nothing),
         Err(Refusal::Reply(reply)) => {
@@ -100,15 +107,17 @@ pub fn respond<S: Scheme, H: Nsec3Hasher>(
 fn answer_query<S: Scheme, H: Nsec3Hasher>(
     alloc: Global,
     publisher: &mut Publisher<'_, S, H>,
+    addresses: &Addresses,
     table: &[MadeSignature<'_>],
     query: &Query<'_>,
     at: &UnixTime,
-    limit: usize,
+    limit: u16,
     udp_size: u16,
 ) -> Result<Response, AllocError>
     ensures response { let p = publisher.old in
         let w = world_of S.signature_of S.verifies S.digest_of H.hash_of p in
-        let s = serving w p.keys table.now at.now limit udp_size in let q = queried_of query.now in
+        let s = serving w p.keys table.now at.now limit udp_size addresses.now in
+        let q = queried_of query.now in
         IfOk result (AnswersQueried s q p.latest publisher.new.latest) }
     ensures rest { publisher.new ≡ record publisher.old { latest = publisher.new.latest } }
     ensures memory { OnErr result
@@ -117,11 +126,11 @@ fn answer_query<S: Scheme, H: Nsec3Hasher>(
     let question = question_of(alloc, query)?;
     if is_unheld(publisher.apex(), &question) {
         return answer_unheld(
-            alloc, publisher, table, query, question, at, limit, udp_size,
+            alloc, publisher, addresses, table, query, question, at, limit, udp_size,
         );
     }
     answer_held(
-        alloc, publisher, table, query, &question, at, limit, udp_size,
+        alloc, publisher, addresses, table, query, &question, at, limit, udp_size,
     )
 }
 
@@ -129,24 +138,26 @@ fn answer_query<S: Scheme, H: Nsec3Hasher>(
 fn answer_held<S: Scheme, H: Nsec3Hasher>(
     alloc: Global,
     publisher: &mut Publisher<'_, S, H>,
+    addresses: &Addresses,
     table: &[MadeSignature<'_>],
     query: &Query<'_>,
     question: &Question,
     at: &UnixTime,
-    limit: usize,
+    limit: u16,
     udp_size: u16,
 ) -> Result<Response, AllocError>
     requires { asked_of question.now ≡ (queried_of query.now).asked }
     ensures response { let p = publisher.old in
         let w = world_of S.signature_of S.verifies S.digest_of H.hash_of p in
-        let s = serving w p.keys table.now at.now limit udp_size in let q = queried_of query.now in
+        let s = serving w p.keys table.now at.now limit udp_size addresses.now in
+        let q = queried_of query.now in
         IfOk result (AnswersHeld s q p.latest publisher.new.latest) }
     ensures rest { publisher.new ≡ record publisher.old { latest = publisher.new.latest } }
     ensures memory { OnErr result
         (IsOrWasNoted at.now publisher.old.latest publisher.new.latest) }
 {
     let made = message_for(publisher, table, question, at, is_dnssec_ok(query));
-    response_with(alloc, query, made, limit, udp_size)
+    response_with(alloc, query, made, addresses, limit, udp_size)
 }
 
 /// The response that is made of a message, or what is said where there is none.
@@ -154,24 +165,46 @@ pub(crate) fn response_with(
     alloc: Global,
     query: &Query<'_>,
     made: Result<Signed, AnswerFault>,
-    limit: usize,
+    addresses: &Addresses,
+    limit: u16,
     udp_size: u16,
 ) -> Result<Response, AllocError>
     requires { IfOk made ReadsWhole }
-    ensures { IfOk result (IsMadeOf limit udp_size (queried_of query.now) made) }
+    ensures { let q = queried_of query.now in
+        IfOk result (IsMadeOf limit udp_size q addresses.now made) }
 {
     match made {
-        Ok(Signed::Message(message)) => match response(alloc, query, &message, limit, udp_size) {
-            Ok(octets) => Ok(Response::Reply(octets)),
-            Err(ResponseError::Memory) => Err(AllocError),
-            Err(ResponseError::Unreadable) => unreachable!(),
-        },
+        Ok(Signed::Message(message)) => {
+            let octets = glued_response(alloc, query, &message, addresses, limit, udp_size)?;
+            Ok(Response::Reply(octets))
+        }
         Ok(Signed::Missing(inputs)) => Ok(Response::Sign(inputs)),
         Err(AnswerFault::Memory) => Err(AllocError),
         Err(AnswerFault::QuestionNotAllowed) => {
             Ok(Response::Reply(error_response(alloc, query, REFUSED, udp_size)?))
         }
         Err(_) => Ok(Response::Reply(error_response(alloc, query, SERVFAIL, udp_size)?)),
+    }
+}
+
+/// The response of a message, with the glue of a referral.
+fn glued_response(
+    alloc: Global,
+    query: &Query<'_>,
+    octets: &[u8],
+    addresses: &Addresses,
+    limit: u16,
+    udp_size: u16,
+) -> Result<Vec<u8>, AllocError>
+    requires { IsOk (message pointer_limit octets.now) }
+    ensures { let q = queried_of query.now in
+        IfOk result (λ v. AnswersGlued limit udp_size q addresses.now octets.now v.items) }
+{
+    let glue = addresses.glue(alloc, octets)?;
+    match response(alloc, query, octets, &glue, limit, udp_size) {
+        Ok(whole) => Ok(whole),
+        Err(ResponseError::Memory) => Err(AllocError),
+        Err(ResponseError::Unreadable) => unreachable!(),
     }
 }
 

@@ -18,6 +18,7 @@ use keyset::UnixTime;
 use messages::names::{Name, ToName};
 use messages::question::Question;
 use numbers::rtype::Rtype;
+use server_glue::Addresses;
 use server_queries::Query;
 use server_responses::{error_response, is_dnssec_ok};
 use server_signatures::{MadeSignature, Signed};
@@ -46,17 +47,19 @@ pub(crate) fn is_unheld(apex: &Name<Vec<u8>>, question: &Question) -> bool
 pub(crate) fn answer_unheld<S: Scheme, H: Nsec3Hasher>(
     alloc: Global,
     publisher: &mut Publisher<'_, S, H>,
+    addresses: &Addresses,
     table: &[MadeSignature<'_>],
     query: &Query<'_>,
     question: Question,
     at: &UnixTime,
-    limit: usize,
+    limit: u16,
     udp_size: u16,
 ) -> Result<Response, AllocError>
     requires { asked_of question ≡ (queried_of query.now).asked }
     ensures response { let p = publisher.old in
         let w = world_of S.signature_of S.verifies S.digest_of H.hash_of p in
-        let s = serving w p.keys table.now at.now limit udp_size in let q = queried_of query.now in
+        let s = serving w p.keys table.now at.now limit udp_size addresses.now in
+        let q = queried_of query.now in
         IfOk result (AnswersUnheld s q p.latest publisher.new.latest) }
     ensures rest { publisher.new ≡ record publisher.old { latest = publisher.new.latest } }
     ensures memory { OnErr result
@@ -64,7 +67,7 @@ pub(crate) fn answer_unheld<S: Scheme, H: Nsec3Hasher>(
 {
     let reserved = reserved_question(question);
     let made = message_for(publisher, table, &reserved, at, is_dnssec_ok(query));
-    unheld_response(alloc, query, made, limit, udp_size)
+    unheld_response(alloc, query, made, addresses, limit, udp_size)
 }
 
 /// The question for the reserved type at a name.
@@ -84,17 +87,19 @@ fn unheld_response(
     alloc: Global,
     query: &Query<'_>,
     made: Result<Signed, AnswerFault>,
-    limit: usize,
+    addresses: &Addresses,
+    limit: u16,
     udp_size: u16,
 ) -> Result<Response, AllocError>
     requires { IfOk made ReadsWhole }
-    ensures { IfOk result (IsMadeUnheld limit udp_size (queried_of query.now) made) }
+    ensures { let q = queried_of query.now in
+        IfOk result (IsMadeUnheld limit udp_size q addresses.now made) }
 {
     if is_held(&made) {
         let octets = error_response(alloc, query, REFUSED, udp_size)?;
         return Ok(Response::Reply(octets));
     }
-    response_with(alloc, query, made, limit, udp_size)
+    response_with(alloc, query, made, addresses, limit, udp_size)
 }
 
 /// Whether a message was made that has records in its answer section.

@@ -1,9 +1,9 @@
 -- Records whose data say the same wherever they stand, and such records in two messages.
-use Rattle.std.proofs.Common.{◌≡◌, ℕ, ◌+◌, ◌*◌, ◌<◌, ◌≤◌, Bool, true, false, List, [], ◌∷◌, ◌++◌, length, map, Option, Some, eqb, refl, sym, subst, ap, ◌∙◌, length-append, arith, lit<}
+use Rattle.std.proofs.Common.{◌≡◌, ℕ, ◌+◌, ◌*◌, ◌<◌, ◌≤◌, Bool, true, false, ◌&&◌, ◌||◌, List, [], ◌∷◌, ◌++◌, length, map, Option, Some, None, eqb, refl, sym, subst, ap, ◌∙◌, length-append, arith, lit<}
 use Rattle.std.specs.Prelude.{if◌then◌else◌}
-use Rattle.std.specs.List.{AllByRecursion, AllZip, flat_map}
+use Rattle.std.specs.List.{AllByRecursion, AllZip, flat_map, list_any}
 use Rattle.std.proofs.Math.Nat.{mod-lt}
-use Rattle.std.proofs.lemmas.Bool.{eq-eqb, true≢false}
+use Rattle.std.proofs.lemmas.Bool.{eq-eqb, eqb-true, true≢false}
 use Rattle.definitions.specs.Dnskey.{Dnskey, key_tag}
 use Rattle.definitions.specs.Limits.{pointer_limit}
 use Rattle.definitions.specs.Name.{IsName, Name, low}
@@ -17,6 +17,7 @@ use Rattle.messages.proofs.MessageWritten.{StandsAt, data_behind, end_of}
 use Rattle.answer_shared.specs.Alike.{IsLike}
 use Rattle.answer_shared.specs.GroupView.{GroupView, IsRrsigData, fields_of, view_of}
 use Rattle.answer_shared.specs.Served.{Group}
+use Rattle.answer_alike.specs.SeenAlike.{is_covering}
 use Rattle.server_answers.specs.Composed.{IsWritten, joined, rrsig_of}
 use Rattle.server_answers.proofs.WritesData.{reads_plain}
 use Rattle.server_answers.proofs.WritesGroups.{IsFormed}
@@ -25,6 +26,10 @@ use Rattle.server_answers.proofs.WritesRecords.{ReadsAs, ReadsRecord, first_stan
 -- data of a signature that read as one wherever they stand in a message that is not too long
 abbrev pub ReadsSignature : List ℕ → Fields × List ℕ → Type 0
 ReadsSignature octets said = (m rest : List ℕ) (r : Spelled) → length m ≤ 65535 → StandsAt m r.start (octets ++ rest) → r.length ≡ length octets → rrsig_at pointer_limit m r ≡ Some said
+
+-- a signature that covers another type than this one (RFC 4034, 3.1.1)
+abbrev pub SignsOther : ℕ → Written → Type 0
+SignsOther t w = w.rtype ≡ 46 → (said : Fields × List ℕ) × (eqb said.0.covered t ≡ false) × ReadsSignature w.octets said
 
 pub record StandsAlone (w : Written) : Type 0 where
   pub canonical : List ℕ
@@ -35,6 +40,16 @@ pub record StandsAlone (w : Written) : Type 0 where
 
 abbrev pub NoSignature : Group → Type 0
 NoSignature g = eqb g.rtype 46 ≡ false
+
+-- an RRset of another type
+abbrev pub IsOther : ℕ → Group → Type 0
+IsOther u g = eqb g.rtype u ≡ false
+
+own_other : (u : ℕ) (g : Group) (ws : List Written) (ds : List (List ℕ)) → NoSignature g → AllZip (ReadsRecord g) ws ds → AllByRecursion (SignsOther u) ws
+own_other u g [] [] none h = tt
+own_other u g [] (d ∷ ds) none h = absurd h
+own_other u g (w ∷ ws) [] none h = absurd h
+own_other u g (w ∷ ws) (d ∷ ds) none h = (λ is. absurd (true≢false (sym (eq-eqb g.rtype 46 (sym h.0.rtype ∙ is)) ∙ none)), own_other u g ws ds none h.1)
 
 own_alone : (g : Group) (ws : List Written) (ds : List (List ℕ)) → NoSignature g → AllZip (ReadsRecord g) ws ds → AllByRecursion StandsAlone ws
 own_alone g [] [] none h = tt
@@ -60,21 +75,21 @@ fields_fit apex at life g key name t ttl tag = record {
 }
 
 module _ (sign : Dnskey → List ℕ → Option (List ℕ)) (verifies : Dnskey → List ℕ → List ℕ → Bool) (apex : Name) (at life : ℕ) (name : IsName apex) where
-  signature_alone : (g : Group) (key : Dnskey) (d : List ℕ) → g.rtype < 65536 → g.ttl < 4294967296 → IsRrsigData sign verifies apex at life (view_of g) key d → StandsAlone (rrsig_of (view_of g) d)
-  signature_alone g key d t ttl made =
+  signature_reads : (g : Group) (key : Dnskey) (d : List ℕ) → g.rtype < 65536 → g.ttl < 4294967296 → (made : IsRrsigData sign verifies apex at life (view_of g) key d)
+      → ReadsSignature d (record (fields_of apex at life (view_of g) key) { signer = low apex }, made.signature)
+  signature_reads g key d t ttl made m rest r few stands size =
       let f : Fields = fields_of apex at life (view_of g) key in
       let whole : List ℕ = rrsig_data f made.signature in
-      record {
-        canonical = d;
-        reads = reads_plain 46 d refl refl refl;
-        signs = λ is. (
-          (record f { signer = low f.signer }, made.signature),
-          λ m rest r few stands size.
-              let there = subst (λ x. StandsAt m r.start (x ++ rest)) made.data_is stands in
-              let short : length whole ≤ 65535 = omega (arith, few, ap length there.whole, length-append there.front (whole ++ rest), length-append whole rest) in
-              signature_here m f made.signature rest r (fields_fit apex at life (view_of g) key name t ttl made.tag_fits) short there (size ∙ ap length made.data_is),
-        );
-      }
+      let there = subst (λ x. StandsAt m r.start (x ++ rest)) made.data_is stands in
+      let short : length whole ≤ 65535 = omega (arith, few, ap length there.whole, length-append there.front (whole ++ rest), length-append whole rest) in
+      signature_here m f made.signature rest r (fields_fit apex at life (view_of g) key name t ttl made.tag_fits) short there (size ∙ ap length made.data_is)
+
+  signature_alone : (g : Group) (key : Dnskey) (d : List ℕ) → g.rtype < 65536 → g.ttl < 4294967296 → IsRrsigData sign verifies apex at life (view_of g) key d → StandsAlone (rrsig_of (view_of g) d)
+  signature_alone g key d t ttl made = record {
+    canonical = d;
+    reads = reads_plain 46 d refl refl refl;
+    signs = λ is. ((record (fields_of apex at life (view_of g) key) { signer = low apex }, made.signature), signature_reads g key d t ttl made);
+  }
 
   signatures_alone : (g : Group) (keys : List Dnskey) (ds : List (List ℕ)) → g.rtype < 65536 → g.ttl < 4294967296 → AllZip (IsRrsigData sign verifies apex at life (view_of g)) keys ds → AllByRecursion StandsAlone (map (rrsig_of (view_of g)) ds)
   signatures_alone g [] [] t ttl h = tt
@@ -97,6 +112,50 @@ module _ (sign : Dnskey → List ℕ → Option (List ℕ)) (verifies : Dnskey �
       let own : AllByRecursion StandsAlone g.written = own_alone g g.written g.datas none.0 f.datas in
       let signed : AllByRecursion StandsAlone signatures = signatures_alone g (if g.signed then keys else []) w.0 f.rtype f.ttl w.1.0 in
       alone_append x (joined pieces) (subst (AllByRecursion StandsAlone) (sym w.1.1) (alone_append g.written signatures own signed)) (groups_alone keys gs pieces formed.1 none.1 written.1)
+
+  -- ---- which cover another type
+
+  signature_other : (u : ℕ) (g : Group) (key : Dnskey) (d : List ℕ) → eqb g.rtype u ≡ false → g.rtype < 65536 → g.ttl < 4294967296 → IsRrsigData sign verifies apex at life (view_of g) key d → SignsOther u (rrsig_of (view_of g) d)
+  signature_other u g key d other t ttl made is = ((record (fields_of apex at life (view_of g) key) { signer = low apex }, made.signature), other, signature_reads g key d t ttl made)
+
+  signatures_other : (u : ℕ) (g : Group) (keys : List Dnskey) (ds : List (List ℕ)) → eqb g.rtype u ≡ false → g.rtype < 65536 → g.ttl < 4294967296 → AllZip (IsRrsigData sign verifies apex at life (view_of g)) keys ds
+      → AllByRecursion (SignsOther u) (map (rrsig_of (view_of g)) ds)
+  signatures_other u g [] [] other t ttl h = tt
+  signatures_other u g [] (d ∷ ds) other t ttl h = absurd h
+  signatures_other u g (key ∷ keys) [] other t ttl h = absurd h
+  signatures_other u g (key ∷ keys) (d ∷ ds) other t ttl h = (signature_other u g key d other t ttl h.0, signatures_other u g keys ds other t ttl h.1)
+
+  others_append : (u : ℕ) (rs ss : List Written) → AllByRecursion (SignsOther u) rs → AllByRecursion (SignsOther u) ss → AllByRecursion (SignsOther u) (rs ++ ss)
+  others_append u [] ss h k = k
+  others_append u (r ∷ rs) ss h k = (h.0, others_append u rs ss h.1 k)
+
+  pub groups_other : (u : ℕ) (keys : List Dnskey) (gs : List Group) (pieces : List (List Written)) → AllByRecursion IsFormed gs → AllByRecursion NoSignature gs → AllByRecursion (IsOther u) gs
+      → AllZip (IsWritten sign verifies apex at life keys) (map view_of gs) pieces → AllByRecursion (SignsOther u) (joined pieces)
+  groups_other u keys [] [] formed none other written = tt
+  groups_other u keys [] (x ∷ pieces) formed none other written = absurd written
+  groups_other u keys (g ∷ gs) [] formed none other written = absurd written
+  groups_other u keys (g ∷ gs) (x ∷ pieces) formed none other written =
+      let f : IsFormed g = formed.0 in
+      let w = written.0 in
+      let signatures : List Written = map (rrsig_of (view_of g)) w.0 in
+      let own : AllByRecursion (SignsOther u) g.written = own_other u g g.written g.datas none.0 f.datas in
+      let signed : AllByRecursion (SignsOther u) signatures = signatures_other u g (if g.signed then keys else []) w.0 other.0 f.rtype f.ttl w.1.0 in
+      others_append u x (joined pieces) (subst (AllByRecursion (SignsOther u)) (sym w.1.1) (others_append u g.written signatures own signed)) (groups_other u keys gs pieces formed.1 none.1 other.1 written.1)
+
+-- so no signature covers that type
+covers_no : (u : ℕ) (m : List ℕ) (p : ℕ) (v : Written) (rest : List ℕ) → length m ≤ 65535 → SignsOther u v → StandsAt m p (record_octets v ++ rest) → (b : Bool) → eqb v.rtype 46 ≡ b
+    → (b && elim (rrsig_at pointer_limit m (spelled_at p v)) as (λ _. Bool) [ None ↦ false | Some f ↦ eqb f.0.covered u ]) ≡ false
+covers_no u m p v rest few other one true e =
+    let s = other (eqb-true v.rtype 46 e) in
+    ap (λ x. elim x as (λ _. Bool) [ None ↦ false | Some f ↦ eqb f.0.covered u ]) (s.2 m rest (spelled_at p v) few (data_behind m p v rest one) refl) ∙ s.1
+covers_no u m p v rest few other one false e = refl
+
+pub uncovered : (u : ℕ) (m : List ℕ) (p : ℕ) (vs : List Written) (rest : List ℕ) → length m ≤ 65535 → AllByRecursion (SignsOther u) vs → StandsAt m p (flat_map record_octets vs ++ rest)
+    → list_any (is_covering pointer_limit m u) (spelled_from p vs) ≡ false
+uncovered u m p [] rest few others one = refl
+uncovered u m p (v ∷ vs) rest few others one =
+    let first : is_covering pointer_limit m u (spelled_at p v) ≡ false = covers_no u m p v _ few others.0 (first_stands m p v vs rest one) (eqb v.rtype 46) refl in
+    λ i. first i || uncovered u m (end_of p v) vs rest few others.1 (rest_stands m p v vs rest one) i
 
 -- ---- two messages
 

@@ -1,18 +1,18 @@
 -- A judge says of a whole response what it says of the message that it is made of.
-use Rattle.std.proofs.Common.{◌≡◌, ℕ, ◌+◌, ◌≤◌, ◌<◌, Bool, true, false, not, ◌&&◌, ◌||◌, List, [], ◌∷◌, ◌++◌, length, map, nat_eq, nat_le, Option, Some, None, Result, Ok, eqb, refl, sym, subst, ap, ◌∙◌, arith, length-append, lit<}
+use Rattle.std.proofs.Common.{◌≡◌, ◌⊎◌, ℕ, ◌+◌, ◌/◌, ◌%◌, ◌≤◌, ◌<◌, Bool, true, false, not, ◌&&◌, ◌||◌, List, [], ◌∷◌, ◌++◌, length, map, nat_eq, nat_le, Option, Some, None, Result, Ok, cond, eqb, inl, inr, refl, sym, subst, ap, ◌∙◌, ⊎_elim, arith, length-append, lit<}
 use Rattle.std.specs.Prelude.{if◌then◌else◌}
-use Rattle.std.specs.List.{AllByRecursion, AllZip, flat_map}
-use Rattle.std.proofs.lemmas.Bool.{and_parts, eqb-true, or_parts}
+use Rattle.std.specs.List.{AllByRecursion, AllZip, flat_map, list_any}
+use Rattle.std.proofs.lemmas.Bool.{and_parts, eqb-true, or_cases, or_parts}
 use Rattle.std.proofs.lemmas.List.Concat.{flat_map-append}
 use Rattle.definitions.specs.Dnskey.{Dnskey}
 use Rattle.definitions.specs.Limits.{pointer_limit}
 use Rattle.definitions.specs.Name.{IsName, Name, at_or_above, low, same}
-use Rattle.definitions.specs.Zone.{Unsigned}
+use Rattle.definitions.specs.Zone.{Delegated, NoName, NoType, Open, Records, StarNoType, StarRecords, Unsigned, Verdict, verdict}
 use Rattle.messages.specs.HandedRr.{HandedRr, among}
-use Rattle.messages.specs.Message.{Asked, Message, message}
+use Rattle.messages.specs.Message.{Asked, Message, Spelled, message, pair}
 use Rattle.messages.specs.Written.{Written, record_octets}
 use Rattle.messages.specs.WrittenLaws.{IsQuestion, IsRecord}
-use Rattle.messages.proofs.Lists.{zip_append}
+use Rattle.messages.proofs.Lists.{eqb-back, zip_append}
 use Rattle.messages.proofs.MessageWhole.{records_stand}
 use Rattle.messages.proofs.ZoneNames.{same_labels}
 use Rattle.answer_scheme.specs.Answers.{Answers}
@@ -21,30 +21,34 @@ use Rattle.answer_shared.specs.Accepting.{sorted_records}
 use Rattle.answer_shared.specs.Asking.{is_allowed}
 use Rattle.answer_shared.specs.GroupView.{GroupView, Presents, view_of}
 use Rattle.answer_shared.specs.Hashing.{hash_in}
+use Rattle.answer_zone.specs.ZoneAnswers.{flags_for}
 use Rattle.answer_shared.specs.Served.{Group, Served, answer_groups, key_group, served_of, ttl_among}
 use Rattle.answer_judge_keys.specs.Judging.{Answer, JudgeInput, Refuses, Says, is_judged, message_refusal}
 use Rattle.answer_judge_keys.specs.declared.verdict.Refusal.{Refusal}
 use Rattle.answer_judge_keys.specs.declared.verdict.Refusal.TheVariants as r
 use Rattle.answer_judge_facts.specs.Judged.{AnswersAs, judged, judged_bytes}
 use Rattle.answer_alike.proofs.GivenAnswers.{answers_given}
-use Rattle.answer_alike.specs.SeenAlike.{SeenAlike}
-use Rattle.answer_alike.proofs.JudgedAlike.{answers_alike, keys_alike}
+use Rattle.answer_alike.specs.SeenAlike.{SeenAlike, is_covering, is_used_type}
+use Rattle.answer_alike.proofs.JudgedAlike.{answers_alike, keys_alike, uncovered_alike}
 use Rattle.server_answers.specs.Composed.{IsAnswer, IsWritten, joined}
 use Rattle.server_answers.specs.World.{AnswersKeysQuestion, AnswersQuestion, World, present_keys}
 use Rattle.server_answers.proofs.WritesAnswer.{all_behind, all_presented}
 use Rattle.server_answers.proofs.WritesData.{of_chain}
-use Rattle.server_answers.proofs.WritesGroups.{IsFormed, all_hold, all_records, count_of}
+use Rattle.server_answers.proofs.WritesGroups.{Holds, IsFormed, all_hold, all_records, count_of}
 use Rattle.server_answers.proofs.WritesZone.{keys_formed}
 use Rattle.server_queries.specs.Queries.{Queried}
+use Rattle.server_answers.specs.Glue.{IsAddress, glue, glue_in}
 use Rattle.server_responses.specs.Responses.{AnswersQuery, is_dnssec_ok, response_of}
+use Rattle.server_responses.specs.Sections.{written_as_handed}
 use Rattle.server_answers.specs.Outcomes.{signed_by}
 use Rattle.server_answers.specs.Table.{sign_by, verify_by}
 use Rattle.server_answers.proofs.Signing.{own_entries}
+use Rattle.server_answers.specs.Glued.{AnswersGlued}
 use Rattle.server_answers.specs.Responding.{IsMessage, Serving, is_for_keys}
 use Rattle.server_laws.specs.Heard.{ClientsAreTold, IsJudgedAs, IsWhole, IsZone, ResponsesJudgedAlike, is_truncated}
-use Rattle.server_laws.proofs.Alone.{NoSignature, StandsAlone, groups_alone}
-use Rattle.server_laws.proofs.Shown.{IsAlone, message_read, spelled_all, whole_seen, whole_where_clear}
-use Rattle.server_laws.proofs.ZoneGroups.{are_handed, groups_formed, groups_unsigned}
+use Rattle.server_laws.proofs.Alone.{IsOther, NoSignature, SignsOther, StandsAlone, groups_alone, groups_other}
+use Rattle.server_laws.proofs.Shown.{IsAlone, IsUnused, flags_told, in_message, message_read, none_covers, spelled_all, whole, whole_seen, whole_where_clear}
+use Rattle.server_laws.proofs.ZoneGroups.{are_handed, groups_formed, groups_unsigned, referral_other}
 
 -- ---- a publisher's message
 
@@ -84,6 +88,44 @@ written_alone sign verifies apex at life keys flags asked answer authority group
       short = w.short;
     }
 
+-- its signatures cover other types than one that none of its RRsets is of
+written_other : (u : ℕ) (sign : Dnskey → List ℕ → Option (List ℕ)) (verifies : Dnskey → List ℕ → List ℕ → Bool) (apex : Name) (at life : ℕ) (keys : List Dnskey) (flags : ℕ) (asked : Asked) (answer authority : List GroupView) (groups : List Group) (m : List ℕ)
+    → IsName apex → AllByRecursion IsFormed groups → AllByRecursion NoSignature groups → AllByRecursion (IsOther u) groups → AllZip Presents (answer ++ authority) groups
+    → (w : IsAnswer sign verifies apex at life keys flags asked answer authority m) → AllByRecursion (SignsOther u) (joined w.answers ++ joined w.authorities)
+written_other u sign verifies apex at life keys flags asked answer authority groups m name formed none other presents w =
+    let Whole = IsWritten sign verifies apex at life keys in
+    let pieces : List (List Written) = w.answers ++ w.authorities in
+    let written : AllZip Whole (map view_of groups) pieces =
+    subst (λ vs. AllZip Whole vs pieces) (all_presented (answer ++ authority) groups presents) (zip_append Whole answer w.answers authority w.authorities w.answers_are w.authorities_are) in
+    subst (AllByRecursion (SignsOther u)) (flat_map-append (λ p. p) w.answers w.authorities) (groups_other sign verifies apex at life name u keys groups pieces formed none other written)
+
+-- ---- glue
+
+-- a message that is authoritative has none
+no_glue : (flags : ℕ) (asked : Asked) (first second : List Written) (m : List ℕ) (addresses : List HandedRr) → IsAlone flags asked first second m → (f : ℕ) → flags ≡ f → f < 65536 → eqb (f / 1024 % 2) 1 ≡ true → glue addresses m ≡ []
+no_glue flags asked first second m addresses alone f is few set =
+    let told : pair m 2 ≡ f = flags_told flags asked first second m alone (omega (arith, is, few)) ∙ is in
+    ap (λ b. cond b [] (glue_in addresses m (message pointer_limit m))) (ap (λ n. eqb (n / 1024 % 2) 1) told ∙ set)
+
+hold_all : (rs : List HandedRr) → AllByRecursion IsAddress rs → AllByRecursion Holds (map written_as_handed rs)
+hold_all [] h = tt
+hold_all (r ∷ rs) h =
+    let internet : r.class ≡ 1 = eqb-true r.class 1 (and_parts (eqb r.class 1) (eqb r.rtype 1 || eqb r.rtype 28) h.0.is).0 in
+    (record { owner = h.0.handed.owner; rtype = h.0.handed.rtype; class = omega (arith, internet); ttl = h.0.handed.ttl }, hold_all rs h.1)
+
+-- a judge uses no address where none is asked for
+unused_all : (t : ℕ) (rs : List HandedRr) → (eqb t 1 || eqb t 28) ≡ false → AllByRecursion IsAddress rs → AllByRecursion (IsUnused t) (map written_as_handed rs)
+unused_all t [] e h = tt
+unused_all t (r ∷ rs) e h =
+    let p = or_parts (eqb t 1) (eqb t 28) e in
+    let of : (eqb r.rtype 1 || eqb r.rtype 28) ≡ true = (and_parts (eqb r.class 1) (eqb r.rtype 1 || eqb r.rtype 28) h.0.is).1 in (
+      ⊎_elim
+          (λ k. ap (is_used_type t) (eqb-true r.rtype 1 k) ∙ eqb-back 1 t ∙ p.0)
+          (λ k. ap (is_used_type t) (eqb-true r.rtype 28 k) ∙ eqb-back 28 t ∙ p.1)
+          (or_cases (eqb r.rtype 1) (eqb r.rtype 28) of),
+      unused_all t rs e h.1,
+    )
+
 -- ---- what a judge says of two messages that it sees alike
 
 never : (c x : Bool) → ((c && false) && x) ≡ false
@@ -111,33 +153,73 @@ judged_by asked none later answer = elim (if not asked then Some r.QuestionNotAl
 unjudged : (a : Answers) (h : JudgeInput) → is_judged h ≡ false → judged a pointer_limit h ≡ Refuses r.QuestionNotAllowed
 unjudged a h e = ap (λ b. judged_by b (nat_eq (length h.ds) 0) (message_refusal pointer_limit h) (judged_bytes a pointer_limit h)) e
 
-seen_judged : (m n : List ℕ) → ((t : ℕ) → eqb 41 t ≡ false → SeenAlike pointer_limit t m n) → IsJudgedAs m n
-seen_judged m n seen = record {
+seen_judged : (m n : List ℕ) → SeenAlike pointer_limit 48 m n
+    → ((a : Answers) (h : JudgeInput) → eqb 41 h.asked.rtype ≡ false → judged a pointer_limit (record h { answer_bytes = m }) ≡ judged a pointer_limit (record h { answer_bytes = n }))
+    → IsJudgedAs m n
+seen_judged m n keys answers = record {
   answers = λ a h. of_type a h (eqb 41 h.asked.rtype) refl;
-  keys = λ a h. keys_alike a pointer_limit h m n (seen 48 refl);
+  keys = λ a h. keys_alike a pointer_limit h m n keys;
 }
   where
     of_type : (a : Answers) (h : JudgeInput) (b : Bool) → eqb 41 h.asked.rtype ≡ b → judged a pointer_limit (record h { answer_bytes = m }) ≡ judged a pointer_limit (record h { answer_bytes = n })
     of_type a h true e =
         let opt : is_judged h ≡ false = opt_unjudged h (sym (eqb-true 41 h.asked.rtype e)) in
         unjudged a (record h { answer_bytes = m }) opt ∙ sym (unjudged a (record h { answer_bytes = n }) opt)
-    of_type a h false e = answers_alike a pointer_limit h m n (seen h.asked.rtype e)
+    of_type a h false e = answers a h e
 
 -- ---- a response of it
 
 ok_is : {A E : Type 0} (x y : A) → (the_ok : Result A E) → the_ok ≡ Ok x → the_ok ≡ Ok y → x ≡ y
 ok_is x y o e f = let h = sym e ∙ f in cc
 
-response_judged : (flags : ℕ) (asked : Asked) (first second : List Written) (m : List ℕ) (limit size : ℕ) (q : Queried) (octets : List ℕ) → IsAlone flags asked first second m → size < 65536 → limit ≤ 65535 → IsQuestion q.asked → is_dnssec_ok q ≡ true
-    → low q.asked.name ≡ low asked.name → q.asked.rtype ≡ asked.rtype → q.asked.class ≡ asked.class → is_truncated octets ≡ false → AnswersQuery limit size q m octets → IsJudgedAs octets m
-response_judged flags asked first second m limit size q octets alone small fits is wanted name rtype class clear (read, reads, are) =
-    let back = message_read flags asked first second m alone size q small is wanted in
-    let records = spelled_all flags asked first second m alone size q small is wanted in
-    let same : response_of limit size q m read.records ≡ response_of limit size q m records = ap (λ (x : Message). response_of limit size q m x.records) (ok_is read _ (message pointer_limit m) reads back) in
-    let found = whole_where_clear flags asked first second m alone size q small is wanted limit (ap is_truncated (sym (are ∙ same)) ∙ clear) in
-    let octets_are = are ∙ same ∙ found.0 in
-    subst (λ o. IsJudgedAs o m) (sym octets_are)
-    (seen_judged _ m (λ t other. whole_seen flags asked first second m alone size q small is wanted t other name rtype class (omega (arith, found.1, fits))))
+-- where addresses are asked for, there are none, or no signature covers one
+abbrev AreBare : List HandedRr → List Written → Type 0
+AreBare gs ws = (t : ℕ) → (eqb t 1 || eqb t 28) ≡ true → (gs ≡ []) ⊎ AllByRecursion (SignsOther t) ws
+
+module _ (flags : ℕ) (asked : Asked) (first second : List Written) (m : List ℕ) (limit size : ℕ) (q : Queried) (alone : IsAlone flags asked first second m) (small : size < 65536) (fits : limit ≤ 65535) (is : IsQuestion q.asked) (wanted : is_dnssec_ok q ≡ true) (name : low q.asked.name ≡ low asked.name) (rtype : q.asked.rtype ≡ asked.rtype) (class : q.asked.class ≡ asked.class) (gs : List HandedRr) (each : AllByRecursion IsAddress gs) (bare : AreBare gs (first ++ second)) where
+  abbrev more : List Written
+  more = map written_as_handed gs
+
+  abbrev the_whole : List ℕ
+  the_whole = whole flags asked first second m alone size q small is wanted more (hold_all gs each)
+
+  abbrev the_records : List Spelled
+  the_records = spelled_all flags asked first second m alone size q small is wanted more (hold_all gs each)
+
+  back : message pointer_limit m ≡ Ok (in_message flags asked first second m alone size q small is wanted more (hold_all gs each))
+  back = message_read flags asked first second m alone size q small is wanted more (hold_all gs each)
+
+  seen : length the_whole ≤ 65535 → (t : ℕ) → AllByRecursion (IsUnused t) more → eqb 41 t ≡ false → SeenAlike pointer_limit t the_whole m
+  seen few t spare other = whole_seen flags asked first second m alone size q small is wanted more (hold_all gs each) t spare other name rtype class few
+
+  -- where an address is asked for that no signature covers
+  covered : length the_whole ≤ 65535 → (a : Answers) (h : JudgeInput) → AllByRecursion (SignsOther h.asked.rtype) (first ++ second)
+      → judged a pointer_limit (record h { answer_bytes = the_whole }) ≡ judged a pointer_limit (record h { answer_bytes = m })
+  covered few a h others =
+      let alike = seen few 46 (unused_all 46 gs refl each) refl in
+      let there = ok_is (in_message flags asked first second m alone size q small is wanted more (hold_all gs each)) alike.other (message pointer_limit m) back alike.reads_other in
+      uncovered_alike a pointer_limit h the_whole m alike
+      (subst (λ (x : Message). list_any (is_covering pointer_limit m h.asked.rtype) x.records ≡ false) there (none_covers flags asked first second m alone size q small is wanted more (hold_all gs each) h.asked.rtype others))
+
+  -- where there is none
+  without : length the_whole ≤ 65535 → (a : Answers) (h : JudgeInput) → eqb 41 h.asked.rtype ≡ false → gs ≡ [] → judged a pointer_limit (record h { answer_bytes = the_whole }) ≡ judged a pointer_limit (record h { answer_bytes = m })
+  without few a h other none =
+      answers_alike a pointer_limit h the_whole m
+      (seen few h.asked.rtype (subst (λ (xs : List HandedRr). AllByRecursion (IsUnused h.asked.rtype) (map written_as_handed xs)) (sym none) tt) other)
+
+  of_type : length the_whole ≤ 65535 → (a : Answers) (h : JudgeInput) → eqb 41 h.asked.rtype ≡ false → (b : Bool) → (eqb h.asked.rtype 1 || eqb h.asked.rtype 28) ≡ b
+      → judged a pointer_limit (record h { answer_bytes = the_whole }) ≡ judged a pointer_limit (record h { answer_bytes = m })
+  of_type few a h other false e = answers_alike a pointer_limit h the_whole m (seen few h.asked.rtype (unused_all h.asked.rtype gs e each) other)
+  of_type few a h other true e = ⊎_elim (without few a h other) (covered few a h) (bare h.asked.rtype e)
+
+  whole_judged : length the_whole ≤ 65535 → IsJudgedAs the_whole m
+  whole_judged few = seen_judged the_whole m (seen few 48 (unused_all 48 gs refl each) refl) (λ a h other. of_type few a h other (eqb h.asked.rtype 1 || eqb h.asked.rtype 28) refl)
+
+  response_judged : (octets : List ℕ) → is_truncated octets ≡ false → AnswersQuery limit size q m gs octets → IsJudgedAs octets m
+  response_judged octets clear (read, reads, are) =
+      let same : response_of limit size q m read.records more ≡ response_of limit size q m the_records more = ap (λ (x : Message). response_of limit size q m x.records more) (ok_is read _ (message pointer_limit m) reads back) in
+      let found = whole_where_clear flags asked first second m alone size q small is wanted more (hold_all gs each) limit (ap is_truncated (sym (are ∙ same)) ∙ clear) in
+      subst (λ o. IsJudgedAs o m) (sym (are ∙ same ∙ found.0)) (whole_judged (omega (arith, found.1, fits)))
 
 -- ---- by a server
 
@@ -162,19 +244,57 @@ module _ (s : Serving) (q : Queried) (octets : List ℕ) (h : IsWhole s q octets
   zone_table : IsZone by_table
   zone_table = record { records = h.zone.records; apex_is = h.zone.apex_is; records_are = h.zone.records_are; accepted = h.zone.accepted; sorted = h.zone.sorted }
 
-  answer_judged : AnswersQuestion by_table s.keys s.at q.asked m → AnswersQuery s.limit s.size q m octets → IsJudgedAs octets m
-  answer_judged is answers =
-      let p46 = or_parts (eqb q.asked.rtype 46) _ h.plain in
-      let p47 = or_parts (eqb q.asked.rtype 47) _ p46.1 in
-      let p50 = or_parts (eqb q.asked.rtype 50) false p47.1 in
-      let plain : of_chain q.asked.rtype ≡ false = (λ i. p47.0 i || p50.0 i) in
-      let groups : List Group = answer_groups (served_sorted by_table zone_table s.world.zone.records) q.asked.name q.asked.rtype in
-      let alone = written_alone by_table.sign by_table.answers.verifies s.world.zone.apex (second_of s.at) s.world.life _ _ q.asked is.answer is.authority groups m
-      h.zone.apex_is h.asked (zone_formed by_table zone_table q.asked h.asked plain) (groups_unsigned (served_sorted by_table zone_table s.world.zone.records) q.asked.name q.asked.rtype p46.0) is.groups_are is.written in
-      response_judged _ q.asked _ _ m s.limit s.size q octets alone h.size h.limit h.asked h.wanted refl refl refl h.whole answers
+  abbrev the_served : Served
+  the_served = served_sorted by_table zone_table s.world.zone.records
 
-  keys_judged : is_for_keys s.world.zone.apex q.asked ≡ true → AnswersKeysQuestion by_table s.keys s.at m → AnswersQuery s.limit s.size q m octets → IsJudgedAs octets m
-  keys_judged for_keys is answers =
+  abbrev the_groups : List Group
+  the_groups = answer_groups the_served q.asked.name q.asked.rtype
+
+  module _ (is : AnswersQuestion by_table s.keys s.at q.asked m) where
+    plain_parts : (eqb q.asked.rtype 46 ≡ false) × (of_chain q.asked.rtype ≡ false)
+    plain_parts =
+        let p46 = or_parts (eqb q.asked.rtype 46) _ h.plain in
+        let p47 = or_parts (eqb q.asked.rtype 47) _ p46.1 in
+        let p50 = or_parts (eqb q.asked.rtype 50) false p47.1 in
+        (p46.0, λ i. (p47.0 i || p50.0 i))
+
+    formed : AllByRecursion IsFormed the_groups
+    formed = zone_formed by_table zone_table q.asked h.asked plain_parts.1
+
+    unsigned : AllByRecursion NoSignature the_groups
+    unsigned = groups_unsigned the_served q.asked.name q.asked.rtype plain_parts.0
+
+    abbrev told : Verdict
+    told = verdict the_served.zone false q.asked.name q.asked.rtype
+
+    alone : IsAlone (flags_for told) q.asked (joined is.written.answers) (joined is.written.authorities) m
+    alone =
+        written_alone by_table.sign by_table.answers.verifies s.world.zone.apex (second_of s.at) s.world.life _ _ q.asked is.answer is.authority the_groups m
+        h.zone.apex_is h.asked formed unsigned is.groups_are is.written
+
+    authoritative : (f : ℕ) → flags_for told ≡ f → f < 65536 → eqb (f / 1024 % 2) 1 ≡ true → glue s.addresses m ≡ []
+    authoritative f e few set = no_glue (flags_for told) q.asked (joined is.written.answers) (joined is.written.authorities) m s.addresses alone f e few set
+
+    -- only a referral has glue, and nothing there signs an address
+    bare : (v : Verdict) → told ≡ v → AreBare (glue s.addresses m) (joined is.written.answers ++ joined is.written.authorities)
+    bare Delegated e t address =
+        inr (written_other t by_table.sign by_table.answers.verifies s.world.zone.apex (second_of s.at) s.world.life _ _ q.asked is.answer is.authority the_groups m
+        h.zone.apex_is formed unsigned (referral_other the_served q.asked.name q.asked.rtype t address e) is.groups_are is.written)
+    bare NoName e t address = inl (authoritative 33795 (ap flags_for e) (lit< tt) refl)
+    bare (Records ds) e t address = inl (authoritative 33792 (ap flags_for e) (lit< tt) refl)
+    bare NoType e t address = inl (authoritative 33792 (ap flags_for e) (lit< tt) refl)
+    bare (StarRecords ds) e t address = inl (authoritative 33792 (ap flags_for e) (lit< tt) refl)
+    bare StarNoType e t address = inl (authoritative 33792 (ap flags_for e) (lit< tt) refl)
+    bare Open e t address = inl (authoritative 33792 (ap flags_for e) (lit< tt) refl)
+    bare Unsigned e t address = inl (authoritative 33792 (ap flags_for e) (lit< tt) refl)
+
+    answer_judged : AnswersGlued s.limit s.size q s.addresses m octets → IsJudgedAs octets m
+    answer_judged glued =
+        response_judged (flags_for told) q.asked (joined is.written.answers) (joined is.written.authorities) m s.limit s.size q alone h.size h.limit h.asked h.wanted refl refl refl (glue s.addresses m) glued.each (bare told refl)
+        octets h.whole glued.answers
+
+  keys_judged : is_for_keys s.world.zone.apex q.asked ≡ true → AnswersKeysQuestion by_table s.keys s.at m → AnswersGlued s.limit s.size q s.addresses m octets → IsJudgedAs octets m
+  keys_judged for_keys is glued =
       let apex = s.world.zone.apex in
       let parts = and_parts (eqb q.asked.rtype 48 && eqb q.asked.class 1) (same q.asked.name apex) for_keys in
       let numbers = and_parts (eqb q.asked.rtype 48) (eqb q.asked.class 1) parts.0 in
@@ -183,11 +303,13 @@ module _ (s : Serving) (q : Queried) (octets : List ℕ) (h : IsWhole s q octets
       let fits : IsQuestion asked = record { name = h.zone.apex_is; rtype = lit< tt; class = lit< tt } in
       let alone = written_alone by_table.sign by_table.answers.verifies apex (second_of s.at) s.world.life _ 33792 asked (is.group ∷ []) [] (group ∷ []) m
       h.zone.apex_is fits (key_formed by_table zone_table (present_keys s.keys), tt) (refl, tt) (is.presents, tt) is.written in
-      response_judged 33792 asked _ _ m s.limit s.size q octets alone h.size h.limit h.asked h.wanted (same_labels (low q.asked.name) (low apex) parts.1) (eqb-true q.asked.rtype 48 numbers.0) (eqb-true q.asked.class 1 numbers.1) h.whole answers
+      let none : glue s.addresses m ≡ [] = no_glue 33792 asked (joined is.written.answers) (joined is.written.authorities) m s.addresses alone 33792 refl (lit< tt) refl in
+      response_judged 33792 asked (joined is.written.answers) (joined is.written.authorities) m s.limit s.size q alone h.size h.limit h.asked h.wanted
+      (same_labels (low q.asked.name) (low apex) parts.1) (eqb-true q.asked.rtype 48 numbers.0) (eqb-true q.asked.class 1 numbers.1) (glue s.addresses m) glued.each (λ t address. inl none) octets h.whole glued.answers
 
-  message_judged : (keys : Bool) → is_for_keys s.world.zone.apex q.asked ≡ keys → IsMessage s q.asked keys true m → AnswersQuery s.limit s.size q m octets → IsJudgedAs octets m
-  message_judged true e is answers = keys_judged e (is (sign_by s.table) (verify_by s.table) (own_entries s.table)).0 answers
-  message_judged false e is answers = answer_judged (is.0 (sign_by s.table) (verify_by s.table) (own_entries s.table)).0 answers
+  message_judged : (keys : Bool) → is_for_keys s.world.zone.apex q.asked ≡ keys → IsMessage s q.asked keys true m → AnswersGlued s.limit s.size q s.addresses m octets → IsJudgedAs octets m
+  message_judged true e is glued = keys_judged e (is (sign_by s.table) (verify_by s.table) (own_entries s.table)).0 glued
+  message_judged false e is glued = answer_judged (is.0 (sign_by s.table) (verify_by s.table) (own_entries s.table)).0 glued
 
 pub responses_judged : ResponsesJudgedAlike
 responses_judged s q old new octets h r =

@@ -1,7 +1,7 @@
 -- What a response has of a message, read as it stands there.
 use Rattle.std.proofs.Common.{◌≡◌, ℕ, suc, ◌+◌, ◌*◌, ◌/◌, ◌%◌, ◌<◌, ◌≤◌, Bool, true, false, not, ◌&&◌, ◌||◌, List, [], ◌∷◌, ◌++◌, length, map, take, drop, Option, Some, None, Ok, cond, eqb, nat_le, refl, sym, subst, ap, ◌∙◌, append_assoc, length-append, arith, le_refl, leb-true, lit<, lit≤}
 use Rattle.std.specs.Int.{w16, to_be_bytes}
-use Rattle.std.specs.List.{AllByRecursion, AllZip, filter, flat_map}
+use Rattle.std.specs.List.{AllByRecursion, AllZip, filter, flat_map, list_any}
 use Rattle.std.proofs.Math.Nat.{min-le_left, mod-lt}
 use Rattle.std.proofs.lemmas.Bool.{eq-eqb, true≢false}
 use Rattle.std.proofs.lemmas.List.{append-nil}
@@ -14,14 +14,15 @@ use Rattle.messages.specs.WrittenLaws.{AreSections, IsQuestion, IsRecord, first_
 use Rattle.messages.proofs.MessageWhole.{message_here}
 use Rattle.messages.proofs.MessageWritten.{StandsAt, end_of}
 use Rattle.answer_shared.specs.Alike.{IsLike}
-use Rattle.answer_alike.specs.SeenAlike.{SeenAlike, is_used, is_used_type}
+use Rattle.answer_alike.specs.SeenAlike.{SeenAlike, is_covering, is_used, is_used_type}
+use Rattle.server_answers.proofs.WritesGroups.{Holds, all_records, count_of}
 use Rattle.server_queries.specs.Headers.{has_flag}
 use Rattle.server_queries.specs.Queries.{Queried}
 use Rattle.server_queries.specs.Replies.{edns_octets, one_if_some, opt_bits, opt_octets}
 use Rattle.server_queries.specs.declared.edns.Edns.{Edns}
-use Rattle.server_responses.specs.Responses.{answers_shown, authority_shown, head_octets, is_dnssec_ok, reply_octets, response_flags, response_of, truncated_response, whole_response}
+use Rattle.server_responses.specs.Responses.{answers_shown, authority_shown, counted, head_octets, is_dnssec_ok, reply_octets, response_flags, response_of, truncated_response, whole_response}
 use Rattle.server_responses.specs.Sections.{answer_section, authority_section, is_added, is_soa_or_its_signature, negative_ttl, no_greater, written_at}
-use Rattle.server_laws.proofs.Alone.{SameButTtl, StandsAlone, records_alike}
+use Rattle.server_laws.proofs.Alone.{SameButTtl, SignsOther, StandsAlone, records_alike, uncovered}
 use Rattle.server_laws.proofs.Framed.{answers_of, authority_of, flags_of, framed, message_framed, read_framed, records_of}
 use Rattle.server_laws.specs.Heard.{is_truncated}
 
@@ -127,7 +128,7 @@ zip_front R (u ∷ us) vs (x ∷ xs) ys e h = let rest = zip_front R us vs xs ys
 -- ---- OPT records
 
 -- as a record: of the root, without data (RFC 6891, 6.1.2)
-opts : ℕ → Option Edns → List Written
+pub opts : ℕ → Option Edns → List Written
 opts size None = []
 opts size (Some e) = written [] 41 size (opt_bits 0 e.dnssec_ok) [] ∷ []
 
@@ -150,27 +151,46 @@ unfolding opts
 opts_records size None small = tt
 opts_records size (Some e) small = (record { owner = record { labels = tt; short = lit≤ tt }; rtype = lit< tt; class = small; ttl = bits_small e.dnssec_ok; octets = lit< tt }, tt)
 
-unused_opts : (t size p : ℕ) (e : Option Edns) → eqb 41 t ≡ false → filter (is_used t) (spelled_from p (opts size e)) ≡ []
+-- records of types that are not used
+abbrev pub IsUnused : ℕ → Written → Type 0
+IsUnused t w = is_used_type t w.rtype ≡ false
+
+unused_opts : (t size : ℕ) (e : Option Edns) → eqb 41 t ≡ false → AllByRecursion (IsUnused t) (opts size e)
 unfolding opts
-unused_opts t size p None other = refl
-unused_opts t size p (Some e) other = ap (λ b. cond b (spelled_at p (written [] 41 size (opt_bits 0 e.dnssec_ok) []) ∷ []) []) other
+unused_opts t size None other = tt
+unused_opts t size (Some e) other = (other, tt)
+
+unused_append : (t : ℕ) (xs ys : List Written) → AllByRecursion (IsUnused t) xs → AllByRecursion (IsUnused t) ys → AllByRecursion (IsUnused t) (xs ++ ys)
+unused_append t [] ys h k = k
+unused_append t (x ∷ xs) ys h k = (h.0, unused_append t xs ys h.1 k)
+
+none_used : (t p : ℕ) (ws : List Written) → AllByRecursion (IsUnused t) ws → filter (is_used t) (spelled_from p ws) ≡ []
+none_used t p [] h = refl
+none_used t p (w ∷ ws) h =
+    let rest = filter (is_used t) (spelled_from (end_of p w) ws) in
+    ap (λ b. cond b (spelled_at p w ∷ rest) rest) h.0 ∙ none_used t (end_of p w) ws h.1
 
 -- ---- responses as they are written
 
 parted : (z f o a u e w t c x d : List ℕ) → z ++ f ++ o ++ (a ++ u ++ e) ++ (w ++ t ++ c) ++ x ++ d ≡ z ++ (f ++ (o ++ (a ++ (u ++ (e ++ (w ++ (t ++ (c ++ (x ++ d)))))))))
 parted z f o a u e w t c x d = simp append_assoc refl
 
-reply_framed : (size : ℕ) (q : Queried) (flags a u : ℕ) (records : List ℕ) → reply_octets size q flags a u records ≡ framed q.header.id flags a u (one_if_some q.edns) q.asked (records ++ edns_octets size 0 q.edns)
+reply_framed : (size : ℕ) (q : Queried) (flags a u e : ℕ) (records : List ℕ)
+    → reply_octets size q flags (counted a u e) records ≡ framed q.header.id flags a u (e + one_if_some q.edns) q.asked (records ++ edns_octets size 0 q.edns)
 unfolding head_octets question_octets
-reply_framed size q flags a u records =
-    parted (to_be_bytes w16 q.header.id) (to_be_bytes w16 flags) (to_be_bytes w16 1) (to_be_bytes w16 a) (to_be_bytes w16 u) (to_be_bytes w16 (one_if_some q.edns)) (wire q.asked.name) (to_be_bytes w16 q.asked.rtype) (to_be_bytes w16 q.asked.class) records (edns_octets size 0 q.edns)
+reply_framed size q flags a u e records =
+    parted (to_be_bytes w16 q.header.id) (to_be_bytes w16 flags) (to_be_bytes w16 1) (to_be_bytes w16 a) (to_be_bytes w16 u) (to_be_bytes w16 (e + one_if_some q.edns)) (wire q.asked.name) (to_be_bytes w16 q.asked.rtype) (to_be_bytes w16 q.asked.class) records (edns_octets size 0 q.edns)
 
-three : (fs ss : List Written) (size : ℕ) (e : Option Edns) → (flat_map record_octets fs ++ flat_map record_octets ss) ++ edns_octets size 0 e ≡ flat_map record_octets (fs ++ ss ++ opts size e) ++ []
-three fs ss size e =
-    ap (λ x. x ++ edns_octets size 0 e) (sym (flat_map-append record_octets fs ss))
-    ∙ ap (λ x. flat_map record_octets (fs ++ ss) ++ x) (opts_octets size e)
-    ∙ sym (flat_map-append record_octets (fs ++ ss) (opts size e))
-    ∙ sym (append-nil (flat_map record_octets (fs ++ ss ++ opts size e)))
+four : (fs ss ms : List Written) (size : ℕ) (e : Option Edns)
+    → (flat_map record_octets fs ++ flat_map record_octets ss ++ flat_map record_octets ms) ++ edns_octets size 0 e ≡ flat_map record_octets (fs ++ ss ++ (ms ++ opts size e)) ++ []
+four fs ss ms size e =
+    let front = flat_map record_octets (fs ++ ss) in
+    ap (λ x. (x ++ flat_map record_octets ms) ++ edns_octets size 0 e) (sym (flat_map-append record_octets fs ss))
+    ∙ append_assoc front (flat_map record_octets ms) (edns_octets size 0 e)
+    ∙ ap (λ x. front ++ (flat_map record_octets ms ++ x)) (opts_octets size e)
+    ∙ ap (λ x. front ++ x) (sym (flat_map-append record_octets ms (opts size e)))
+    ∙ sym (flat_map-append record_octets (fs ++ ss) (ms ++ opts size e))
+    ∙ sym (append-nil (flat_map record_octets (fs ++ ss ++ (ms ++ opts size e))))
 
 -- ---- filters
 
@@ -222,10 +242,11 @@ tc_set a b c q r = omega (arith, q, r)
 
 -- ---- the whole response
 
-both_used : (t size p : ℕ) (e : Option Edns) (k : ℕ) (m n : List ℕ) (rs ss : List Spelled) → eqb 41 t ≡ false → AllZip (IsLike k m n) rs ss → AllZip (IsLike k m n) (filter (is_used t) rs) (filter (is_used t) (ss ++ spelled_from p (opts size e)))
-both_used t size p e k m n rs ss other z =
-    let all : filter (is_used t) (ss ++ spelled_from p (opts size e)) ≡ filter (is_used t) ss =
-    filter_append (is_used t) ss (spelled_from p (opts size e)) ∙ ap (λ xs. filter (is_used t) ss ++ xs) (unused_opts t size p e other) ∙ append-nil (filter (is_used t) ss) in
+both_used : (t p : ℕ) (extras : List Written) (k : ℕ) (m n : List ℕ) (rs ss : List Spelled) → AllByRecursion (IsUnused t) extras → AllZip (IsLike k m n) rs ss
+    → AllZip (IsLike k m n) (filter (is_used t) rs) (filter (is_used t) (ss ++ spelled_from p extras))
+both_used t p extras k m n rs ss unused z =
+    let all : filter (is_used t) (ss ++ spelled_from p extras) ≡ filter (is_used t) ss =
+    filter_append (is_used t) ss (spelled_from p extras) ∙ ap (λ xs. filter (is_used t) ss ++ xs) (none_used t p extras unused) ∙ append-nil (filter (is_used t) ss) in
     subst (AllZip (IsLike k m n) (filter (is_used t) rs)) (sym all) (zip_used t k m n rs ss z)
 
 -- a message of a publisher, whose records say the same wherever they stand
@@ -236,7 +257,11 @@ pub record IsAlone (flags : ℕ) (asked : Asked) (answers authority : List Writt
   pub answers_alone : AllByRecursion StandsAlone (answers ++ authority)
   pub short : length m ≤ 65535
 
-module _ (flags : ℕ) (asked : Asked) (answers authority : List Written) (m : List ℕ) (is : IsAlone flags asked answers authority m) (size : ℕ) (q : Queried) (small : size < 65536) (fits : IsQuestion q.asked) (wanted : is_dnssec_ok q ≡ true) where
+-- the flags that it has
+pub flags_told : (flags : ℕ) (asked : Asked) (answers authority : List Written) (m : List ℕ) → IsAlone flags asked answers authority m → flags < 65536 → pair m 2 ≡ flags
+flags_told flags asked answers authority m is few = flags_of m 0 flags (length answers) (length authority) 0 asked _ (is.octets_are ∙ message_framed flags asked answers authority) few
+
+module _ (flags : ℕ) (asked : Asked) (answers authority : List Written) (m : List ℕ) (is : IsAlone flags asked answers authority m) (size : ℕ) (q : Queried) (small : size < 65536) (fits : IsQuestion q.asked) (wanted : is_dnssec_ok q ≡ true) (more : List Written) (more_hold : AllByRecursion Holds more) where
   abbrev pub place : ℕ
   place = first_place asked
 
@@ -245,6 +270,9 @@ module _ (flags : ℕ) (asked : Asked) (answers authority : List Written) (m : L
 
   frame : m ≡ framed 0 flags (length answers) (length authority) 0 asked (flat_map record_octets (answers ++ authority) ++ [])
   frame = is.octets_are ∙ message_framed flags asked answers authority
+
+  records_stand : StandsAt m place (flat_map record_octets (answers ++ authority) ++ [])
+  records_stand = records_of m 0 flags (length answers) (length authority) 0 asked _ frame
 
   abbrev pub in_message : Message
   in_message = record { asked = asked; records = spelled_all }
@@ -301,57 +329,81 @@ module _ (flags : ℕ) (asked : Asked) (answers authority : List Written) (m : L
   abbrev pub seconds : List Written
   seconds = authority_shown q m spelled_all
 
+  -- what the additional section has
+  abbrev pub extras : List Written
+  extras = more ++ opts size q.edns
+
+  abbrev pub extra : ℕ
+  extra = length more + one_if_some q.edns
+
   abbrev pub whole : List ℕ
-  whole = whole_response size q m spelled_all
+  whole = whole_response size q m spelled_all more
 
-  whole_framed : whole ≡ framed q.header.id (response_flags q.header (pair m 2) false) (length firsts) (length seconds) (one_if_some q.edns) q.asked (flat_map record_octets (firsts ++ seconds ++ opts size q.edns) ++ [])
+  whole_framed : whole ≡ framed q.header.id (response_flags q.header (pair m 2) false) (length firsts) (length seconds) extra q.asked (flat_map record_octets (firsts ++ seconds ++ extras) ++ [])
   whole_framed =
-      reply_framed size q (response_flags q.header (pair m 2) false) (length firsts) (length seconds) (flat_map record_octets firsts ++ flat_map record_octets seconds)
-      ∙ ap (framed q.header.id (response_flags q.header (pair m 2) false) (length firsts) (length seconds) (one_if_some q.edns) q.asked) (three firsts seconds size q.edns)
+      reply_framed size q (response_flags q.header (pair m 2) false) (length firsts) (length seconds) (length more) (flat_map record_octets firsts ++ flat_map record_octets seconds ++ flat_map record_octets more)
+      ∙ ap (framed q.header.id (response_flags q.header (pair m 2) false) (length firsts) (length seconds) extra q.asked) (four firsts seconds more size q.edns)
 
-  each_record : AllByRecursion IsRecord (firsts ++ seconds ++ opts size q.edns)
-  each_record =
-      records_append (firsts ++ seconds) (opts size q.edns)
+  counted_all : length firsts + length seconds + extra ≡ length (firsts ++ seconds ++ extras)
+  counted_all = omega (arith, length-append (firsts ++ seconds) extras, length-append firsts seconds, length-append more (opts size q.edns), opts_count size q.edns)
+
+  records_there : StandsAt whole (first_place q.asked) (flat_map record_octets (firsts ++ seconds ++ extras) ++ [])
+  records_there = records_of whole q.header.id (response_flags q.header (pair m 2) false) (length firsts) (length seconds) extra q.asked _ whole_framed
+
+  -- records of a message of at most 65,535 octets
+  all_short : length whole ≤ 65535 → length (flat_map record_octets (firsts ++ seconds ++ extras)) ≤ 65535
+  all_short few =
+      let octets = flat_map record_octets (firsts ++ seconds ++ extras) in
+      omega (arith, few, ap length records_there.whole, length-append records_there.front (octets ++ []), length-append octets [])
+
+  more_records : length whole ≤ 65535 → AllByRecursion IsRecord more
+  more_records few =
+      let front = flat_map record_octets (firsts ++ seconds) in
+      let own = flat_map record_octets more in
+      all_records more 65535 more_hold
+      (omega (arith, all_short few, ap length (flat_map-append record_octets (firsts ++ seconds) extras), length-append front (flat_map record_octets extras), ap length (flat_map-append record_octets more (opts size q.edns)), length-append own (flat_map record_octets (opts size q.edns))))
+      (lit< tt)
+
+  each_record : length whole ≤ 65535 → AllByRecursion IsRecord (firsts ++ seconds ++ extras)
+  each_record few =
+      records_append (firsts ++ seconds) extras
       (records_append firsts seconds (same_records answers firsts shown_answers is.sections.answers_are) (same_records authority seconds shown_authority is.sections.authority_are))
-      (opts_records size q.edns small)
+      (records_append more (opts size q.edns) (more_records few) (opts_records size q.edns small))
 
-  one_small : (e : Option Edns) → one_if_some e < 65536
-  one_small None = lit< tt
-  one_small (Some e) = lit< tt
-
-  counted : length firsts + length seconds + one_if_some q.edns ≡ length (firsts ++ seconds ++ opts size q.edns)
-  counted = omega (arith, length-append (firsts ++ seconds) (opts size q.edns), length-append firsts seconds, opts_count size q.edns)
-
-  whole_reads : message pointer_limit whole ≡ Ok (record { asked = q.asked; records = spelled_from (first_place q.asked) (firsts ++ seconds ++ opts size q.edns) })
-  whole_reads =
-      read_framed whole q.header.id (response_flags q.header (pair m 2) false) (length firsts) (length seconds) (one_if_some q.edns) q.asked (firsts ++ seconds ++ opts size q.edns) [] whole_framed fits
-      (omega (arith, same_length answers firsts shown_answers, is.sections.answers_fit)) (omega (arith, same_length authority seconds shown_authority, is.sections.authority_fit)) (one_small q.edns) each_record counted
+  whole_reads : length whole ≤ 65535 → message pointer_limit whole ≡ Ok (record { asked = q.asked; records = spelled_from (first_place q.asked) (firsts ++ seconds ++ extras) })
+  whole_reads few =
+      read_framed whole q.header.id (response_flags q.header (pair m 2) false) (length firsts) (length seconds) extra q.asked (firsts ++ seconds ++ extras) [] whole_framed fits
+      (omega (arith, same_length answers firsts shown_answers, is.sections.answers_fit)) (omega (arith, same_length authority seconds shown_authority, is.sections.authority_fit))
+      (omega (arith, all_short few, count_of (firsts ++ seconds ++ extras), counted_all)) (each_record few) counted_all
 
   -- the records of the message and of the response, one by one
   records_same : length whole ≤ 65535 → AllZip (IsLike pointer_limit m whole) spelled_all (spelled_from (first_place q.asked) (firsts ++ seconds))
   records_same few =
-      records_alike m whole place (first_place q.asked) (answers ++ authority) (firsts ++ seconds) [] (flat_map record_octets (opts size q.edns) ++ []) is.short few is.answers_alone (same_append answers firsts authority seconds shown_answers shown_authority)
-      (records_of m 0 flags (length answers) (length authority) 0 asked _ frame)
-      (subst (StandsAt whole (first_place q.asked)) (ap (λ x. x ++ []) (flat_map-append record_octets (firsts ++ seconds) (opts size q.edns)) ∙ append_assoc (flat_map record_octets (firsts ++ seconds)) (flat_map record_octets (opts size q.edns)) [])
-      (records_of whole q.header.id (response_flags q.header (pair m 2) false) (length firsts) (length seconds) (one_if_some q.edns) q.asked _ whole_framed))
+      records_alike m whole place (first_place q.asked) (answers ++ authority) (firsts ++ seconds) [] (flat_map record_octets extras ++ []) is.short few is.answers_alone (same_append answers firsts authority seconds shown_answers shown_authority)
+      records_stand
+      (subst (StandsAt whole (first_place q.asked)) (ap (λ x. x ++ []) (flat_map-append record_octets (firsts ++ seconds) extras) ∙ append_assoc (flat_map record_octets (firsts ++ seconds)) (flat_map record_octets extras) []) records_there)
 
-  pub whole_seen : (t : ℕ) → eqb 41 t ≡ false → low q.asked.name ≡ low asked.name → q.asked.rtype ≡ asked.rtype → q.asked.class ≡ asked.class → length whole ≤ 65535 → SeenAlike pointer_limit t whole m
-  whole_seen t other name rtype class few =
+  pub whole_seen : (t : ℕ) → AllByRecursion (IsUnused t) more → eqb 41 t ≡ false → low q.asked.name ≡ low asked.name → q.asked.rtype ≡ asked.rtype → q.asked.class ≡ asked.class → length whole ≤ 65535 → SeenAlike pointer_limit t whole m
+  whole_seen t spare other name rtype class few =
       let behind : ℕ = place_behind (first_place q.asked) (firsts ++ seconds) in
       let z = records_same few in
-      let used : AllZip (IsLike pointer_limit m whole) (filter (is_used t) spelled_all) (filter (is_used t) (spelled_from (first_place q.asked) (firsts ++ seconds) ++ spelled_from behind (opts size q.edns))) =
-      both_used t size behind q.edns pointer_limit m whole spelled_all (spelled_from (first_place q.asked) (firsts ++ seconds)) other z in
+      let used : AllZip (IsLike pointer_limit m whole) (filter (is_used t) spelled_all) (filter (is_used t) (spelled_from (first_place q.asked) (firsts ++ seconds) ++ spelled_from behind extras)) =
+      both_used t behind extras pointer_limit m whole spelled_all (spelled_from (first_place q.asked) (firsts ++ seconds)) (unused_append t more (opts size q.edns) spare (unused_opts t size q.edns other)) z in
       record {
-        one = record { asked = q.asked; records = spelled_from (first_place q.asked) (firsts ++ seconds ++ opts size q.edns) };
+        one = record { asked = q.asked; records = spelled_from (first_place q.asked) (firsts ++ seconds ++ extras) };
         other = in_message;
-        reads_one = whole_reads;
+        reads_one = whole_reads few;
         reads_other = message_read;
         name_is = name;
         rtype_is = rtype;
         class_is = class;
-        records_are = all_turned pointer_limit m whole (filter (is_used t) spelled_all) (filter (is_used t) (spelled_from (first_place q.asked) (firsts ++ seconds ++ opts size q.edns)))
-            (subst (λ xs. AllZip (IsLike pointer_limit m whole) (filter (is_used t) spelled_all) (filter (is_used t) xs)) (sym (spelled_more (first_place q.asked) (firsts ++ seconds) (opts size q.edns))) used);
+        records_are = all_turned pointer_limit m whole (filter (is_used t) spelled_all) (filter (is_used t) (spelled_from (first_place q.asked) (firsts ++ seconds ++ extras)))
+            (subst (λ xs. AllZip (IsLike pointer_limit m whole) (filter (is_used t) spelled_all) (filter (is_used t) xs)) (sym (spelled_more (first_place q.asked) (firsts ++ seconds) extras)) used);
       }
+
+  -- no signature of the message covers a type that none of its signatures is of
+  pub none_covers : (u : ℕ) → AllByRecursion (SignsOther u) (answers ++ authority) → list_any (is_covering pointer_limit m u) spelled_all ≡ false
+  none_covers u others = uncovered u m place (answers ++ authority) [] is.short others records_stand
 
   -- ---- whether all is there
 
@@ -359,14 +411,14 @@ module _ (flags : ℕ) (asked : Asked) (answers authority : List Written) (m : L
   flags_small = tc_small (pair m 2 / 1024 % 2) (q.header.flags / 256 % 2) (pair m 2 % 16) (mod-lt (pair m 2 / 1024) (lit< tt)) (mod-lt (q.header.flags / 256) (lit< tt)) (mod-lt (pair m 2) (lit< tt))
 
   cut_flags : pair (truncated_response size q m) 2 ≡ response_flags q.header (pair m 2) true
-  cut_flags = flags_of (truncated_response size q m) q.header.id (response_flags q.header (pair m 2) true) 0 0 (one_if_some q.edns) q.asked _ (reply_framed size q (response_flags q.header (pair m 2) true) 0 0 []) flags_small
+  cut_flags = flags_of (truncated_response size q m) q.header.id (response_flags q.header (pair m 2) true) 0 0 (0 + one_if_some q.edns) q.asked _ (reply_framed size q (response_flags q.header (pair m 2) true) 0 0 0 []) flags_small
 
   cut_is_told : is_truncated (truncated_response size q m) ≡ true
   cut_is_told = ap (λ n. has_flag 512 n) cut_flags ∙ eq-eqb (response_flags q.header (pair m 2) true / 512 % 2) 1
       (tc_set (pair m 2 / 1024 % 2) (q.header.flags / 256 % 2) (pair m 2 % 16) (mod-lt (q.header.flags / 256) (lit< tt)) (mod-lt (pair m 2) (lit< tt)))
 
   -- where TC is clear the response is whole, and has no more octets than its limit
-  pub whole_where_clear : (limit : ℕ) → is_truncated (response_of limit size q m spelled_all) ≡ false → (response_of limit size q m spelled_all ≡ whole) × (length whole ≤ limit)
+  pub whole_where_clear : (limit : ℕ) → is_truncated (response_of limit size q m spelled_all more) ≡ false → (response_of limit size q m spelled_all more ≡ whole) × (length whole ≤ limit)
   whole_where_clear limit clear = choose (nat_le (length whole) limit) refl clear
     where
       choose : (b : Bool) → nat_le (length whole) limit ≡ b → is_truncated (cond b whole (truncated_response size q m)) ≡ false → (cond (nat_le (length whole) limit) whole (truncated_response size q m) ≡ whole) × (length whole ≤ limit)

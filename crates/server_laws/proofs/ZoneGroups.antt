@@ -1,9 +1,10 @@
 -- The RRsets of the answers of an accepted zone: their owners are names, their data are read, and none is of signatures.
-use Rattle.std.proofs.Common.{◌≡◌, ℕ, ◌<◌, Bool, false, ◌&&◌, ◌||◌, List, [], ◌∷◌, ◌++◌, map, Option, Some, None, cond, eqb, inl, inr, refl, sym, subst, ap}
+use Rattle.std.proofs.Common.{◌≡◌, ◌⊎◌, ℕ, ◌<◌, Bool, true, false, ◌&&◌, ◌||◌, List, [], ◌∷◌, ◌++◌, map, Option, Some, None, cond, eqb, inl, inr, refl, sym, subst, ap, ◌∙◌, ⊎_elim}
+use Rattle.std.proofs.lemmas.Bool.{eqb-true, or_cases}
 use Rattle.std.specs.List.{AllByRecursion, filter, list_any}
 use Rattle.definitions.specs.Base32hex.{base32hex}
 use Rattle.definitions.specs.Name.{IsName, Name, labels_eq, low}
-use Rattle.definitions.specs.Zone.{Delegated, NoName, NoType, Open, Records, StarNoType, StarRecords, Unsigned, Verdict, ce, cut, has, star_under, verdict}
+use Rattle.definitions.specs.Zone.{Delegated, NoName, NoType, Open, Records, StarNoType, StarRecords, Unsigned, Verdict, Zone, ce, cut, has, is_open, star_under, verdict}
 use Rattle.definitions.specs.ZoneChain.{Mode, Nsec, Nsec3, nsec3_names, optout_of}
 use Rattle.messages.specs.Handed.{AreHanded, IsHanded}
 use Rattle.messages.specs.HandedRr.{HandedRr}
@@ -22,7 +23,7 @@ use Rattle.answer_alike.proofs.GivenLists.{contained_has}
 use Rattle.server_answers.proofs.WritesData.{of_chain}
 use Rattle.server_answers.proofs.WritesGroups.{IsFormed}
 use Rattle.server_answers.proofs.WritesZone.{Named, answer_formed}
-use Rattle.server_laws.proofs.Alone.{NoSignature}
+use Rattle.server_laws.proofs.Alone.{IsOther, NoSignature}
 
 all_has : {A : Type 0} (P : A → Type 0) (xs : List A) → ((x : A) → Has xs x → P x) → AllByRecursion P xs
 all_has P [] f = tt
@@ -83,6 +84,52 @@ groups_unsigned s q t plain =
     let v = verdict s.zone (optout_of s.mode) q t in
     let said = spoken s (low q) (verdict s.zone false q t) v in
     all_join NoSignature (ahead s q t v) (proofs_of s said) (ahead_unsigned s q t plain v) (chain_unsigned s (filter (λ o. list_any (speaks_for s o) said) (chain_names s)))
+
+-- ---- the groups of a referral are of no addresses
+
+-- an address type is no other number
+not_address : (u k : ℕ) → (eqb u 1 || eqb u 28) ≡ true → eqb k 1 ≡ false → eqb k 28 ≡ false → eqb k u ≡ false
+not_address u k e one other =
+    ⊎_elim (λ h. ap (eqb k) (eqb-true u 1 h) ∙ one) (λ h. ap (eqb k) (eqb-true u 28 h) ∙ other) (or_cases (eqb u 1) (eqb u 28) e)
+
+-- what refers a name away does so under opt-out, or opt-out leaves it open
+referred : (z : Zone) (optout : Bool) (q : Name) (t : ℕ) → verdict z false q t ≡ Delegated → (verdict z optout q t ≡ Delegated) ⊎ (verdict z optout q t ≡ Open)
+referred z optout q t told = go (is_open z optout (low q))
+  where
+    go : (b : Bool) → ((elim b as (λ _. Verdict) [ true ↦ Open | false ↦ verdict z false q t ]) ≡ Delegated) ⊎ ((elim b as (λ _. Verdict) [ true ↦ Open | false ↦ verdict z false q t ]) ≡ Open)
+    go true = inr refl
+    go false = inl told
+
+module _ (s : Served) (q : Name) (t u : ℕ) (address : (eqb u 1 || eqb u 28) ≡ true) where
+  abbrev Other : List Group → Type 0
+  Other gs = AllByRecursion (IsOther u) gs
+
+  at_delegation : (o : Option Name) → Other (elim o [ None ↦ [] | Some c ↦ unsigned_ns s c ++ if_any s c 43 ])
+  at_delegation None = tt
+  at_delegation (Some c) = (not_address u 2 address refl refl, either Other (has s.zone c 43) (rrset s c 43 ∷ []) [] (not_address u 43 address refl refl, tt) tt)
+
+  at_open : (o : Option Name) → Other (elim o [ None ↦ soa s ∷ [] | Some c ↦ cond (labels_eq c (low q) && eqb t 43) (soa s ∷ []) (unsigned_ns s c) ])
+  at_open None = (not_address u 6 address refl refl, tt)
+  at_open (Some c) = either Other (labels_eq c (low q) && eqb t 43) (soa s ∷ []) (unsigned_ns s c) (not_address u 6 address refl refl, tt) (not_address u 2 address refl refl, tt)
+
+  chain_other : (ns : List Name) → Other (map (chain_record s) ns)
+  chain_other [] = tt
+  chain_other (n ∷ ns) = (one s.mode refl, chain_other ns)
+    where
+      one : (m : Mode) → s.mode ≡ m → IsOther u (chain_record s n)
+      one Nsec e = subst (λ (x : Mode). IsOther u (chain_record (record s { mode = x }) n)) (sym e) (not_address u 47 address refl refl)
+      one (Nsec3 iterations salt optout) e = subst (λ (x : Mode). IsOther u (chain_record (record s { mode = x }) n)) (sym e) (not_address u 50 address refl refl)
+
+  pub referral_other : verdict s.zone false q t ≡ Delegated → Other (answer_groups s q t)
+  referral_other told =
+      let v = verdict s.zone (optout_of s.mode) q t in
+      let said = spoken s (low q) (verdict s.zone false q t) v in
+      let front : Other (ahead s q t v) =
+      ⊎_elim
+      (λ e. subst (λ x. Other (ahead s q t x)) (sym e) (at_delegation (cut s.zone (low q))))
+      (λ e. subst (λ x. Other (ahead s q t x)) (sym e) (subst (λ x. Other (ahead_open s q t x)) (sym told) (at_open (cut s.zone (low q)))))
+      (referred s.zone (optout_of s.mode) q t told) in
+      all_join (IsOther u) (ahead s q t v) (proofs_of s said) front (chain_other (filter (λ o. list_any (speaks_for s o) said) (chain_names s)))
 
 -- ---- each has a name as its owner
 

@@ -1,7 +1,7 @@
 -- The records of a response, section by section, of those of a message.
 use Rattle.std.specs.Prelude.{ℕ, ◌-◌, Bool, ◌&&◌, ◌||◌, ◌==◌, not, List, [], ◌∷◌, Option, Some, None, drop, min, take, if◌then◌else◌}
 use Rattle.std.specs.List.{flat_map}
-use Rattle.messages.specs.HandedRr.{among}
+use Rattle.messages.specs.HandedRr.{HandedRr, among}
 use Rattle.messages.specs.Message.{Spelled, behind, data_of, pair, quad}
 use Rattle.messages.specs.Written.{Written, written}
 use Rattle.server_responses.specs.declared.records.Section.{Section}
@@ -53,3 +53,7 @@ shown s m r = if is_left_out s r.rtype then [] else written_at m (shown_ttl s m 
 
 abbrev pub all_shown : Section → List ℕ → List Spelled → List Written
 all_shown s m rs = flat_map (shown s m) rs
+
+-- a record of a zone as it was handed in: owner and data as spelled, its own TTL
+abbrev pub written_as_handed : HandedRr → Written
+written_as_handed r = written r.owner r.rtype r.class r.ttl r.written

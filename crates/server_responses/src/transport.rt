@@ -16,13 +16,13 @@ pub enum Transport {
 /// How many octets a response may have: 65,535 by a stream; by a datagram no more than the server's
 /// limit and than what the OPT record of the query says, but at least 512 (RFC 1035, 2.3.4 and
 /// 4.2.2; RFC 6891, 6.2.3 to 6.2.5).
-pub fn size_limit(transport: Transport, edns: Option<Edns>) -> usize
+pub fn size_limit(transport: Transport, edns: Option<Edns>) -> u16
     ensures { result ≡ size_limit transport edns }
 {
     match transport {
         Transport::Stream => 65535,
         Transport::Datagram { limit } => match edns {
-            Some(edns) => usize::from(edns.udp_size.min(limit).max(512)),
+            Some(edns) => edns.udp_size.min(limit).max(512),
             None => 512,
         },
     }

@@ -1,48 +1,68 @@
 //! Parts of a response as they are written (RFC 1035, 4.1; RFC 6891, 6.1).
 //!
 //! Where memory runs out, a part may have been written in part: callers then drop the response.
-ghost use Rattle.std.specs.Prelude.{◌≡◌, ◌++◌, ◌+◌, ◌≤◌, length, OnOk, IfOk};
+ghost use Rattle.std.specs.Prelude.{◌≡◌, ◌++◌, ◌+◌, ◌<◌, ◌≤◌, length, OnOk, IfOk};
+ghost use Rattle.messages.specs.HandedRr.{handed_of};
 ghost use Rattle.messages.specs.Record.{spelled};
 ghost use Rattle.messages.specs.Written.{question_octets, record_octets};
 ghost use Rattle.names_parsed.specs.Parsed.{parsed_name};
 ghost use Rattle.server_queries.specs.Replies.{opt_bits, opt_octets};
 ghost use Rattle.server_queries.specs.Views.{queried_of};
 ghost use Rattle.server_responses.specs.Responses.{count_octets, head_octets, reply_octets};
-ghost use Rattle.server_responses.specs.Sections.{written_at};
+ghost use Rattle.server_responses.specs.Sections.{written_as_handed, written_at};
 
-use messages::names::ParsedName;
+use messages::names::{ParsedName, ZoneName};
 use messages::question::Question;
+use messages::record::ZoneRecord;
 use messages::view::ViewRecord;
 use messages::write::{push_u16, push_u32};
 use names_rdata::composer::compose_name;
+use names_rdata::data::ComposeRecordData;
 use numbers::rtype::Rtype;
 use numbers::ttl::Ttl;
 use server_queries::Query;
 use std::alloc::{AllocError, Global};
 
+/// How many records the sections of a reply have, OPT aside.
+#[derive(Clone, Copy, Debug)]
+pub(crate) struct Counts {
+    pub answers: u16,
+    pub authority: u16,
+    pub additional: u16,
+}
+
+impl Counts {
+    /// No records.
+    pub(crate) const NONE: Counts = Counts {
+        answers: 0,
+        authority: 0,
+        additional: 0,
+    };
+}
+
 /// A reply to a query: these flags, its question as it was spelled (RFC 5452, 9.1), so many records
-/// in the answer and the authority section, and an OPT record where the query has one.
+/// in these octets, and an OPT record behind them where the query has one.
 pub(crate) fn reply_octets(
     alloc: Global,
     query: &Query<'_>,
     flags: u16,
-    answers: u16,
-    authority: u16,
+    counts: Counts,
     records: &[u8],
     udp_size: u16,
 ) -> Result<Vec<u8>, AllocError>
+    requires { counts.additional < 65535 }
     ensures { let q = queried_of query.now in
-        let is = reply_octets udp_size q flags answers authority records.now in
+        let is = reply_octets udp_size q flags counts records.now in
         IfOk result (λ v. v.items ≡ is) }
 {
     let mut out = Vec::new(alloc);
-    let additional = u16::from(query.edns.is_some());
+    let additional = counts.additional + u16::from(query.edns.is_some());
     push_head(
         &mut out,
         query.header.id,
         flags,
-        answers,
-        authority,
+        counts.answers,
+        counts.authority,
         additional,
     )?;
     push_question(&mut out, &query.question)?;
@@ -141,4 +161,20 @@ pub(crate) fn push_view_record(
     let octets = record.octets(message);
     push_u16(out, octets.len() as u16)?;
     out.extend_from_slice(octets)
+}
+
+/// Appends a record of a zone as it was handed in: owner and data as spelled, its own TTL.
+#[tactic(auto, unfolding(messages::specs::Written::record_octets))]
+pub(crate) fn push_zone_record(out: &mut Vec<u8>, record: &ZoneRecord) -> Result<(), AllocError>
+    ensures { let more = record_octets (written_as_handed (handed_of record.now)) in
+        OnOk result (out.new.items ≡ out.old.items ++ more) }
+{
+    record.owner().compose(out)?;
+    push_u16(out, record.rtype().to_int())?;
+    push_u16(out, record.class().to_int())?;
+    push_u32(out, record.ttl().as_secs())?;
+    match record.data().compose_len_rdata(out) {
+        Ok(()) => Ok(()),
+        Err(_) => Err(AllocError),
+    }
 }

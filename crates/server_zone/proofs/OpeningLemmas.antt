@@ -1,16 +1,23 @@
 -- A zone while it is opened.
 use Rattle.std.proofs.Common.{◌≡◌, ℕ, ◌+◌, ◌≤◌, ◌-◌, Bool, true, false, List, [], ◌∷◌, ◌++◌, length, take, drop, refl, sym, ap, subst, ◌∙◌, arith, append_assoc, length-append, Option, Some, None}
-use Rattle.std.specs.Prelude.{map}
+use Rattle.std.specs.Prelude.{if◌then◌else◌, map}
+use Rattle.definitions.specs.Name.{Name}
+use Rattle.definitions.specs.ZoneChain.{Mode}
 use Rattle.messages.specs.HandedRr.{HandedRr, handed_of}
 use Rattle.answer_zone.specs.HashedZone.{accepted_zone}
+use Rattle.answer_zone_records.specs.Faults.{first_fault}
+use Rattle.answer_zone_records.specs.declared.fault.ZoneFault.TheVariants as fault
 use Rattle.answer_publisher_keys.specs.Bindings.{no_keys}
 use Rattle.answer_publisher.specs.World.{zone_by}
+use Rattle.answer_shared.specs.Accepting.{IsFaultless, sorted_records}
 use Rattle.answer_shared.specs.Hashing.{Hasher}
+use Rattle.answer_shared.specs.ZoneView.{AcceptedZone}
 use Rattle.answer_publisher.specs.declared.publishing.Publisher.{Publisher}
 use Rattle.denialbench_session.specs.Grammar.{ZoneLine}
+use Rattle.server_glue.specs.Glue.{addresses_of}
 use Rattle.server_zone.specs.Lines.{has_feed, unfinished, whole_lines}
 use Rattle.server_zone.specs.StateLines.{StateLine, Nothing, Added, Replaced, Called, Other, is_event, state_line}
-use Rattle.server_zone.specs.States.{Digest, Follows, IsRestKept, RefusesLine, RefusesTo, State, after, applied_line, made, state_of, ungathered}
+use Rattle.server_zone.specs.States.{Digest, Follows, HasAddresses, IsRestKept, RefusesLine, RefusesTo, State, after, applied_line, made, state_of, ungathered}
 use Rattle.server_zone.specs.Journals.{IsFresh, Phase, Empty, Beginning, Running, RefusesOwn, ended, own_line, ran, with_line, with_lines}
 use Rattle.server_zone.specs.declared.open_zone.Applied.{Applied}
 use Rattle.server_zone.specs.declared.open_zone.Zone.{Zone}
@@ -42,11 +49,12 @@ line_refused_as digest digest' hash hash' latest latest' s line f d k n h =
     (subst (λ u. RefusesLine digest u latest' s line f) k
     (subst (λ u. RefusesLine u hash' latest' s line f) d h))
 
-pub fresh_after : {S H : Type 0} (scheme : S) (hasher : H) (old new : Zone S H) → IsRestKept old.publisher new.publisher → IsFresh scheme hasher old → IsFresh scheme hasher new
-fresh_after {S = S} {H = H} scheme hasher old new rest f = record {
+pub fresh_after : {S H : Type 0} (scheme : S) (hasher : H) (old new : Zone S H) → IsRestKept old.publisher new.publisher → (HasAddresses old → HasAddresses new) → IsFresh scheme hasher old → IsFresh scheme hasher new
+fresh_after {S = S} {H = H} scheme hasher old new rest kept f = record {
   scheme_is = ap (λ (p : Publisher S H). p.scheme.now) rest ∙ f.scheme_is;
   hasher_is = ap (λ (p : Publisher S H). p.zone.hasher) rest ∙ f.hasher_is;
   unanswered = ap (λ (p : Publisher S H). p.latest) rest ∙ f.unanswered;
+  addresses = kept f.addresses;
 }
 
 -- a zone of its own records
@@ -57,3 +65,37 @@ made_of {S = S} {H = H} zl rs z p same gathered begun zone keys life =
     let keys_are = ap (λ (q : Publisher S H). q.keys) same ∙ keys in
     let life_is = ap (λ (q : Publisher S H). q.life) same ∙ life in
     (λ i. record { zone = zone_is i; life = life_is i; keys = keys_are i; gathered = map handed_of (gathered i); begun = begun i })
+
+-- a fresh zone is one of its own scheme and hasher
+pub own_fresh : {S H : Type 0} (scheme : S) (hasher : H) (z : Zone S H) → IsFresh scheme hasher z → IsFresh z.publisher.scheme.now z.publisher.zone.hasher z
+own_fresh scheme hasher z f = record { scheme_is = refl; hasher_is = refl; unanswered = f.unanswered; addresses = f.addresses }
+
+-- ---- addresses
+
+pub same_addresses : {S H : Type 0} (old new : Zone S H) → new.publisher.zone.records ≡ old.publisher.zone.records → new.addresses ≡ old.addresses → HasAddresses old → HasAddresses new
+same_addresses old new records addresses h = (h.0, records ∙ h.1, addresses ∙ h.2)
+
+pub other_addresses : {S H : Type 0} (rs : List HandedRr) (old new : Zone S H) → new.publisher.zone.records ≡ sorted_records rs → new.addresses ≡ addresses_of rs → HasAddresses old → HasAddresses new
+other_addresses rs old new records addresses h = (rs, records, addresses)
+
+-- a zone of its own records has their addresses
+pub fresh_of : {S H : Type 0} (scheme : S) (hasher : H) (zl : ZoneLine) (rs : List HandedRr) (z : Zone S H) (p : Publisher S H) → z.publisher ≡ p → p.scheme.now ≡ scheme → p.zone.hasher ≡ hasher → p.latest ≡ None
+    → accepted_zone p.zone ≡ zone_by zl.apex zl.mode zl.limit rs → z.addresses ≡ addresses_of rs → IsFresh scheme hasher z
+fresh_of {S = S} {H = H} scheme hasher zl rs z p same scheme_is hasher_is unanswered zone addresses = record {
+  scheme_is = ap (λ (q : Publisher S H). q.scheme.now) same ∙ scheme_is;
+  hasher_is = ap (λ (q : Publisher S H). q.zone.hasher) same ∙ hasher_is;
+  unanswered = ap (λ (q : Publisher S H). q.latest) same ∙ unanswered;
+  addresses = (rs, ap (λ (q : Publisher S H). q.zone.records) same ∙ ap (λ (y : AcceptedZone). y.records) zone, addresses);
+}
+
+-- an accepted list has no fault of its own
+pub no_first : (apex : Name) (mode : Mode) (limit : ℕ) (rs : List HandedRr) → IsFaultless apex mode limit rs → first_fault apex mode limit rs ≡ None
+no_first apex mode limit rs f = λ i.
+    if f.of_class_in i then Some fault.WrongClass
+    else if f.inside i then Some fault.OutsideApex
+    else if f.unsigned i then Some fault.SignedType
+    else if f.no_alias i then Some fault.Alias
+    else if f.known i then Some fault.MetaType
+    else if f.no_star_delegation i then Some fault.StarNs
+    else if f.within_limit i then Some fault.IterationsOverLimit
+    else None

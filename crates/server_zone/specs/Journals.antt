@@ -11,7 +11,7 @@ use Rattle.denialbench_session.specs.Sessions.{fields_of}
 use Rattle.denialbench_session.specs.declared.line_error.LineFault.TheVariants.{NoZone}
 use Rattle.server_zone.specs.Lines.{has_feed, unfinished, whole_lines}
 use Rattle.server_zone.specs.StateLines.{StateLine, Nothing, Added, Replaced, Called, Other, state_line}
-use Rattle.server_zone.specs.States.{Digest, OfLine, RefusesLine, RefusesTo, State, after, applied_line, made, state_of}
+use Rattle.server_zone.specs.States.{Digest, HasAddresses, OfLine, RefusesLine, RefusesTo, State, after, applied_line, made, state_of}
 use Rattle.server_zone.specs.declared.refusals.OpenError.{OpenError}
 use Rattle.server_zone.specs.declared.refusals.Refusal.{Refusal}
 use Rattle.server_zone.specs.declared.refusals.Refusal.TheVariants as refusal
@@ -77,11 +77,12 @@ state_behind digest ls = with_lines digest Empty ls >>= λ p. ended p
 abbrev pub journal_state : Digest → List ℕ → Option State
 journal_state digest text = state_behind digest (whole_lines text)
 
--- a zone of this scheme and this hasher that gave no answer yet
+-- a zone of this scheme and this hasher, with its addresses, that gave no answer yet
 pub record IsFresh {S H : Type 0} (scheme : S) (hasher : H) (z : Zone S H) : Type 0 where
   pub scheme_is : z.publisher.scheme.now ≡ scheme
   pub hasher_is : z.publisher.zone.hasher ≡ hasher
   pub unanswered : z.publisher.latest ≡ None
+  pub addresses : HasAddresses z
 
 abbrev pub IsOpening : {S H : Type 0} → S → H → CodePhase S H → Type 0
 IsOpening scheme hasher (code.Running z) = IsFresh scheme hasher z

@@ -22,6 +22,7 @@ use Rattle.denialbench_session.specs.Grammar.{◌>>=◌, ZoneLine, zone_line}
 use Rattle.denialbench_session.specs.Lines.{is_passed_over}
 use Rattle.denialbench_session.specs.Sessions.{fields_of}
 use Rattle.denialbench_session.specs.declared.line_error.LineFault.TheVariants as line_fault
+use Rattle.server_glue.specs.Glue.{addresses_of}
 use Rattle.server_zone.specs.Lines.{has_feed, unfinished, whole_lines}
 use Rattle.server_zone.specs.StateLines.{StateLine, Nothing, Added, Replaced, Called, Other, state_line}
 use Rattle.server_zone.specs.declared.refusals.Refusal.{Refusal}
@@ -143,6 +144,10 @@ RefusesLine digest hash latest s line refusal.ManyLines = has_feed line ≡ true
 RefusesLine digest hash latest s line (refusal.Unreadable f) = state_line line ≡ None
 RefusesLine digest hash latest s line refusal.Memory = Unit {0}
 RefusesLine digest hash latest s line f = OfLine (λ l. RefusesTo digest hash latest s l f) (state_line line)
+
+-- the addresses of a zone are those among the records that it has
+abbrev pub HasAddresses : {S H : Type 0} → Zone S H → Type 0
+HasAddresses z = (rs : List HandedRr) × (z.publisher.zone.records ≡ sorted_records rs) × (z.addresses ≡ addresses_of rs)
 
 -- a publisher is as before but for its keys and the records of its zone
 abbrev pub IsRestKept : {S H : Type 0} → Publisher S H → Publisher S H → Type 0

@@ -5,7 +5,7 @@ ghost use Rattle.answer_events.specs.Events.{added_by_call};
 ghost use Rattle.messages.specs.HandedRr.{handed_of};
 ghost use Rattle.keyset_due.specs.Dues.{IsDue};
 ghost use Rattle.server_zone.specs.StateLines.{Added, Called, Replaced, added_in, line_view, state_line};
-ghost use Rattle.server_zone.specs.States.{Follows, IsRestKept, OfLine, RefusesLine, RefusesTo, applied_line, state_of, ungathered};
+ghost use Rattle.server_zone.specs.States.{Follows, HasAddresses, IsRestKept, OfLine, RefusesLine, RefusesTo, applied_line, state_of, ungathered};
 
 use crate::line::{Line, read_line};
 use crate::lines::has_feed;
@@ -18,6 +18,7 @@ use denial_nsec3_hash::hasher::Nsec3Hasher;
 use keyset::{Action, RollType, UnixTime};
 use keyset_due::{Due, due_of};
 use messages::record::ZoneRecord;
+use server_glue::Addresses;
 use std::alloc::{AllocError, Global};
 
 /// What an accepted line answers.
@@ -43,6 +44,8 @@ pub struct Zone<'a, S: Scheme, H: Nsec3Hasher> {
     alloc: Global,
     /// What answers questions. Its keys and records change by lines alone.
     pub publisher: Publisher<'a, S, H>,
+    /// The addresses of the zone, of which referrals have their glue. They change with its records.
+    pub addresses: Addresses,
     gathered: Vec<ZoneRecord>,
     /// Whether an event stands behind the zone's own records.
     begun: bool,
@@ -50,14 +53,16 @@ pub struct Zone<'a, S: Scheme, H: Nsec3Hasher> {
 
 impl<'a, S: Scheme, H: Nsec3Hasher> Zone<'a, S, H> {
     /// A zone without events.
-    pub(crate) fn new(alloc: Global, publisher: Publisher<'a, S, H>) -> Self
+    pub(crate) fn new(alloc: Global, publisher: Publisher<'a, S, H>, addresses: Addresses) -> Self
         ensures publisher { result.publisher ≡ publisher.entry }
+        ensures addresses { result.addresses ≡ addresses }
         ensures gathered { result.gathered.items ≡ [] }
         ensures begun { result.begun ≡ false }
     {
         Zone {
             alloc,
             publisher,
+            addresses,
             gathered: Vec::new(alloc),
             begun: false,
         }
@@ -74,6 +79,7 @@ impl<'a, S: Scheme, H: Nsec3Hasher> Zone<'a, S, H> {
     pub fn forget_gathered(&mut self)
         ensures state { state_of self.new ≡ ungathered (state_of self.old) }
         ensures rest { self.new.publisher ≡ self.old.publisher }
+        ensures addresses { self.new.addresses ≡ self.old.addresses }
     {
         self.gathered.clear();
     }
@@ -83,6 +89,7 @@ impl<'a, S: Scheme, H: Nsec3Hasher> Zone<'a, S, H> {
     /// everything as it was.
     ///
     /// What a journal is extended by are the accepted lines, each with a line feed behind it.
+    #[tactic(auto, using(crate::proofs::OpeningLemmas::same_addresses))]
     pub fn apply(&mut self, line: &[u8]) -> Result<Applied, Refusal>
         ensures ok { let p = self.old.publisher in
             let digest = S.digest_of p.scheme.now in let hash = H.hash_of p.zone.hasher in
@@ -93,6 +100,7 @@ impl<'a, S: Scheme, H: Nsec3Hasher> Zone<'a, S, H> {
             let after = applied_line digest (state_of self.old) line.now in
             IfOk result (λ _. after ≡ Some (state_of self.new)) }
         ensures rest { IsRestKept self.old.publisher self.new.publisher }
+        ensures addresses { HasAddresses self.old → HasAddresses self.new }
         ensures refused { OnErr result (state_of self.new ≡ state_of self.old) }
         ensures same { OnErr result (self.new.publisher ≡ self.old.publisher) }
         ensures fault { let p = self.old.publisher in
@@ -108,6 +116,7 @@ impl<'a, S: Scheme, H: Nsec3Hasher> Zone<'a, S, H> {
     }
 
     /// Applies a line that was read.
+    #[tactic(auto, using(crate::proofs::OpeningLemmas::same_addresses))]
     pub(crate) fn follow(&mut self, line: Line) -> Result<Applied, Refusal>
         requires { added_in line ≤ 65531 }
         ensures ok { let p = self.old.publisher in
@@ -115,6 +124,7 @@ impl<'a, S: Scheme, H: Nsec3Hasher> Zone<'a, S, H> {
             let s = state_of self.old in let t = state_of self.new in
             IfOk result (λ a. Follows digest hash p.latest s (line_view line) a t) }
         ensures rest { IsRestKept self.old.publisher self.new.publisher }
+        ensures addresses { HasAddresses self.old → HasAddresses self.new }
         ensures refused { OnErr result (state_of self.new ≡ state_of self.old) }
         ensures same { OnErr result (self.new.publisher ≡ self.old.publisher) }
         ensures fault { let p = self.old.publisher in
@@ -137,6 +147,7 @@ impl<'a, S: Scheme, H: Nsec3Hasher> Zone<'a, S, H> {
             let s = state_of self.old in let t = state_of self.new in
             IfOk result (λ a. Follows digest hash p.latest s (Added (handed_of added)) a t) }
         ensures rest { IsRestKept self.old.publisher self.new.publisher }
+        ensures addresses { HasAddresses self.old → HasAddresses self.new }
         ensures refused { OnErr result (state_of self.new ≡ state_of self.old) }
         ensures same { OnErr result (self.new.publisher ≡ self.old.publisher) }
         ensures fault { let p = self.old.publisher in
@@ -153,12 +164,14 @@ impl<'a, S: Scheme, H: Nsec3Hasher> Zone<'a, S, H> {
 
     /// Publishes the records that were gathered in the place of the zone's. They stay gathered
     /// where it is refused.
+    #[tactic(auto, using(crate::proofs::OpeningLemmas::same_addresses, crate::proofs::OpeningLemmas::other_addresses))]
     fn replace(&mut self, at: &UnixTime) -> Result<Applied, Refusal>
         ensures ok { let p = self.old.publisher in
             let digest = S.digest_of p.scheme.now in let hash = H.hash_of p.zone.hasher in
             let s = state_of self.old in let t = state_of self.new in
             IfOk result (λ a. Follows digest hash p.latest s (Replaced at.now) a t) }
         ensures rest { IsRestKept self.old.publisher self.new.publisher }
+        ensures addresses { HasAddresses self.old → HasAddresses self.new }
         ensures refused { OnErr result (state_of self.new ≡ state_of self.old) }
         ensures same { OnErr result (self.new.publisher ≡ self.old.publisher) }
         ensures fault { let p = self.old.publisher in
@@ -166,8 +179,10 @@ impl<'a, S: Scheme, H: Nsec3Hasher> Zone<'a, S, H> {
             IfErr result (RefusesTo digest hash p.latest (state_of self.old) (Replaced at.now)) }
     {
         let copies = copy_records(self.alloc, &self.gathered)?;
+        let addresses = Addresses::of(self.alloc, &self.gathered)?;
         match self.publisher.replace_zone(copies, at) {
             Ok(()) => {
+                self.addresses = addresses;
                 self.gathered = Vec::new(self.alloc);
                 self.begun = true;
                 Ok(Applied::Replaced)
@@ -177,6 +192,7 @@ impl<'a, S: Scheme, H: Nsec3Hasher> Zone<'a, S, H> {
     }
 
     /// Makes a call on the keys.
+    #[tactic(auto, using(crate::proofs::OpeningLemmas::same_addresses))]
     fn call(&mut self, call: &KeyCall, at: &UnixTime) -> Result<Applied, Refusal>
         requires { added_by_call call.now ≤ 65531 }
         ensures ok { let p = self.old.publisher in
@@ -185,6 +201,7 @@ impl<'a, S: Scheme, H: Nsec3Hasher> Zone<'a, S, H> {
             let called = Called at.now (call_of call.now) in
             IfOk result (λ a. Follows digest hash p.latest s called a t) }
         ensures rest { IsRestKept self.old.publisher self.new.publisher }
+        ensures addresses { HasAddresses self.old → HasAddresses self.new }
         ensures refused { OnErr result (state_of self.new ≡ state_of self.old) }
         ensures same { OnErr result (self.new.publisher ≡ self.old.publisher) }
         ensures fault { let p = self.old.publisher in

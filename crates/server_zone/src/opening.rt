@@ -22,6 +22,7 @@ use denialbench_session::lines::is_passed_over;
 use denialbench_session::session::fields_of;
 use denialbench_session::zone::Zone as ZoneLine;
 use denialbench_session::zone_lines::read_zone;
+use server_glue::Addresses;
 use std::alloc::Global;
 
 /// A zone that was opened from a journal.
@@ -251,6 +252,7 @@ impl<'a, S: Scheme, H: Nsec3Hasher> Opener<'a, S, H> {
     }
 
     /// A zone of its own records.
+    #[tactic(auto, using(crate::proofs::OpeningLemmas::fresh_of))]
     fn made(&self, zone: ZoneLine, records: Vec<ZoneRecord>) -> Result<Zone<'a, S, H>, ZoneFault>
         ensures ok { let own = made (zone_view zone) (map handed_of records.items) in
             IfOk result (λ z. state_of z ≡ own) }
@@ -259,6 +261,7 @@ impl<'a, S: Scheme, H: Nsec3Hasher> Opener<'a, S, H> {
             let hash = H.hash_of self.now.hasher.now in
             IfErr result (RefusesZone hash z.apex z.mode z.limit rs) }
     {
+        let addresses = Addresses::of(self.alloc, &records);
         let publisher = Publisher::new(
             self.alloc,
             zone.apex,
@@ -269,7 +272,10 @@ impl<'a, S: Scheme, H: Nsec3Hasher> Opener<'a, S, H> {
             zone.limit,
             zone.life,
         )?;
-        Ok(Zone::new(self.alloc, publisher))
+        match addresses {
+            Ok(addresses) => Ok(Zone::new(self.alloc, publisher, addresses)),
+            Err(_) => Err(ZoneFault::Memory),
+        }
     }
 
     /// The zone behind all whole lines.
@@ -302,8 +308,8 @@ fn follow_first<'a, S: Scheme, H: Nsec3Hasher>(
         let after = after digest (line_view event) (state_of z) in
         IfOk result (λ q. ran after ≡ Some (phase_view q)) }
     ensures kept { let z = zone.entry in
-        let opening = IsOpening z.publisher.scheme.now z.publisher.zone.hasher in
-        (z.publisher.latest ≡ None) → IfOk result opening }
+        let scheme = z.publisher.scheme.now in let hasher = z.publisher.zone.hasher in
+        IsFresh scheme hasher z → IfOk result (IsOpening scheme hasher) }
     ensures err { let z = zone.entry in let p = z.publisher in
         let digest = S.digest_of p.scheme.now in let hash = H.hash_of p.zone.hasher in
         IfErr result (RefusesTo digest hash p.latest (state_of z) (line_view event)) }
@@ -323,8 +329,8 @@ fn go_on<'a, S: Scheme, H: Nsec3Hasher>(
         let with = applied_line (S.digest_of z.publisher.scheme.now) (state_of z) line.now in
         IfOk result (λ q. ran with ≡ Some (phase_view q)) }
     ensures kept { let z = zone.entry in
-        let opening = IsOpening z.publisher.scheme.now z.publisher.zone.hasher in
-        (z.publisher.latest ≡ None) → IfOk result opening }
+        let scheme = z.publisher.scheme.now in let hasher = z.publisher.zone.hasher in
+        IsFresh scheme hasher z → IfOk result (IsOpening scheme hasher) }
     ensures err { let z = zone.entry in let p = z.publisher in
         let digest = S.digest_of p.scheme.now in let hash = H.hash_of p.zone.hasher in
         IfErr result (RefusesLine digest hash p.latest (state_of z) line.now) }

@@ -4,7 +4,7 @@ use Rattle.answer_shared.specs.Hashing.{Hasher}
 use Rattle.server_zone.specs.Journals.{IsFresh, IsOpenError, IsSettledAt, journal_state}
 use Rattle.server_zone.specs.Lines.{unfinished}
 use Rattle.server_zone.specs.StateLines.{state_line}
-use Rattle.server_zone.specs.States.{Digest, Follows, IsRestKept, OfLine, RefusesLine, applied_line, state_of}
+use Rattle.server_zone.specs.States.{Digest, Follows, HasAddresses, IsRestKept, OfLine, RefusesLine, applied_line, state_of}
 use Rattle.server_zone.specs.declared.open_zone.Applied.{Applied}
 use Rattle.server_zone.specs.declared.open_zone.Zone.{Zone}
 use Rattle.server_zone.specs.declared.refusals.OpenError.{OpenError}
@@ -32,20 +32,22 @@ IsToldRefused f said = ((is_memory f ≡ false) × (said ≡ telling c.Refused (
 
 -- ---- a line
 
--- an accepted line: the state is that behind it, and nothing else of the zone has changed
+-- an accepted line: the state is that behind it, the addresses are those of the zone, and nothing else of it has changed
 pub record SaysAccepted {S H : Type 0} (digest : Digest) (hash : Hasher) (line : List ℕ) (old new : Zone S H) (said : CodeAndOctets) : Type 0 where
   pub a : Applied
   pub follows : OfLine (λ l. Follows digest hash old.publisher.latest (state_of old) l a (state_of new)) (state_line line)
   pub behind : applied_line digest (state_of old) line ≡ Some (state_of new)
   pub rest : IsRestKept old.publisher new.publisher
+  pub addresses : HasAddresses old → HasAddresses new
   pub told : IsToldApplied a said
 
--- a refused line: the state and the publisher are as before
+-- a refused line: the state and the publisher are as before, and the addresses those of the zone
 pub record SaysRefused {S H : Type 0} (digest : Digest) (hash : Hasher) (line : List ℕ) (old new : Zone S H) (said : CodeAndOctets) : Type 0 where
   pub f : Refusal
   pub refuses : RefusesLine digest hash old.publisher.latest (state_of old) line f
   pub state : state_of new ≡ state_of old
   pub publisher : new.publisher ≡ old.publisher
+  pub addresses : HasAddresses old → HasAddresses new
   pub told : IsToldRefused f said
 
 abbrev pub SaysApplied : {S H : Type 0} → Digest → Hasher → List ℕ → Zone S H → Zone S H → CodeAndOctets → Type 0

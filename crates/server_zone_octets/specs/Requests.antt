@@ -1,6 +1,7 @@
 -- What answers a request in octets.
 use Rattle.std.specs.Prelude.{◌≡◌, ◌⊎◌, ℕ, ◌*◌, ◌==◌, true, false, List, map, Option, Some, None, if◌then◌else◌}
 use Rattle.std.specs.List.{AllByRecursion}
+use Rattle.messages.specs.HandedRr.{HandedRr}
 use Rattle.answer_judge_octets.specs.Written.{IsList}
 use Rattle.server_answers.specs.World.{World}
 use Rattle.answer_publisher_keys.specs.Bindings.{ZoneKeys}
@@ -38,8 +39,8 @@ abbrev pub moment_of : OctetRequest → ℕ
 moment_of r = backdated (r.moment * 1000000000) r.backdate
 
 -- what a request is answered by
-abbrev pub serving_of : World → ZoneKeys → List Made → OctetRequest → Serving
-serving_of w keys table r = serving w keys table (moment_of r) 0 r.udp_size
+abbrev pub serving_of : World → ZoneKeys → List Made → List HandedRr → OctetRequest → Serving
+serving_of w keys table addresses r = serving w keys table (moment_of r) 0 r.udp_size addresses
 
 -- what is told of a response; for entries memory may run out
 abbrev pub IsToldResponse : Response → CodeAndOctets → Type 0
@@ -49,13 +50,13 @@ IsToldResponse (response.Sign v) said =
     ((said ≡ telling c.Sign (entries_of v.items)) × AllByRecursion FitsMade (map asked v.items)) ⊎ (said ≡ only c.OutOfMemory)
 
 -- a request of whose signatures there is a list, and what answers it
-pub record IsResponded (w : World) (keys : ZoneKeys) (r : OctetRequest) (latest latest' : Option ℕ) (said : CodeAndOctets) : Type 0 where
+pub record IsResponded (w : World) (keys : ZoneKeys) (addresses : List HandedRr) (r : OctetRequest) (latest latest' : Option ℕ) (said : CodeAndOctets) : Type 0 where
   pub transport : Transport
   pub carried : transport_of r ≡ Some transport
   pub table : List Made
   pub made : IsList FitsMade made_octets r.made.now table
   pub response : Response
-  pub responds : Responds (serving_of w keys table r) transport r.request.now latest latest' response
+  pub responds : Responds (serving_of w keys table addresses r) transport r.request.now latest latest' response
   pub told : IsToldResponse response said
 
 -- what is wrong with a request, where nothing was noted; or memory ran out, where its moment may
@@ -66,15 +67,15 @@ IsUnanswered r latest latest' c.BadSignatures = ((table : List Made) → IsList 
 IsUnanswered r latest latest' c.OutOfMemory = IsOrWasNoted (moment_of r) latest latest'
 IsUnanswered r latest latest' _ = ⊥
 
-abbrev pub TellsResponse : World → ZoneKeys → OctetRequest → Option ℕ → Option ℕ → CodeAndOctets → Type 0
-TellsResponse w keys r latest latest' said = IsResponded w keys r latest latest' said ⊎ ((said ≡ only said.code) × IsUnanswered r latest latest' said.code)
+abbrev pub TellsResponse : World → ZoneKeys → List HandedRr → OctetRequest → Option ℕ → Option ℕ → CodeAndOctets → Type 0
+TellsResponse w keys addresses r latest latest' said = IsResponded w keys addresses r latest latest' said ⊎ ((said ≡ only said.code) × IsUnanswered r latest latest' said.code)
 
 -- what is told, in front of what was there if there is room
-pub record IsAnswerTold (w : World) (keys : ZoneKeys) (r : OctetRequest) (latest latest' : Option ℕ) (report : ZoneReport) (before after : List ℕ) (code : ZoneCode) : Type 0 where
+pub record IsAnswerTold (w : World) (keys : ZoneKeys) (addresses : List HandedRr) (r : OctetRequest) (latest latest' : Option ℕ) (report : ZoneReport) (before after : List ℕ) (code : ZoneCode) : Type 0 where
   pub said : CodeAndOctets
-  pub tells : TellsResponse w keys r latest latest' said
+  pub tells : TellsResponse w keys addresses r latest latest' said
   pub handed_out : IsHandedOut said before after report code
 
-pub record AnswersRequest (w : World) (keys : ZoneKeys) (r : OctetRequest) (latest latest' : Option ℕ) (report report' : ZoneReport) (before after : List ℕ) (code : ZoneCode) : Type 0 where
-  pub known : is_known report ≡ true → IsAnswerTold w keys r latest latest' report' before after code
+pub record AnswersRequest (w : World) (keys : ZoneKeys) (addresses : List HandedRr) (r : OctetRequest) (latest latest' : Option ℕ) (report report' : ZoneReport) (before after : List ℕ) (code : ZoneCode) : Type 0 where
+  pub known : is_known report ≡ true → IsAnswerTold w keys addresses r latest latest' report' before after code
   pub unknown : is_known report ≡ false → IsUnknown report report' before after code × (latest' ≡ latest)

@@ -57,7 +57,8 @@ pub fn respond_octets<S: Scheme, H: Nsec3Hasher>(
 ) -> ZoneCode
     ensures answered { let p = zone.old.publisher in
         let w = world_of S.signature_of S.verifies S.digest_of H.hash_of p in
-        let answers = AnswersRequest w p.keys request.now p.latest zone.new.publisher.latest in
+        let addresses = zone.old.addresses in let latest = zone.new.publisher.latest in
+        let answers = AnswersRequest w p.keys addresses request.now p.latest latest in
         answers report.old report.new out.old out.new result }
     ensures rest { let p = record zone.old.publisher { latest = zone.new.publisher.latest } in
         zone.new ≡ record zone.old { publisher = p } }
@@ -77,7 +78,8 @@ fn reply_to<S: Scheme, H: Nsec3Hasher>(
 ) -> CodeAndOctets
     ensures told { let p = zone.old.publisher in
         let w = world_of S.signature_of S.verifies S.digest_of H.hash_of p in
-        let tells = TellsResponse w p.keys handed.now p.latest zone.new.publisher.latest in
+        let addresses = zone.old.addresses in let latest = zone.new.publisher.latest in
+        let tells = TellsResponse w p.keys addresses handed.now p.latest latest in
         tells (told_seen result) }
     ensures rest { let p = record zone.old.publisher { latest = zone.new.publisher.latest } in
         zone.new ≡ record zone.old { publisher = p } }
@@ -95,10 +97,10 @@ fn reply_to<S: Scheme, H: Nsec3Hasher>(
         backdate: handed.backdate,
         udp_size: handed.udp_size,
     };
-    let publisher = &mut zone.publisher;
     match respond(
         alloc,
-        publisher,
+        &mut zone.publisher,
+        &zone.addresses,
         &table,
         handed.request,
         &now,

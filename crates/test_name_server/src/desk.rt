@@ -1,6 +1,6 @@
 //! What the lines so far made: the records of a zone, and its publisher.
 
-use crate::words::{moment, name_of, record, soa, transport};
+use crate::words::{moment, name_of, name_server, record, soa, transport};
 use answer_publisher::publishing::Publisher;
 use answer_shared::dnskey::ZoneKey;
 use answer_shared::mode::Mode;
@@ -9,6 +9,7 @@ use keyset::{Available, UnixTime};
 use messages::record::ZoneRecord;
 use numbers::algorithm::SecurityAlgorithm;
 use server_answers::{Response, ServerTerms, respond};
+use server_glue::Addresses;
 use server_responses::Transport;
 use server_signatures::{DigestScheme, MadeSignature, SigningInput};
 use sha2::{Digest, Sha256};
@@ -21,17 +22,24 @@ type TestPublisher = Publisher<'static, DigestScheme, Sha1Hasher>;
 /// How many octets the server takes by UDP.
 const UDP_SIZE: u16 = 1232;
 
+/// The zone that is published, and its addresses.
+#[derive(Drop)]
+struct Served {
+    publisher: TestPublisher,
+    addresses: Addresses,
+}
+
 #[derive(Drop)]
 pub struct Desk {
     records: Vec<ZoneRecord>,
-    publisher: Option<TestPublisher>,
+    served: Option<Served>,
 }
 
 impl Desk {
     pub fn new(alloc: Global) -> Desk {
         Desk {
             records: Vec::new(alloc),
-            publisher: None,
+            served: None,
         }
     }
 
@@ -42,6 +50,11 @@ impl Desk {
 
     pub fn record(&mut self, alloc: Global, words: &[&str]) -> Option<String> {
         self.records.push(record(alloc, words)?).ok()?;
+        text(alloc, "ok")
+    }
+
+    pub fn name_server(&mut self, alloc: Global, words: &[&str]) -> Option<String> {
+        self.records.push(name_server(alloc, words)?).ok()?;
         text(alloc, "ok")
     }
 
@@ -56,10 +69,14 @@ impl Desk {
         }
         let records = std::mem::replace(&mut self.records, Vec::new(alloc));
         let apex = name_of(alloc, "example")?;
+        let addresses = Addresses::of(alloc, &records).ok()?;
         let (scheme, hasher) = (&DigestScheme, &Sha1Hasher);
         match Publisher::new(alloc, apex, records, Mode::Nsec, scheme, hasher, 0, life) {
             Ok(publisher) => {
-                self.publisher = Some(publisher);
+                self.served = Some(Served {
+                    publisher,
+                    addresses,
+                });
                 text(alloc, "ok")
             }
             Err(fault) => refused(alloc, &fault),
@@ -72,8 +89,8 @@ impl Desk {
             return None;
         };
         let octets = octets_of(alloc, octets)?;
-        let publisher = self.publisher.as_mut()?;
-        add_key(alloc, publisher, octets)?;
+        let served = self.served.as_mut()?;
+        add_key(alloc, &mut served.publisher, octets)?;
         text(alloc, "ok")
     }
 
@@ -88,10 +105,10 @@ impl Desk {
         };
         let request = octets_of(alloc, request)?;
         let (now, carried) = (moment(seconds)?, transport(carried)?);
-        let publisher = self.publisher.as_mut()?;
-        match respond(alloc, publisher, &[], &request, &now, carried, &terms).ok()? {
+        let served = self.served.as_mut()?;
+        match served.respond(alloc, &[], &request, &now, carried, &terms)? {
             Response::Sign(inputs) => {
-                let said = signed(alloc, publisher, &inputs, &request, &now, carried, &terms)?;
+                let said = signed(alloc, served, &inputs, &request, &now, carried, &terms)?;
                 let count = inputs.len();
                 format!(in alloc; "{count} {said}").ok()
             }
@@ -100,6 +117,32 @@ impl Desk {
                 format!(in alloc; "0 {said}").ok()
             }
         }
+    }
+}
+
+impl Served {
+    /// Answers a request by a table of signatures.
+    fn respond(
+        &mut self,
+        alloc: Global,
+        table: &[MadeSignature<'_>],
+        request: &[u8],
+        now: &UnixTime,
+        carried: Transport,
+        terms: &ServerTerms,
+    ) -> Option<Response> {
+        let addresses = &self.addresses;
+        respond(
+            alloc,
+            &mut self.publisher,
+            addresses,
+            table,
+            request,
+            now,
+            carried,
+            terms,
+        )
+        .ok()
     }
 }
 
@@ -123,7 +166,7 @@ fn add_key(alloc: Global, publisher: &mut TestPublisher, octets: Vec<u8>) -> Opt
 /// What the server answers once it has these signatures.
 fn signed(
     alloc: Global,
-    publisher: &mut TestPublisher,
+    served: &mut Served,
     inputs: &[SigningInput],
     request: &[u8],
     now: &UnixTime,
@@ -139,7 +182,7 @@ fn signed(
     let table = table_of(alloc, inputs, &signatures)?;
     told(
         alloc,
-        respond(alloc, publisher, &table, request, now, carried, terms).ok()?,
+        served.respond(alloc, &table, request, now, carried, terms)?,
     )
 }
 

@@ -3,8 +3,9 @@
 //!
 //! A signature is SHA-256 of the octets that it is made over. Behind each line stands its answer.
 //!
-//! - `soa OWNER SERIAL`, `rr OWNER TTL TYPE OCTETS`: records of the zone `example`, of class IN;
-//!   `publish LIFE`: publishes them with a chain of names, signatures living so many seconds.
+//! - `soa OWNER SERIAL`, `ns OWNER TTL NAME`, `rr OWNER TTL TYPE OCTETS`: records of the zone
+//!   `example`, of class IN; `publish LIFE`: publishes them with a chain of names, signatures
+//!   living so many seconds.
 //! - `key OCTETS`: adds a key of algorithm 13 that signs keys and zone.
 //! - `ask TRANSPORT BACKDATE SECONDS OCTETS`: asks the server by `tcp`, or with the most octets
 //!   that it sends by UDP, at a time of its clock, of which answers are so many seconds behind.
@@ -29,6 +30,7 @@ fn reply(alloc: Global, desk: &mut Desk, line: &str) -> Option<String> {
     match name {
         "soa" => desk.soa(alloc, &words),
         "rr" => desk.record(alloc, &words),
+        "ns" => desk.name_server(alloc, &words),
         "publish" => desk.publish(alloc, &words),
         "key" => desk.key(alloc, &words),
         "ask" => desk.ask(alloc, &words),

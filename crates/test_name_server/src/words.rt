@@ -8,6 +8,7 @@ use names_rdata::unknown::UnknownRecordData;
 use numbers::class::Class;
 use numbers::rtype::Rtype;
 use numbers::ttl::Ttl;
+use plain::ns::Ns;
 use plain::record::Record;
 use plain::soa::Soa;
 use plain::zone_data::ZoneRecordData;
@@ -45,6 +46,16 @@ pub fn record(alloc: Global, words: &[&str]) -> Option<ZoneRecord> {
     let rtype = Rtype::from_int(rtype.parse::<u16>().ok()?);
     let data = UnknownRecordData::from_octets(rtype, octets_of(alloc, octets)?).ok()?;
     let data = ZoneRecordData::Unknown(data);
+    Some(Record::new(name_of(alloc, owner)?, Class::IN, ttl, data))
+}
+
+/// An NS record.
+pub fn name_server(alloc: Global, words: &[&str]) -> Option<ZoneRecord> {
+    let [owner, ttl, server] = words else {
+        return None;
+    };
+    let ttl = Ttl::from_secs(ttl.parse::<u32>().ok()?);
+    let data = ZoneRecordData::Ns(Ns::new(name_of(alloc, server)?));
     Some(Record::new(name_of(alloc, owner)?, Class::IN, ttl, data))
 }
 

@@ -39,7 +39,7 @@ fn tell_response(
     size: u16,
 ) -> Option<()> {
     let limit = size_limit(transport, query.edns);
-    match response(alloc, query, message, limit, size) {
+    match response(alloc, query, message, &[], limit, size) {
         Ok(octets) => answer.octets(&octets),
         Err(ResponseError::Unreadable) => answer.word("unreadable"),
         Err(ResponseError::Memory) => return None,

@@ -75,6 +75,7 @@ pub record Forgets (z : OpenZone) (new : Option OpenZone) (reply : ℕ) : Type 0
   pub z' : OpenZone
   pub state : state_of z'.zone ≡ ungathered (state_of z.zone)
   pub rest : z'.zone.publisher ≡ z.zone.publisher
+  pub addresses : z'.zone.addresses ≡ z.zone.addresses
   pub stays_open : new ≡ Some z'
   pub reply_is : reply ≡ number_of c.Done
 
@@ -108,7 +109,7 @@ TellsSetOf rtype (Some z) new report report' before after reply = TellsSet z rty
 pub record Answers (z : OpenZone) (request : OctetRequest) (new : Option OpenZone) (report report' : ZoneReport) (before after : List ℕ) (reply : ℕ) : Type 0 where
   pub latest : Option ℕ
   pub code : ZoneCode
-  pub answers : AnswersRequest (world_in z) z.zone.publisher.keys request z.zone.publisher.latest latest report report' before after code
+  pub answers : AnswersRequest (world_in z) z.zone.publisher.keys z.zone.addresses request z.zone.publisher.latest latest report report' before after code
   pub stays_open : new ≡ Some (record { zone = record z.zone { publisher = record z.zone.publisher { latest = latest } } })
   pub reply_is : reply ≡ number_of code
 

@@ -14,7 +14,7 @@ pub returns-then-is_unheld-clause-response : goal.returns-then-is_unheld-clause-
 returns-then-is_unheld-clause-response g c =
     let p = c.args.publisher.now in
     let q = queried_of c.args.query.now in
-    let s = serving (world_of g.S.Scheme.signature_of g.S.Scheme.verifies g.S.Scheme.digest_of g.H.Nsec3Hasher.hash_of p) p.keys c.args.table.now c.args.at.now c.args.limit c.args.udp_size in
+    let s = serving (world_of g.S.Scheme.signature_of g.S.Scheme.verifies g.S.Scheme.digest_of g.H.Nsec3Hasher.hash_of p) p.keys c.args.table.now c.args.at.now c.args.limit c.args.udp_size c.args.addresses.now in
     let new = c.answer_unheld.new.publisher.latest in
     let here : is_unheld p.zone.apex (asked_of c.in_ok-question.question) ≡ true = search rules in
     let is : is_unheld p.zone.apex q.asked ≡ true = subst (λ (a : Asked). is_unheld p.zone.apex a ≡ true) c.in_ok-question.ensures here in
@@ -24,7 +24,7 @@ pub returns-clause-response : goal.returns-clause-response
 returns-clause-response g c =
     let p = c.args.publisher.now in
     let q = queried_of c.args.query.now in
-    let s = serving (world_of g.S.Scheme.signature_of g.S.Scheme.verifies g.S.Scheme.digest_of g.H.Nsec3Hasher.hash_of p) p.keys c.args.table.now c.args.at.now c.args.limit c.args.udp_size in
+    let s = serving (world_of g.S.Scheme.signature_of g.S.Scheme.verifies g.S.Scheme.digest_of g.H.Nsec3Hasher.hash_of p) p.keys c.args.table.now c.args.at.now c.args.limit c.args.udp_size c.args.addresses.now in
     let new = c.answer_held.new.publisher.latest in
     let here : is_unheld p.zone.apex (asked_of c.in_ok-question.question) ≡ false = search rules in
     let is : is_unheld p.zone.apex q.asked ≡ false = subst (λ (a : Asked). is_unheld p.zone.apex a ≡ false) c.in_ok-question.ensures here in

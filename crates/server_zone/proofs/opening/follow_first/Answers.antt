@@ -1,4 +1,4 @@
-use Rattle.std.proofs.Common.{ap, refl}
+use Rattle.std.proofs.Common.{ap}
 use Rattle.server_zone.specs.StateLines.{line_view}
 use Rattle.server_zone.specs.States.{state_of}
 use Rattle.server_zone.specs.Journals.{ran}
@@ -12,4 +12,4 @@ returns-in-Ok-clause-ok g c =
     ap ran (follows_after (g.S.Scheme.digest_of p.scheme.now) (g.H.Nsec3Hasher.hash_of p.zone.hasher) p.latest (state_of c.args.zone) (state_of c.follow.new.self) (line_view c.args.event) c.in-Ok.field-0 c.in-Ok.ensures.ok)
 
 pub returns-in-Ok-clause-kept : goal.returns-in-Ok-clause-kept
-returns-in-Ok-clause-kept g c n = fresh_after _ _ c.args.zone c.follow.new.self c.follow.ensures.rest (record { scheme_is = refl; hasher_is = refl; unanswered = n })
+returns-in-Ok-clause-kept g c n = fresh_after _ _ c.args.zone c.follow.new.self c.follow.ensures.rest c.follow.ensures.addresses n

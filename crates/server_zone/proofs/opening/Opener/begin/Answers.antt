@@ -6,7 +6,7 @@ use Rattle.denialbench_session.specs.Readings.{zone_view}
 use Rattle.server_zone.specs.StateLines.{line_view}
 use Rattle.server_zone.specs.States.{after, state_of}
 use Rattle.server_zone.specs.Journals.{IsOpening, RefusesOwn, ran}
-use Rattle.server_zone.proofs.OpeningLemmas.{begun, begun_refused}
+use Rattle.server_zone.proofs.OpeningLemmas.{begun, begun_refused, own_fresh}
 use Rattle.server_zone.proofs.opening.Opener.begin.Goals as goal
 
 pub returns-in-Ok-clause-ok : goal.returns-in-Ok-clause-ok
@@ -22,7 +22,7 @@ returns-in-Ok-clause-kept g c =
     let scheme = c.args.self.now.scheme.now in
     let old = c.in-Ok.zone in
     let fresh = c.in-Ok.ensures.fresh in
-    IfOk-weaker c.follow_first.result _ _ (λ q h. subst (λ u. IsOpening scheme u q) fresh.hasher_is (subst (λ u. IsOpening u old.publisher.zone.hasher q) fresh.scheme_is h)) (c.follow_first.ensures.kept fresh.unanswered)
+    IfOk-weaker c.follow_first.result _ _ (λ q h. subst (λ u. IsOpening scheme u q) fresh.hasher_is (subst (λ u. IsOpening u old.publisher.zone.hasher q) fresh.scheme_is h)) (c.follow_first.ensures.kept (own_fresh scheme c.args.self.now.hasher.now old fresh))
 
 pub returns-in-Ok-clause-err : goal.returns-in-Ok-clause-err
 returns-in-Ok-clause-err g c =

@@ -4,7 +4,7 @@ use Rattle.std.proofs.lemmas.Result.{IfOk-weaker}
 use Rattle.answer_publisher.proofs.Refusals.{if_err_map}
 use Rattle.server_zone.specs.Journals.{IsFresh, IsOpening, RefusesBehind, phase_view, ran, with_line}
 use Rattle.server_zone.specs.States.{RefusesLine, applied_line, state_of}
-use Rattle.server_zone.proofs.OpeningLemmas.{line_refused_as}
+use Rattle.server_zone.proofs.OpeningLemmas.{line_refused_as, own_fresh}
 use Rattle.server_zone.proofs.opening.Opener.read.Goals as goal
 
 pub returns-in-Running-clause-ok : goal.returns-in-Running-clause-ok
@@ -23,7 +23,7 @@ returns-in-Running-clause-kept g c =
     let hasher = c.args.self.now.hasher.now in
     let z = c.in-Running.zone in
     let fresh : IsFresh scheme hasher z = subst (IsOpening scheme hasher) c.in-Running.is c.requires in
-    IfOk-weaker c.go_on.result _ _ (λ q h. subst (λ u. IsOpening scheme u q) fresh.hasher_is (subst (λ u. IsOpening u z.publisher.zone.hasher q) fresh.scheme_is h)) (c.go_on.ensures.kept fresh.unanswered)
+    IfOk-weaker c.go_on.result _ _ (λ q h. subst (λ u. IsOpening scheme u q) fresh.hasher_is (subst (λ u. IsOpening u z.publisher.zone.hasher q) fresh.scheme_is h)) (c.go_on.ensures.kept (own_fresh scheme hasher z fresh))
 
 pub returns-in-Running-clause-err : goal.returns-in-Running-clause-err
 returns-in-Running-clause-err g c =
