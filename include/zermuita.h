@@ -44,13 +44,13 @@ enum zermuita_reply {
      * With `places` 1 the places of the records that are verified for the verdict stand in front of that (zermuita_take_places),
      * with each verdict but ZERMUITA_INSECURE.
      *
-     * A verdict but ZERMUITA_INSECURE vouches for the NSEC and NSEC3 records whose signatures pass and for the DNSKEY set;
+     * Every verdict except ZERMUITA_INSECURE vouches for the NSEC and NSEC3 records whose signatures pass and for the DNSKEY set;
      * ZERMUITA_RECORDS and ZERMUITA_WILDCARD also for the RRset that was asked for, the replies of an alias for its CNAME or DNAME
-     * record, ZERMUITA_REFERRAL for its DS set; and none for anything else: no SOA record beside a denial and no NS set of a
-     * referral is verified, nor DS records beside ZERMUITA_DELEGATED, nor the CNAME that servers make of a DNAME.
-     * A verdict is about `name` and `rtype` of its call alone. Of an alias nothing is said but where it leads: ask for the
-     * target next, from the root down. It is the target of `name` alone: where that is not the client's name, as in a search for a
-     * delegation above that, do not follow it.
+     * record, and ZERMUITA_REFERRAL for its DS set. None vouches for anything else: the SOA record beside a denial, the NS set of
+     * a referral, DS records beside ZERMUITA_DELEGATED and the CNAME that servers make of a DNAME are not verified.
+     * A verdict is about `name` and `rtype` of its call alone. The reply of an alias says only where `name` leads: ask for the
+     * target next, from the root down. Do not follow it where `name` is not the client's name, as in a search for a delegation
+     * above that: the client's name leads elsewhere.
      */
     ZERMUITA_RECORDS = 0,         /* the name has records of the type */
     ZERMUITA_NODATA = 1,          /* the name has no records of the type */
@@ -65,7 +65,7 @@ enum zermuita_reply {
     ZERMUITA_DNAME = 10,          /* a name above has a DNAME record */
     ZERMUITA_REFERRAL = 11,       /* the name is at or below a delegation with DS records */
 
-    /* Refusals: why there is no verdict. Bogus are 21, 22 and 25; `ede` says what to tell the client. */
+    /* Refusals: why there is no verdict. 21, 22 and 25 are bogus; `ede` says what to tell the client. */
     ZERMUITA_QUESTION_NOT_ALLOWED = 16,   /* the name is not in the zone, the class is not IN, or the type is not judged */
     ZERMUITA_BAD_DNSKEY_MESSAGE = 17,     /* the DNSKEY answer is not a message */
     ZERMUITA_BAD_ANSWER_MESSAGE = 18,     /* the answer is not a message */
@@ -103,7 +103,7 @@ enum zermuita_reply {
     ZERMUITA_TOO_MANY_ALIASES = 49 /* more aliases are on the way to the name than are allowed */
 };
 
-/* Octets. Where `data` is null there are none, and `len` is 0. */
+/* Octets. Where there are none, `len` is 0, and `data` may be null. */
 struct zermuita_octets {
     const uint8_t *data;
     size_t len;
@@ -113,9 +113,9 @@ struct zermuita_octets {
  * What is judged: set it to zero, then its size, then what the question needs. Names are in wire form, without pointers (RFC
  * 1035, 3.1).
  *
- * Of `ds` those records count that are of one of the `algorithms` and have a digest of SHA-256 or SHA-384. Where there are
- * others alone the zone is insecure (RFC 4035, 5.2). That there is no DS record is said by `no_ds`: no octets without it bring
- * ZERMUITA_BAD_CASE, and so do octets beside it.
+ * A record of `ds` counts if it is of one of the `algorithms` and has a digest of SHA-256 or SHA-384. A zone of which no record
+ * counts is insecure (RFC 4035, 5.2). `no_ds` says that there is no DS record: without it a `ds` of no octets is
+ * ZERMUITA_BAD_CASE, and so is a `ds` of some beside it.
  */
 struct zermuita_case {
     size_t size;                       /* sizeof(struct zermuita_case) */
@@ -140,8 +140,8 @@ struct zermuita_case {
 
 /*
  * What a walk from a trust anchor down is handed: set it to zero, then its size, then what the question needs. Names are in wire
- * form, without pointers; the class is 1. Of `ds` those records count that count of a case; where none does, the evidence is refused
- * as ZERMUITA_BAD_DS_SET, since a trust anchor that cannot be checked is set wrongly.
+ * form, without pointers; the class is 1. The same records of `ds` count as in a case; where none does, the evidence is refused as
+ * ZERMUITA_BAD_DS_SET, since a trust anchor that cannot be checked is set wrongly.
  */
 struct zermuita_evidence {
     size_t size;                       /* sizeof(struct zermuita_evidence) */
@@ -178,7 +178,7 @@ enum zermuita_delegates {
  */
 struct zermuita_report {
     size_t size;            /* sizeof(struct zermuita_report), set before the call */
-    size_t len;             /* how many octets the output has; of one that there is no room for, what all else here is of too */
+    size_t len;             /* how many octets the output has, even if there is no room for it; all below is about it too */
     uint64_t until;         /* the last second, since 1970, in which the verdict stands */
     uint64_t verifications; /* with a verdict or a refusal: how many signatures were looked up in `checked`, not for places */
     uint64_t hashes;        /* with a verdict or a refusal: how many names were hashed */
@@ -187,7 +187,7 @@ struct zermuita_report {
     uint16_t delegates;     /* with ZERMUITA_NODATA for DS: a number of enum zermuita_delegates; else 0 */
 };
 
-/* The library's own functions. They take no null pointer: call zermuita_judge, zermuita_resolve and zermuita_strerror below. */
+/* The library's own functions. They take no null pointer: call zermuita_judge, zermuita_resolve and zermuita_strerror instead. */
 uint32_t zermuita_judge_case(const struct zermuita_case *handed, uint8_t *out, size_t out_len, struct zermuita_report *report);
 uint32_t zermuita_resolve_evidence(const struct zermuita_evidence *handed, uint8_t *out, size_t out_len,
                                    struct zermuita_report *report);
@@ -217,7 +217,7 @@ static inline int zermuita_octets_are(struct zermuita_octets *octets) {
     return octets->data != NULL;
 }
 
-/* How many octets of a case the library may read, and of a report write, whatever the size of the caller's. */
+/* How many octets the library may read of a case or of evidence, and write of a report, whatever size the caller's have. */
 #define ZERMUITA_CASE_ROOM 256
 #define ZERMUITA_REPORT_ROOM 128
 
@@ -373,7 +373,7 @@ static inline int zermuita_next_name(struct zermuita_octets *rest, struct zermui
 
 /*
  * Takes the places of the records that are verified for a verdict off the front of `rest`, which begins as the output of a case
- * with `places` 1: how many there are in four octets, and each in four. What is behind them is the output with `places` 0. Gives 0
+ * with `places` 1: how many there are in four octets, and each in four. The output with `places` 0 stands behind them. Gives 0
  * where there are none, as with ZERMUITA_INSECURE. With ZERMUITA_OPTOUT they may be those of a wildcard's records under `name`,
  * which are insecure there.
  */

@@ -6,8 +6,8 @@
  * or a key server. It opens no file, reads no clock and calls nothing back but malloc, realloc and free.
  *
  * A zone stays with the thread that opened it. Any number of zones may be open, also of one journal: the lines of a journal determine
- * what its zone answers. No pointer is null, also where its length is 0, but for those within struct zermuita_request. What the
- * library reads does not overlap what it writes.
+ * what its zone answers. Pass no null pointer, even where its length is 0; only pointers within struct zermuita_request may be null
+ * then. What the library reads must not overlap what it writes.
  */
 #ifndef ZERMUITA_ZONE_H
 #define ZERMUITA_ZONE_H
