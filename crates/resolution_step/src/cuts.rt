@@ -20,8 +20,8 @@ use std::alloc::{AllocError, Global};
 /// insecure. An alias at the name means that no delegation is there (RFC 4035, 3.1.4.1).
 /// `algorithms` names those that signatures are checked of; none stands for all.
 ///
-/// Where nothing in the messages is forged this is so of the zone, if it is in order and does not
-/// change.
+/// Where nothing in the messages is forged this is so of the zone, if it is in order, has DS records
+/// at delegations alone and does not change.
 pub fn cut_step(
     alloc: Global,
     case: &Case,
