@@ -139,26 +139,33 @@ static unsigned put_data(struct master *master, size_t from) {
     return 0;
 }
 
-/* Cuts a line into fields: blanks part them, quotes keep them together, a semicolon ends the line. */
-static void cut_fields(struct master *master, char *line) {
-    master->count = 0;
-    while (master->count < MASTER_FIELDS) {
+/*
+ * Cuts a line into fields: blanks part them, quotes keep them together, a semicolon ends the line. False where the line means more than
+ * that in master files: where it has an escape other than `\\#`, brackets, a quote that does not end here or stands within a field, or
+ * more fields than there is room for.
+ */
+static bool cut_fields(struct master *master, char *line) {
+    for (master->count = 0;;) {
         line += strspn(line, " \t\r\n");
         if (*line == 0 || *line == ';') {
-            return;
+            return true;
+        }
+        if (master->count == MASTER_FIELDS) {
+            return false;
         }
         bool is_quoted = *line == '"';
-        line += is_quoted;
-        master->fields[master->count++] = line;
+        char *field = line += is_quoted;
         line += strcspn(line, is_quoted ? "\"" : " \t\r\n;");
-        if (*line == ';') {
-            *line = 0;
-            return;
+        char end = *line;
+        *line = 0;
+        if ((is_quoted && end == 0) || (strpbrk(field, is_quoted ? "\\" : "\\()\"") != NULL && strcmp(field, "\\#") != 0)) {
+            return false;
         }
-        if (*line == 0) {
-            return;
+        master->fields[master->count++] = field;
+        if (end == 0 || end == ';') {
+            return true;
         }
-        *line++ = 0;
+        line++;
     }
 }
 
@@ -198,8 +205,9 @@ static size_t write_lines(FILE *file, char apex[256], FILE *out) {
             return number;
         }
         bool has_owner = !isspace((unsigned char)line[0]);
-        cut_fields(&master, line);
-        if (master.count == 0) {
+        if (!cut_fields(&master, line)) {
+            return number;
+        } else if (master.count == 0) {
             continue;
         } else if (strcmp(master.fields[0], "$ORIGIN") == 0 && master.count == 2) {
             char origin[256];
