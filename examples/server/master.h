@@ -18,7 +18,8 @@ enum { MASTER_FIELDS = 24, MASTER_TEXT = 1024 };
 
 struct master {
     char origin[256], owner[256];
-    unsigned long ttl;
+    unsigned long ttl; /* of an entry that has none: what $TTL says, or without it the last one before (RFC 1035, 5.1; RFC 2308, 4) */
+    bool has_default;  /* $TTL stood in front */
     const char *fields[MASTER_FIELDS];
     size_t count;
     uint8_t data[MASTER_TEXT];
@@ -172,12 +173,13 @@ static bool cut_fields(struct master *master, char *line) {
 /* Writes the journal's line for an entry. */
 static bool write_entry(struct master *master, bool has_owner, FILE *out) {
     size_t at = 0;
+    unsigned long ttl = master->ttl;
     if (has_owner && !full_name(master, master->fields[at++], master->owner)) {
         return false;
     }
     for (int i = 0; i < 2 && at < master->count; i++) {
         if (isdigit((unsigned char)master->fields[at][0])) {
-            if (!read_number(master->fields[at++], 4, &master->ttl)) {
+            if (!read_number(master->fields[at++], 4, &ttl)) {
                 return false;
             }
         } else if (strcmp(master->fields[at], "IN") == 0) {
@@ -188,7 +190,8 @@ static bool write_entry(struct master *master, bool has_owner, FILE *out) {
     if (type == 0 || master->owner[0] == 0) {
         return false;
     }
-    fprintf(out, "rr %s %lu 1 %u %s", master->owner, master->ttl, type, master->len == 0 ? "-" : "");
+    master->ttl = master->has_default ? master->ttl : ttl;
+    fprintf(out, "rr %s %lu 1 %u %s", master->owner, ttl, type, master->len == 0 ? "-" : "");
     for (size_t i = 0; i < master->len; i++) {
         fprintf(out, "%02x", master->data[i]);
     }
@@ -222,6 +225,7 @@ static size_t write_lines(FILE *file, char apex[256], FILE *out) {
             if (!read_number(master.fields[1], 4, &master.ttl)) {
                 return number;
             }
+            master.has_default = true;
         } else if (!write_entry(&master, has_owner, out)) {
             return number;
         }
