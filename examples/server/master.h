@@ -198,13 +198,18 @@ static bool write_entry(struct master *master, bool has_owner, FILE *out) {
     return fputc('\n', out) != EOF;
 }
 
-/* Writes the `rr` lines of a master file, and gives 0, or the number of the line that is not known. `apex` gets the first origin. */
+/*
+ * Writes the `rr` lines of a master file, and gives 0, or the number of the line that is not known. `apex` gets the first origin. Where
+ * the file cannot be read to its end, its error is set.
+ */
 static size_t write_lines(FILE *file, char apex[256], FILE *out) {
     struct master master = {.origin = ".", .ttl = 3600};
     char line[MASTER_TEXT];
     apex[0] = 0;
     for (size_t number = 1; fgets(line, sizeof line, file) != NULL; number++) {
-        if (strlen(line) == sizeof line - 1 && line[sizeof line - 2] != '\n') {
+        size_t len = strlen(line);
+        /* A line without its end is the file's last one, or too long, or has an octet 0. */
+        if (!feof(file) && (len == 0 || line[len - 1] != '\n')) {
             return number;
         }
         bool has_owner = !isspace((unsigned char)line[0]);

@@ -157,18 +157,21 @@ static char *lines_of(const char *path, char apex[256], const char *behind, FILE
     char *lines = NULL;
     size_t len = 0, wrong = 0;
     FILE *file = fopen(path, "r"), *out = file == NULL ? NULL : open_memstream(&lines, &len);
+    bool is_whole = false;
     if (out != NULL) {
         wrong = write_lines(file, apex, out);
-        fputs(behind, out);
-        fclose(out);
-    } else {
+        is_whole = wrong == 0 && !ferror(file) && fputs(behind, out) != EOF;
+        is_whole = fclose(out) == 0 && is_whole;
+    }
+    if (wrong != 0) {
+        fprintf(said, "%s: line %zu cannot be read\n", path, wrong);
+    } else if (!is_whole) {
         fprintf(said, "%s: %s\n", path, strerror(errno));
     }
     if (file != NULL) {
         fclose(file);
     }
-    if (wrong != 0) {
-        fprintf(said, "%s: line %zu cannot be read\n", path, wrong);
+    if (!is_whole) {
         free(lines);
         return NULL;
     }
