@@ -64,7 +64,8 @@ static bool open_served(struct served *served) {
         zermuita_zone_close(&served->zone);
         uint32_t reply = zermuita_zone_open(&served->zone, octets, served->journal.len, (uint8_t *)text, sizeof text, &report);
         if (reply != ZERMUITA_ZONE_DONE) {
-            fprintf(stderr, "journal, line %zu: %s: %.*s\n", report.line, zermuita_zone_strerror(reply), (int)report.len, text);
+            int told = report.len <= sizeof text ? (int)report.len : 0;
+            fprintf(stderr, "journal, line %zu: %s: %.*s\n", report.line, zermuita_zone_strerror(reply), told, text);
             free(octets);
             return false;
         }
