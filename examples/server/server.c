@@ -397,12 +397,19 @@ static void open_folder(struct served *served, const struct options *options) {
         || !begin_limits(&served->limits, (uint32_t)options->rate) || !open_journal(&served->journal, served->path)) {
         fail(served->path);
     }
-    if (served->journal.len == 0 && (options->file == NULL || !begin_served(served, options->file, options->chain))) {
+    bool is_new = served->journal.len == 0;
+    if (is_new && options->file == NULL) {
         fprintf(stderr, "%s: a new journal begins with a master file\n", served->path);
+        exit(EXIT_FAILURE);
+    }
+    if (is_new && !begin_served(served, options->file, options->chain)) {
         exit(EXIT_FAILURE);
     }
     read_keys(&served->keys);
     if (!open_served(served)) {
+        if (is_new && unlink(served->path) == 0) {
+            fprintf(stderr, "%s: it makes no zone with the chain %s, and the new journal is gone again\n", options->file, options->chain);
+        }
         exit(EXIT_FAILURE);
     }
 }

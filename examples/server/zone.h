@@ -197,16 +197,17 @@ static bool replace_records(struct served *served, const char *path, FILE *said)
     return is_done;
 }
 
-/* Begins the journal with the records of a master file. */
+/* Begins the journal with the records of a master file. Where that fails it is said why. */
 static bool begin_served(struct served *served, const char *path, const char *chain) {
     char apex[256] = "", *all = NULL;
     size_t len = 0;
     char *lines = lines_of(path, apex, "", stderr);
     FILE *out = lines == NULL ? NULL : open_memstream(&all, &len);
-    bool is_begun = false;
-    if (out != NULL) {
-        bool is_whole = fprintf(out, "zone %s %s\n%s", apex, chain, lines) > 0;
-        is_begun = fclose(out) == 0 && is_whole && begin_journal(&served->journal, served->folder, served->path, all, len);
+    bool is_whole = out != NULL && fprintf(out, "zone %s %s\n%s", apex, chain, lines) > 0;
+    is_whole = out != NULL && fclose(out) == 0 && is_whole;
+    bool is_begun = is_whole && begin_journal(&served->journal, served->folder, served->path, all, len);
+    if (lines != NULL && !is_begun) {
+        perror(served->path);
     }
     free(all);
     free(lines);
