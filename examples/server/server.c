@@ -26,7 +26,7 @@ enum { CONNECTIONS = 64, OF_NETWORK = 16, SEND_ROOM = 1 << 16, QUERY_SECONDS = 1
 struct connection {
     uint8_t in[2 + 65535], *out;
     size_t have, len, sent;
-    time_t until; /* when the query has to be whole, or the response to be read */
+    time_t until; /* the second in which the query has to be whole, or the response to be read */
     uint64_t network;
 };
 
@@ -53,6 +53,13 @@ static void on_signal(int number) {
 static void fail(const char *what) {
     perror(what);
     exit(EXIT_FAILURE);
+}
+
+/* Seconds by a clock that nobody sets. */
+static time_t seconds(void) {
+    struct timespec now;
+    clock_gettime(CLOCK_MONOTONIC, &now);
+    return now.tv_sec;
 }
 
 /* A socket at the address, which servers share if they are all told to. */
@@ -144,7 +151,7 @@ static void accept_connection(struct server *server) {
         close(fd);
         return;
     }
-    made->until = time(NULL) + QUERY_SECONDS;
+    made->until = seconds() + QUERY_SECONDS;
     made->network = network_of(&from);
     server->connections[place] = made;
     server->polled[FIRST + place] = (struct pollfd){.fd = fd, .events = POLLIN};
@@ -161,7 +168,7 @@ static bool send_rest(struct connection *connection, int fd) {
         free(connection->out);
         connection->out = NULL;
         connection->len = connection->sent = 0;
-        connection->until = time(NULL) + QUERY_SECONDS;
+        connection->until = seconds() + QUERY_SECONDS;
     }
     return true;
 }
@@ -180,7 +187,7 @@ static bool answer_stream(struct server *server, struct connection *connection) 
     connection->out[1] = (uint8_t)count;
     memcpy(connection->out + 2, server->served.out, count);
     connection->len = 2 + count;
-    connection->until = time(NULL) + QUERY_SECONDS;
+    connection->until = seconds() + QUERY_SECONDS;
     connection->have -= 2 + len;
     memmove(connection->in, connection->in + 2 + len, connection->have);
     return true;
@@ -214,7 +221,7 @@ static void answer_connections(struct server *server) {
             continue;
         }
         bool goes_on = polled->revents == 0 || go_on(server, connection, polled);
-        if (!goes_on || time(NULL) >= connection->until) {
+        if (!goes_on || seconds() >= connection->until) {
             close_connection(server, i);
         }
     }
