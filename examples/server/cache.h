@@ -4,7 +4,7 @@
 
 #include "keys.h"
 
-enum { CACHE_PLACES = 16384, SIGNATURE_ROOM = 512 };
+enum { CACHE_PLACES = 16384 };
 
 struct kept {
     uint8_t digest[32];

@@ -12,7 +12,7 @@
 #include <string.h>
 #include <zermuita_zone.h>
 
-enum { KEY_COUNT = 64, KEY_ROOM = 1024 };
+enum { KEY_COUNT = 64, KEY_ROOM = 1024, SIGNATURE_ROOM = 512 };
 
 struct key {
     char name[128];
@@ -41,12 +41,12 @@ static bool read_point(struct key *key, size_t width) {
     return true;
 }
 
-/* The exponent behind its length, and the modulus (RFC 3110, 2). */
+/* The exponent behind its length, and the modulus (RFC 3110, 2), which has as many octets as a signature: 512 at most. */
 static bool read_rsa(struct key *key) {
     BIGNUM *modulus = NULL, *exponent = NULL;
     bool is_read = EVP_PKEY_get_bn_param(key->pair, OSSL_PKEY_PARAM_RSA_N, &modulus) == 1
         && EVP_PKEY_get_bn_param(key->pair, OSSL_PKEY_PARAM_RSA_E, &exponent) == 1 && BN_num_bytes(exponent) < 256
-        && 1 + BN_num_bytes(exponent) + BN_num_bytes(modulus) <= KEY_ROOM;
+        && BN_num_bytes(modulus) <= SIGNATURE_ROOM;
     if (is_read) {
         size_t len = (size_t)BN_num_bytes(exponent);
         key->algorithm = 8;
