@@ -298,11 +298,14 @@ static void serve(struct server *server) {
 static int send_command(int argc, char **argv) {
     struct sockaddr_un at = socket_in(argv[0]);
     int fd = socket(AF_UNIX, SOCK_STREAM | SOCK_CLOEXEC, 0);
+    signal(SIGPIPE, SIG_IGN);
     if (connect(fd, (struct sockaddr *)&at, sizeof at) != 0) {
         fail(at.sun_path);
     }
     for (int i = 1; i < argc; i++) {
-        dprintf(fd, "%s%s", argv[i], i + 1 < argc ? " " : "\n");
+        if (dprintf(fd, "%s%s", argv[i], i + 1 < argc ? " " : "\n") < 0) {
+            fail(at.sun_path);
+        }
     }
     char said[4096];
     bool is_done = false, is_begun = false;
@@ -310,6 +313,9 @@ static int send_command(int argc, char **argv) {
         size_t from = is_begun ? 0 : 1;
         is_done = is_begun ? is_done : said[0] == '+';
         fwrite(said + from, 1, (size_t)count - from, stdout);
+    }
+    if (!is_begun) {
+        fprintf(stderr, "%s: no answer\n", at.sun_path);
     }
     close(fd);
     return is_done ? EXIT_SUCCESS : EXIT_FAILURE;
