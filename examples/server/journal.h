@@ -33,7 +33,9 @@ static bool write_all(int fd, const char *octets, size_t len) {
 static bool keep_names(const char *folder) {
     int fd = open(folder, O_RDONLY | O_DIRECTORY | O_CLOEXEC);
     bool is_kept = fd >= 0 && fsync(fd) == 0;
-    close(fd);
+    if (fd >= 0) {
+        close(fd);
+    }
     return is_kept;
 }
 
@@ -61,7 +63,9 @@ static bool begin_journal(struct journal *journal, const char *folder, const cha
     int written = snprintf(next, sizeof next, "%s.new", path);
     int fd = written > 0 && (size_t)written < sizeof next ? open(next, O_WRONLY | O_CREAT | O_TRUNC | O_CLOEXEC, 0600) : -1;
     bool is_written = fd >= 0 && write_all(fd, lines, len);
-    close(fd);
+    if (fd >= 0) {
+        close(fd);
+    }
     close(journal->fd);
     return is_written && rename(next, path) == 0 && keep_names(folder) && open_journal(journal, path);
 }
@@ -72,6 +76,7 @@ static uint8_t *read_journal(const struct journal *journal) {
     for (size_t at = 0; octets != NULL && at < journal->len;) {
         ssize_t count = pread(journal->fd, octets + at, journal->len - at, (off_t)at);
         if (count <= 0) {
+            errno = count < 0 ? errno : EIO; /* it has become shorter */
             free(octets);
             return NULL;
         }
