@@ -59,10 +59,16 @@ bool save(const char *path, uint64_t moment, const struct evidence *evidence) {
     return file != NULL && fclose(file) == 0 && is_written;
 }
 
+/* Whether octets are a name in wire form, and nothing behind it. */
+static bool is_name(struct zermuita_octets octets) {
+    struct zermuita_octets name;
+    return zermuita_next_name(&octets, &name) && octets.len == 0;
+}
+
 /* Takes a message off the front of those of a file. */
 static bool next_message(struct zermuita_octets *rest, struct zermuita_wanted *wanted, struct zermuita_octets *message) {
     if (!zermuita_next_part(rest, 2, &wanted->zone) || !zermuita_next_part(rest, 2, &wanted->name) || rest->len < 2
-        || wanted->zone.len > 255 || wanted->name.len > 255) {
+        || !is_name(wanted->zone) || !is_name(wanted->name)) {
         return false;
     }
     wanted->rtype = (uint16_t)zermuita_number(rest->data, 2);
