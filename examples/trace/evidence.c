@@ -83,7 +83,9 @@ bool load(const char *path, uint64_t *moment, struct evidence *evidence) {
     for (int octet; file != NULL && (octet = fgetc(file)) != EOF;) {
         *grown(&read, 1) = (uint8_t)octet;
     }
-    if (file == NULL || fclose(file) != 0 || read.len < 8) {
+    bool is_read = file != NULL && !ferror(file);
+    if (file == NULL || fclose(file) != 0 || !is_read || read.len < 8) {
+        free(read.data);
         return false;
     }
     *moment = zermuita_number(read.data, 8);
@@ -91,6 +93,7 @@ bool load(const char *path, uint64_t *moment, struct evidence *evidence) {
     struct zermuita_wanted wanted;
     while (rest.len > 0) {
         if (!next_message(&rest, &wanted, &message)) {
+            free(read.data);
             return false;
         }
         add_message(evidence, &wanted, message, path, false);
