@@ -44,17 +44,34 @@ static int usage(void) {
     return FAILED;
 }
 
-/* Reads the records of a trust anchor, and the name in front of the first. */
+/* Whether two names are one, whose letters may differ in case. */
+static bool is_same_name(const struct name *name, struct zermuita_octets other) {
+    if (name->len != other.len) {
+        return false;
+    }
+    for (size_t i = 0; i < name->len; i++) {
+        if (tolower(name->octets[i]) != tolower(other.data[i])) {
+            return false;
+        }
+    }
+    return true;
+}
+
+/* Reads the records of a trust anchor, and the name in front of each, which is one. */
 static bool read_anchor(const char *path, struct name *zone, struct ds_set *ds) {
-    char line[4096], owner[1024];
+    char line[4096], text[1024];
+    struct name owner;
     FILE *file = fopen(path, "r");
     bool is_read = file != NULL;
     while (is_read && fgets(line, sizeof line, file) != NULL) {
         if (has_record(line)) {
-            is_read = sscanf(line, "%1023s", owner) == 1 && (ds->len > 0 || name_of_text(owner, zone)) && add_ds(ds, line);
+            is_read = sscanf(line, "%1023s", text) == 1 && name_of_text(text, &owner)
+                && (ds->len == 0 || is_same_name(zone, (struct zermuita_octets){owner.octets, owner.len})) && add_ds(ds, line);
+            *zone = is_read ? owner : *zone;
         }
     }
-    return is_read && ds->len > 0 && fclose(file) == 0;
+    is_read = is_read && !ferror(file) && ds->len > 0;
+    return file != NULL && fclose(file) == 0 && is_read;
 }
 
 /* Asks a server, HOST or HOST:PORT. */
@@ -77,15 +94,7 @@ static bool ask_at(const char *where, const struct zermuita_wanted *wanted, stru
 
 /* Whether a server is asked for a zone's messages. */
 static bool serves(const struct server *server, const struct zermuita_wanted *wanted) {
-    if (!server->has_zone || server->zone.len != wanted->zone.len) {
-        return !server->has_zone;
-    }
-    for (size_t i = 0; i < server->zone.len; i++) {
-        if (tolower(server->zone.octets[i]) != tolower(wanted->zone.data[i])) {
-            return false;
-        }
-    }
-    return true;
+    return !server->has_zone || is_same_name(&server->zone, wanted->zone);
 }
 
 /* Asks the servers for the messages that are wanted. False where one has no answer. */
@@ -189,7 +198,7 @@ int main(int argc, char **argv) {
     static struct options options;
     struct evidence evidence = {0};
     struct buffer out = {0};
-    struct name anchor;
+    struct name anchor = {.len = 0};
     struct end end = {.reply = ZERMUITA_BAD_CASE};
     options.moment = (uint64_t)time(NULL);
     if (!read_options(argc, argv, &options) || !read_anchor(options.anchor, &anchor, &ds) || !name_of_text(argv[optind], &end.name)
