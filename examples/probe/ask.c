@@ -72,6 +72,9 @@ static bool ask_by_udp(const struct addrinfo *server, const struct query *query,
     if (it >= 0 && send(it, query->octets, query->len, 0) == (ssize_t)query->len) {
         while (!is_answered && is_ready(it, POLLIN, end)) {
             ssize_t len = recv(it, answer->octets, sizeof answer->octets, 0);
+            if (len < 0 && errno != EAGAIN && errno != EINTR) {
+                break; /* nobody is there */
+            }
             answer->len = len < 0 ? 0 : (size_t)len;
             is_answered = answers(query, answer->octets, answer->len);
         }
@@ -114,7 +117,8 @@ static bool ask_by_tcp(const struct addrinfo *server, const struct query *query,
     return is_answered;
 }
 
-bool ask(const struct addrinfo *server, uint16_t flags, const struct name *name, uint16_t rtype, struct answer *answer) {
+/* Asks at one address. */
+static bool ask_at(const struct addrinfo *server, uint16_t flags, const struct name *name, uint16_t rtype, struct answer *answer) {
     int64_t end = milliseconds() + SECONDS * 1000;
     struct query query = query_of(flags, name, rtype);
     bool is_answered = ask_by_udp(server, &query, end - SECONDS * 500, answer);
@@ -124,4 +128,12 @@ bool ask(const struct addrinfo *server, uint16_t flags, const struct name *name,
     }
     bool is_cut_off = is_answered && (answer->octets[2] & 2) != 0;
     return is_cut_off ? ask_by_tcp(server, &query, end, answer) : is_answered;
+}
+
+bool ask(const struct addrinfo *server, uint16_t flags, const struct name *name, uint16_t rtype, struct answer *answer) {
+    bool is_answered = false;
+    for (; server != NULL && !is_answered; server = server->ai_next) {
+        is_answered = ask_at(server, flags, name, rtype, answer);
+    }
+    return is_answered;
 }

@@ -17,9 +17,9 @@ struct answer {
 enum { TO_SERVER = 0, TO_RESOLVER = 0x0110 };
 
 /*
- * Asks a server for records, with EDNS and its bit DO (RFC 3225), and over TCP where the answer is cut off. A question takes five
- * seconds at most, and is sent at most twice. What has another id or another question, or comes from another address or port, is
- * passed over. False where there is no answer.
+ * Asks a server for records, with EDNS and its bit DO (RFC 3225), and over TCP where the answer is cut off. Where one of its addresses
+ * gives no answer the next is asked. At each a question takes five seconds at most, and is sent at most twice. What has another id or
+ * another question, or comes from another address or port, is passed over. False where there is no answer.
  */
 bool ask(const struct addrinfo *server, uint16_t flags, const struct name *name, uint16_t rtype, struct answer *answer);
 
