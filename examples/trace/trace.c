@@ -33,7 +33,8 @@ static int usage(void) {
           "             [--moment SECONDS]\n"
           "\n"
           "--anchor   DS records of the trust anchor, one on each line behind the zone's name, as '. IN DS 20326 8 2 E06D..'\n"
-          "--server   a resolver, or a server of all the zones on the way, or of one; where one gives no answer the next is asked\n"
+          "--server   a resolver, or a server of all the zones on the way, or of one; where one gives no answer the next is asked;\n"
+          "           an IPv6 address stands in brackets where a port is behind it, as [::1]:5353\n"
           "--save     writes the messages to a file\n"
           "--from     takes messages and the moment from such a file; what it lacks is asked for if there is a server\n"
           "--moment   when signatures are to hold, in seconds since 1970: now, if it is left out\n"
@@ -74,16 +75,34 @@ static bool read_anchor(const char *path, struct name *zone, struct ds_set *ds) 
     return file != NULL && fclose(file) == 0 && is_read;
 }
 
-/* Asks a server, HOST or HOST:PORT. */
+/* Cuts HOST, HOST:PORT, [ADDRESS] or [ADDRESS]:PORT into host and port. An IPv6 address outside of brackets has no port behind it. */
+static bool cut_host(char *text, const char **host, const char **port) {
+    char *colon = strchr(text, ':'), *end = text[0] == '[' ? strchr(text, ']') : NULL;
+    *host = text;
+    *port = "53";
+    if (text[0] == '[') {
+        if (end == NULL || (end[1] != 0 && end[1] != ':')) {
+            return false;
+        }
+        *host = text + 1;
+        *port = end[1] == ':' ? end + 2 : *port;
+        *end = 0;
+    } else if (colon != NULL && colon == strrchr(text, ':')) {
+        *port = colon + 1;
+        *colon = 0;
+    }
+    return true;
+}
+
+/* Asks a server. */
 static bool ask_at(const char *where, const struct zermuita_wanted *wanted, struct answer *answer) {
-    char host[256];
-    const char *colon = strrchr(where, ':');
-    bool has_port = colon != NULL && strchr(where, ':') == colon;
+    char text[256];
+    const char *host, *port;
     struct addrinfo *server, hints = {.ai_socktype = SOCK_DGRAM};
     struct name name = {.len = wanted->name.len};
     memcpy(name.octets, wanted->name.data, wanted->name.len);
-    snprintf(host, sizeof host, "%.*s", has_port ? (int)(colon - where) : (int)strlen(where), where);
-    if (getaddrinfo(host, has_port ? colon + 1 : "53", &hints, &server) != 0) {
+    if ((size_t)snprintf(text, sizeof text, "%s", where) >= sizeof text || !cut_host(text, &host, &port)
+        || getaddrinfo(host, port, &hints, &server) != 0) {
         return false;
     }
     bool is_answered = ask(server, TO_RESOLVER, &name, wanted->rtype, answer);
