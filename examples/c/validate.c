@@ -24,6 +24,10 @@ static struct zermuita_octets octets_of_file(const char *path) {
     FILE *file = or_exit(fopen(path, "rb"), path);
     uint8_t *octets = or_exit(malloc(65536), path);
     struct zermuita_octets all = {octets, fread(octets, 1, 65536, file)};
+    if (ferror(file) || fgetc(file) != EOF) {
+        fprintf(stderr, "%s: it cannot be read to its end, or is too long\n", path);
+        exit(2);
+    }
     fclose(file);
     return all;
 }
