@@ -32,6 +32,16 @@ static struct zermuita_octets octets_of_file(const char *path) {
     return all;
 }
 
+static uint64_t number_of_text(const char *text, uint64_t most) {
+    char *end = NULL;
+    uint64_t number = strtoull(text, &end, 10);
+    if (!isdigit((unsigned char)text[0]) || *end != 0 || number > most) {
+        fprintf(stderr, "%s: not a number from 0 to %" PRIu64 "\n", text, most);
+        exit(2);
+    }
+    return number;
+}
+
 /* The wire form of a name's text, which has no escapes. */
 static struct zermuita_octets name_of_text(const char *text, uint8_t name[256]) {
     size_t len = 0;
@@ -95,9 +105,9 @@ int main(int argc, char **argv) {
     uint8_t apex[256], name[256], *out = NULL, *checked = NULL;
     struct zermuita_case handed = {
         .size = sizeof handed, .apex = name_of_text(argv[1], apex), .ds = octets_of_file(argv[2]),
-        .dnskey = octets_of_file(argv[3]), .name = name_of_text(argv[4], name), .rtype = (uint16_t)atoi(argv[5]), .rclass = 1,
-        .answer = octets_of_file(argv[6]), .now = argc > 7 ? strtoull(argv[7], NULL, 10) : (uint64_t)time(NULL),
-        .max_nsec3_iterations = 100, .algorithms = {signature_algorithms, sizeof signature_algorithms}, .places = 1,
+        .dnskey = octets_of_file(argv[3]), .name = name_of_text(argv[4], name), .rtype = (uint16_t)number_of_text(argv[5], 65535),
+        .answer = octets_of_file(argv[6]), .now = argc > 7 ? number_of_text(argv[7], UINT64_MAX) : (uint64_t)time(NULL),
+        .rclass = 1, .max_nsec3_iterations = 100, .algorithms = {signature_algorithms, sizeof signature_algorithms}, .places = 1,
     };
     handed.no_ds = handed.ds.len == 0;
     struct zermuita_report report = {.size = sizeof report};
