@@ -90,6 +90,8 @@ def main(apex: str, ds: str, dnskey: str, name: str, rtype: str, answer: str, mo
     rest, records = pathlib.Path(ds).read_bytes(), []
     while rest:
         end = 2 + int.from_bytes(rest[:2], "big")
+        if len(rest) < end:
+            raise ValueError(f"{ds}: its last record has fewer octets than its length says")
         records.append(rest[2:end])
         rest = rest[end:]
     messages = pathlib.Path(dnskey).read_bytes(), pathlib.Path(answer).read_bytes()
