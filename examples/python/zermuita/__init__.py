@@ -25,6 +25,8 @@ SONAME = "libzermuita.so.0.2"
 ASK, BUFFER_TOO_SMALL, OUT_OF_MEMORY, TOO_MANY_SIGNATURES = 32, 34, 26, 29
 # What `enum zermuita_delegates` says of a name.
 DELEGATES = (None, True, False)
+# How many bits the numbers of a case have. ctypes would leave out those above.
+BITS = {"rtype": 16, "rclass": 16, "max_nsec3_iterations": 16, "max_signatures": 32}
 # What the library may read of a case and write of a report, whatever the sizes that this module knows.
 CASE_ROOM, REPORT_ROOM = 256, 128
 
@@ -262,6 +264,10 @@ class Library:
     def judge(self, case: Case, passes: Callable[[Ask], bool], checked: bytes = b"") -> Judgement:
         """Judges, beginning with signatures that were checked."""
         now = int(time.time()) if case.now is None else case.now
+        numbers = [("now", now, 64), *((name, getattr(case, name), bits) for name, bits in BITS.items())]
+        for name, number, bits in numbers:
+            if not 0 <= number < 1 << bits:
+                raise ValueError(f"{name} is {number}, not a number of {bits} bits")
         while True:
             reply, octets, report = self._call(case, now, checked)
             if reply != ASK:
@@ -276,12 +282,12 @@ class Library:
         if not self._is_verdict(reply):
             raise ValueError(self.strerror(reply))
         verdict = Verdict(reply)
-        numbers = {name: getattr(report, name) for name in ("verifications", "hashes", "ttl", "until", "ede")}
+        said = {name: getattr(report, name) for name in ("verifications", "hashes", "ttl", "until", "ede")}
         places: list[int] | None = None
         if case.places and verdict != Verdict.INSECURE:
             places, octets = _places(octets)
         delegates = DELEGATES[report.delegates]
-        return Judgement(verdict, checked=checked, **numbers, **_said(verdict, octets), delegates=delegates, places=places)
+        return Judgement(verdict, checked=checked, **said, **_said(verdict, octets), delegates=delegates, places=places)
 
     def _call(self, case: Case, now: int, checked: bytes) -> tuple[int, bytes, _Report]:
         """One call, made again where the output has more octets than there is room for."""
