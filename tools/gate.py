@@ -145,7 +145,8 @@ def behind():
 
     def run(command):
         streams = {"stdin": subprocess.DEVNULL, "stdout": subprocess.PIPE, "stderr": subprocess.STDOUT}
-        return subprocess.run(command, shell=True, cwd=TOP, **streams)
+        # one that fails in front of a pipe fails, too
+        return subprocess.run(["bash", "-o", "pipefail", "-c", command], cwd=TOP, **streams)
 
     with concurrent.futures.ThreadPoolExecutor() as pool:
         ran = list(pool.map(run, BEHIND))
