@@ -86,7 +86,7 @@ static enum zermuita_reply judge(struct zermuita_case handed, uint8_t out[ROOM],
     handed.checked = (struct zermuita_octets){checked, 0};
     for (;;) {
         enum zermuita_reply reply = zermuita_judge(&handed, out, ROOM, &report);
-        *out_len = report.len;
+        *out_len = report.len <= ROOM ? report.len : 0;
         if (reply != ZERMUITA_ASK || report.len > ROOM - handed.checked.len) {
             return reply;
         }
