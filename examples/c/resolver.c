@@ -1,8 +1,7 @@
 /*
  * A resolver's loop: reads names and numbers of types, and prints what zones say of them, for how many seconds that may be kept,
- * and an extended error. It asks the zones' own servers, from the root down by referrals, and goes from alias to alias. The
- * arguments are the address of a server of the root, and a file with the root's DS records, each's data behind its length in two
- * octets.
+ * and an extended error. It asks the zones' own servers, from the root down by referrals, and goes from alias to alias. The arguments
+ * are the address of a server of the root, and a file with the root's DS records, each's data behind its length in two octets.
  * To build it: cc resolver.c $(pkg-config --cflags --libs zermuita) -lcrypto -lresolv
  */
 #include "server.h"
@@ -110,10 +109,11 @@ int main(int argc, char **argv) {
     FILE *file = argc == 3 && inet_pton(AF_INET, argv[1], &root.server) == 1 && res_init() == 0 ? fopen(argv[2], "rb") : NULL;
     root.ds.len = file == NULL ? 0 : fread(anchor, 1, ROOM, file);
     _res.nscount = 1;
-    while (scanf("%1023s %u", text, &rtype) == 2 && ns_name_pton(text, name, sizeof name) >= 0) {
+    while (root.ds.len > 0 && scanf("%1023s %u", text, &rtype) == 2 && ns_name_pton(text, name, sizeof name) >= 0) {
         struct zermuita_octets whole = {name, sizeof name}, asked = {name, 0};
         zermuita_next_name(&whole, &asked);
         resolve(&root, asked, (uint16_t)rtype);
         fflush(stdout);
     }
+    return root.ds.len > 0 ? EXIT_SUCCESS : EXIT_FAILURE;
 }
