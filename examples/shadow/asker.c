@@ -28,6 +28,10 @@ static int connected_to(const char *host, const char *port) {
     int made = socket(found->ai_family, SOCK_DGRAM | SOCK_NONBLOCK, 0);
     if (made < 0 || connect(made, found->ai_addr, found->ai_addrlen) != 0) {
         perror(host);
+        if (made >= 0) {
+            close(made);
+        }
+        made = -1;
     }
     freeaddrinfo(found);
     return made;
@@ -55,7 +59,9 @@ struct asker *make_asker(const char *address) {
 void free_asker(struct asker *asker) {
     if (asker != NULL) {
         free_table(asker->asked);
-        close(asker->socket);
+        if (asker->socket >= 0) {
+            close(asker->socket);
+        }
     }
     free(asker);
 }
