@@ -112,9 +112,10 @@ static void take_events(struct run *run) {
     }
 }
 
-/* What is left once no more is read. */
+/* What is left once no more is taken. */
 static void take_rest(struct run *run) {
     bool is_over;
+    queue_end(run->queue);
     for (struct event *event; (event = queue_take(run->queue, 0, &is_over)) != NULL;) {
         take_event(run, event);
         if (is_full(run->waiting)) {

@@ -41,12 +41,12 @@ void queue_put(struct queue *queue, struct event *event) {
     while (queue->waits && !queue->has_ended && !has_room_for(queue, event)) {
         pthread_cond_wait(&queue->is_taken, &queue->lock);
     }
-    bool has_room = has_room_for(queue, event);
+    bool has_room = !queue->has_ended && has_room_for(queue, event);
     if (has_room) {
         queue->ring[(queue->first + queue->count++) % queue->most_events] = event;
         queue->octets += sizeof *event + event->len;
         pthread_cond_signal(&queue->is_filled);
-    } else {
+    } else if (!queue->has_ended) {
         queue->dropped++;
     }
     pthread_mutex_unlock(&queue->lock);

@@ -30,7 +30,7 @@ void queue_put(struct queue *queue, struct event *event);
 void queue_count_dropped(struct queue *queue);
 /* The next event; null where none came for some milliseconds, or where none will come any more. */
 struct event *queue_take(struct queue *queue, long milliseconds, bool *is_over);
-/* Says that no event will come any more. */
+/* Says that no event will come any more. What comes nevertheless is not taken. */
 void queue_end(struct queue *queue);
 uint64_t queue_dropped(struct queue *queue);
 void free_queue(struct queue *queue);
