@@ -108,6 +108,11 @@ bool read_anchors(const char *path, struct anchors *anchors) {
         tidy(line);
         is_read = *line == 0 || read_line(line, anchors);
     }
+    if (ferror(file)) {
+        perror(path);
+        fclose(file);
+        return false;
+    }
     fclose(file);
     if (!is_read) {
         fprintf(stderr, "%s: line %u is not a DS record\n", path, number);
