@@ -50,7 +50,11 @@ class Peer:
         with open(self.folder / "log", "wb") as log:
             how = {"stdin": subprocess.DEVNULL, "stdout": log, "stderr": log, "cwd": self.folder}
             self.process = subprocess.Popen([*map(str, self.command())], **how)
-        self.wait()
+        try:
+            self.wait()
+        except BaseException:
+            self.__exit__()
+            raise
         return self
 
     def write(self, name, text):
@@ -65,7 +69,8 @@ class Peer:
             for _ in range(150):
                 try:
                     it.sendto(query, ("127.0.0.1", self.PORT))
-                    if it.recv(4096)[3] & 15 == 0:
+                    # Another server may have the port.
+                    if it.recv(4096)[3] & 15 == 0 and self.process.poll() is None:
                         return
                 except OSError:
                     time.sleep(0.1)

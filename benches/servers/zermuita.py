@@ -30,9 +30,13 @@ class Zermuita:
 
     def __enter__(self):
         self.count = getattr(Zermuita, "count", 0)
-        for _ in range(self.threads):
-            Zermuita.count = self.count = self.count + 1
-            self.start(self.room / f"server-{self.count}")
+        try:
+            for _ in range(self.threads):
+                Zermuita.count = self.count = self.count + 1
+                self.start(self.room / f"server-{self.count}")
+        except BaseException:
+            self.__exit__()
+            raise
         return self
 
     def start(self, folder):
@@ -57,3 +61,4 @@ class Zermuita:
         for it in self.processes:
             it.terminate()
             it.wait()
+            it.stdout.close()
