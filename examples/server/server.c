@@ -16,6 +16,7 @@
 #include <netinet/in.h>
 #include <poll.h>
 #include <signal.h>
+#include <stddef.h>
 #include <sys/socket.h>
 #include <sys/un.h>
 #include "ctl.h"
@@ -62,6 +63,17 @@ static time_t seconds(void) {
     return now.tv_sec;
 }
 
+/* Has each datagram say which address it came to, where that is any of this machine's: its reply must come from there. */
+static bool tells_address(int fd, const struct sockaddr *at) {
+    int yes = 1;
+    if (at->sa_family == AF_INET6) {
+        const struct sockaddr_in6 *it = (const struct sockaddr_in6 *)(const void *)at;
+        return !IN6_IS_ADDR_UNSPECIFIED(&it->sin6_addr) || setsockopt(fd, IPPROTO_IPV6, IPV6_RECVPKTINFO, &yes, sizeof yes) == 0;
+    }
+    const struct sockaddr_in *it = (const struct sockaddr_in *)(const void *)at;
+    return it->sin_addr.s_addr != htonl(INADDR_ANY) || setsockopt(fd, IPPROTO_IP, IP_PKTINFO, &yes, sizeof yes) == 0;
+}
+
 /* A socket at the address, which servers share if they are all told to. */
 static int bound(int type, const struct options *options) {
     struct addrinfo wanted = {.ai_flags = AI_NUMERICHOST | AI_NUMERICSERV | AI_PASSIVE, .ai_socktype = type}, *at = NULL;
@@ -73,7 +85,8 @@ static int bound(int type, const struct options *options) {
     bool is_stream = type == SOCK_STREAM;
     if (fd < 0 || (is_stream && setsockopt(fd, SOL_SOCKET, SO_REUSEADDR, &yes, sizeof yes) != 0)
         || (options->is_shared && setsockopt(fd, SOL_SOCKET, SO_REUSEPORT, &yes, sizeof yes) != 0)
-        || bind(fd, at->ai_addr, at->ai_addrlen) != 0 || (is_stream && listen(fd, 64) != 0)) {
+        || (!is_stream && !tells_address(fd, at->ai_addr)) || bind(fd, at->ai_addr, at->ai_addrlen) != 0
+        || (is_stream && listen(fd, 64) != 0)) {
         fail(options->address);
     }
     freeaddrinfo(at);
@@ -102,13 +115,32 @@ static int bound_in(const char *folder) {
     return fd;
 }
 
+/* Lets the way back be any, where it is said which address a datagram came to and thus its reply comes from. */
+static void forget_way(struct msghdr *datagram) {
+    for (struct cmsghdr *it = CMSG_FIRSTHDR(datagram); it != NULL; it = CMSG_NXTHDR(datagram, it)) {
+        if (it->cmsg_level == IPPROTO_IP && it->cmsg_type == IP_PKTINFO) {
+            memset(CMSG_DATA(it) + offsetof(struct in_pktinfo, ipi_ifindex), 0, sizeof(int));
+        } else if (it->cmsg_level == IPPROTO_IPV6 && it->cmsg_type == IPV6_PKTINFO) {
+            memset(CMSG_DATA(it) + offsetof(struct in6_pktinfo, ipi6_ifindex), 0, sizeof(unsigned));
+        }
+    }
+}
+
 static void answer_datagrams(struct server *server) {
     uint8_t query[65535];
     struct served *served = &server->served;
     for (int i = 0; i < DATAGRAMS; i++) {
         struct sockaddr_storage from = {0};
-        socklen_t from_len = sizeof from;
-        ssize_t len = recvfrom(server->polled[0].fd, query, sizeof query, 0, (struct sockaddr *)&from, &from_len);
+        union {
+            struct cmsghdr first;
+            uint8_t octets[CMSG_SPACE(sizeof(struct in6_pktinfo))];
+        } address;
+        struct iovec octets = {query, sizeof query};
+        struct msghdr datagram = {
+            .msg_name = &from, .msg_namelen = sizeof from, .msg_iov = &octets, .msg_iovlen = 1, .msg_control = &address,
+            .msg_controllen = sizeof address,
+        };
+        ssize_t len = recvmsg(server->polled[0].fd, &datagram, 0);
         if (len < 0) {
             return;
         }
@@ -117,7 +149,9 @@ static void answer_datagrams(struct server *server) {
             : turn == SAY_TCP         ? write_header(served->out, query, (size_t)len, 0x02, 0)
                                       : 0;
         if (count > 0) {
-            sendto(server->polled[0].fd, served->out, count, 0, (struct sockaddr *)&from, from_len);
+            octets = (struct iovec){served->out, count};
+            forget_way(&datagram);
+            sendmsg(server->polled[0].fd, &datagram, 0);
         }
     }
 }
