@@ -73,15 +73,21 @@ class Client(asyncio.DatagramProtocol):
         except asyncio.TimeoutError:
             self.waiting.pop(number, None)
             return None
-        return await self.by_stream(name, rtype) if int.from_bytes(answer[2:4], "big") & TC else answer
+        if not int.from_bytes(answer[2:4], "big") & TC:
+            return answer
+        try:
+            return await asyncio.wait_for(self.by_stream(name, rtype), patience)
+        except (OSError, asyncio.IncompleteReadError, asyncio.TimeoutError):
+            return None
 
     async def by_stream(self, name: bytes, rtype: int) -> bytes:
         reader, writer = await asyncio.open_connection(VALIDATOR, 53)
         octets = query(1, name, rtype)
-        writer.write(len(octets).to_bytes(2, "big") + octets)
-        answer = await reader.readexactly(int.from_bytes(await reader.readexactly(2), "big"))
-        writer.close()
-        return answer
+        try:
+            writer.write(len(octets).to_bytes(2, "big") + octets)
+            return await reader.readexactly(int.from_bytes(await reader.readexactly(2), "big"))
+        finally:
+            writer.close()
 
 
 def said(answer: bytes | None) -> Said:
