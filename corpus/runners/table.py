@@ -102,6 +102,9 @@ def write() -> int:
     rows, unknown = differences(all_cases, told)
     text = f"{BEGIN}\n{versions}\n{by_group(all_cases, told)}\n{rows}\n{END}"
     page = README.read_text()
-    README.write_text(re.sub(re.escape(BEGIN) + ".*" + re.escape(END), lambda _it: text, page, flags=re.DOTALL))
+    page, count = re.subn(re.escape(BEGIN) + ".*" + re.escape(END), lambda _it: text, page, flags=re.DOTALL)
+    if count != 1:
+        raise SystemExit(f"{README} has no place for the tables")
+    README.write_text(page)
     print("\n".join([*unknown, f"{len(unknown)} differences without a sentence"]))
     return 1 if unknown else 0
