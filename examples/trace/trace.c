@@ -25,7 +25,7 @@ struct options {
     struct server servers[MOST_SERVERS];
     size_t count;
     uint64_t moment;
-    bool is_json;
+    bool has_moment, is_json;
 };
 
 static int usage(void) {
@@ -37,7 +37,7 @@ static int usage(void) {
           "           an IPv6 address stands in brackets where a port is behind it, as [::1]:5353\n"
           "--save     writes the messages to a file\n"
           "--from     takes messages and the moment from such a file; what it lacks is asked for if there is a server\n"
-          "--moment   when signatures are to hold, in seconds since 1970: now, if it is left out\n"
+          "--moment   when signatures are to hold, in seconds since 1970: that of the file, or now, if it is left out\n"
           "\n"
           "Prints the way, zone by zone, and what is said. The status is 0 where that is secure, 3 where it is insecure, 1 where it is\n"
           "bogus or is not shown, and 2 where an answer lacks or the call cannot be read.\n",
@@ -203,7 +203,11 @@ static bool read_options(int argc, char **argv, struct options *options) {
             options->from = optarg;
             break;
         case 't':
+            if (!isdigit((unsigned char)optarg[0])) {
+                return false;
+            }
             options->moment = strtoull(optarg, &end, 10);
+            options->has_moment = true;
             break;
         default:
             return false;
@@ -224,10 +228,12 @@ int main(int argc, char **argv) {
         || !type_of_text(argv[optind + 1], &end.rtype)) {
         return usage();
     }
-    if (options.from != NULL && !load(options.from, &options.moment, &evidence)) {
+    uint64_t moment = options.moment;
+    if (options.from != NULL && !load(options.from, &moment, &evidence)) {
         fprintf(stderr, "trace: %s cannot be read\n", options.from);
         return FAILED;
     }
+    options.moment = options.has_moment ? options.moment : moment;
     struct zermuita_evidence handed = {
         .size = sizeof handed,
         .anchor = {anchor.octets, anchor.len},
