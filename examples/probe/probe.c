@@ -237,5 +237,9 @@ int main(int argc, char **argv) {
     }
     int status = probe(&options, server, handed, &zone, &name);
     freeaddrinfo(server);
+    if (fflush(stdout) != 0) {
+        perror("probe");
+        return FAILED;
+    }
     return status;
 }

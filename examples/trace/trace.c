@@ -251,5 +251,9 @@ int main(int argc, char **argv) {
         return FAILED;
     }
     (options.is_json ? tell_json : tell)(&evidence, &end);
+    if (fflush(stdout) != 0) {
+        perror("trace");
+        return FAILED;
+    }
     return has_ended ? (int)kind_of(end.reply) : FAILED;
 }
