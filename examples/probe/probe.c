@@ -7,6 +7,7 @@
 #include "show.h"
 #include "signature.h"
 
+#include <ctype.h>
 #include <stdlib.h>
 #include <time.h>
 #include <unistd.h>
@@ -184,7 +185,11 @@ static int probe(const struct options *options, const struct addrinfo *server, s
 static bool read_options(int argc, char **argv, struct options *options) {
     char *end = "";
     for (int option; (option = getopt(argc, argv, "vp:t:l:")) != -1 && *end == 0;) {
-        unsigned long long number = optarg == NULL ? 0 : strtoull(optarg, &end, 10);
+        bool is_number = option == 'p' || option == 't' || option == 'l';
+        if (is_number && !isdigit((unsigned char)optarg[0])) {
+            return false;
+        }
+        unsigned long long number = is_number ? strtoull(optarg, &end, 10) : 0;
         switch (option) {
         case 'v':
             options->is_verbose = true;
