@@ -103,11 +103,14 @@ static void take_case(struct answered *answered, char *rest) {
 }
 
 static void take_passing(char *rest) {
+    static size_t count;
     struct buffer entry = {0};
     next_octets(&rest, &entry);
     struct buffer *slot = slot_of(octets_of(&entry));
     if (slot->len > 0) {
         buffer_free(&entry);
+    } else if (++count == SLOTS) {
+        fail("more signatures than there are slots");
     } else {
         *slot = entry;
     }
