@@ -76,7 +76,8 @@ def processes():
             if not words[0]:
                 continue
             part = part_of(words, entry)
-        except OSError:
+        except (OSError, IndexError):
+            # it has ended, or becomes another just now
             continue
         yield (entry, times[19]), part, (int(times[11]) + int(times[12])) / TICKS
 
