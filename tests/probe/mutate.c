@@ -56,7 +56,11 @@ int main(int argc, char **argv) {
     while (getline(&line, &room, stdin) >= 0) {
         line[strcspn(line, "\n")] = 0;
         long len = octets_of_hex(line, message, sizeof message);
-        for (long i = 0; len > 0 && i < times; i++) {
+        if (len <= 0) {
+            fprintf(stderr, "cannot be read: %.60s\n", line);
+            return 2;
+        }
+        for (long i = 0; i < times; i++) {
             show_mutated(message, (size_t)len);
         }
     }
