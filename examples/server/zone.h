@@ -8,7 +8,7 @@
 #include "master.h"
 #include <time.h>
 
-enum { OUT_ROOM = 1 << 20, TEXT_ROOM = 1024 };
+enum { OUT_ROOM = 1 << 20, TEXT_ROOM = 1024, UDP_SIZE = 1232 };
 
 struct served {
     struct zermuita_zone zone;
@@ -227,8 +227,13 @@ static bool make_all(struct served *served, uint64_t moment, size_t len) {
     return true;
 }
 
-/* Writes a reply that has a header and the question alone, with flags (RFC 1035, 4.1.1). Gives how many octets it has, or 0. */
+/*
+ * Writes a reply that has a header and the question alone, with flags (RFC 1035, 4.1.1), and the record of EDNS where the query has it
+ * behind its question: without it some resolvers take the server for one without EDNS (RFC 6891, 6.1.1 and 7). Gives how many octets it
+ * has, or 0.
+ */
 static size_t write_header(uint8_t *out, const uint8_t *query, size_t len, uint8_t flags, uint8_t rcode) {
+    static const uint8_t edns[] = {0, 0, 41, UDP_SIZE >> 8, UDP_SIZE & 255, 0, 0, 0, 0, 0, 0};
     size_t end = 12;
     if (len < 12 || query[2] & 0x80) {
         return 0;
@@ -239,12 +244,20 @@ static size_t write_header(uint8_t *out, const uint8_t *query, size_t len, uint8
         end += 1 + (size_t)query[end];
     }
     is_asked = is_asked && end < len && len - end >= 5 && end <= 12 + 254;
-    memcpy(out, query, is_asked ? end + 5 : 12);
+    end = is_asked ? end + 5 : 12;
+    memcpy(out, query, end);
     out[2] = (uint8_t)(0x80 | (query[2] & 0x79) | flags);
     out[3] = rcode;
     memset(out + 4, 0, 8);
     out[5] = is_asked;
-    return is_asked ? end + 5 : 12;
+    bool has_others = query[6] != 0 || query[7] != 0 || query[8] != 0 || query[9] != 0;
+    if (is_asked && !has_others && len - end >= sizeof edns && memcmp(query + end, edns, 3) == 0) {
+        memcpy(out + end, edns, sizeof edns);
+        out[end + 7] = query[end + 7] & 0x80; /* DO (RFC 3225, 3) */
+        out[11] = 1;
+        end += sizeof edns;
+    }
+    return end;
 }
 
 /* Answers a query. Gives how many octets of `out` the response has, or 0. */
@@ -253,7 +266,7 @@ static size_t respond(struct served *served, const uint8_t *query, size_t len, b
     struct zermuita_zone_report report = {.size = sizeof report};
     struct zermuita_request request = {
         .size = sizeof request, .request = {query, len}, .now = moment + served->backdate, .backdate = served->backdate,
-        .stream = is_stream, .limit = 1232, .udp_size = 1232,
+        .stream = is_stream, .limit = UDP_SIZE, .udp_size = UDP_SIZE,
     };
     uint32_t reply = zermuita_zone_respond(&served->zone, &request, served->out, OUT_ROOM, &report);
     if (reply == ZERMUITA_ZONE_SIGN && make_all(served, moment, report.len)) {
