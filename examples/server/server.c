@@ -332,15 +332,18 @@ static void serve(struct server *server) {
 static int send_command(int argc, char **argv) {
     struct sockaddr_un at = socket_in(argv[0]);
     int fd = socket(AF_UNIX, SOCK_STREAM | SOCK_CLOEXEC, 0);
+    char *file = argc == 3 && strcmp(argv[1], "reload") == 0 ? realpath(argv[2], NULL) : NULL;
     signal(SIGPIPE, SIG_IGN);
     if (connect(fd, (struct sockaddr *)&at, sizeof at) != 0) {
         fail(at.sun_path);
     }
     for (int i = 1; i < argc; i++) {
-        if (dprintf(fd, "%s%s", argv[i], i + 1 < argc ? " " : "\n") < 0) {
+        /* A file is told from here, not from where the server was started. */
+        if (dprintf(fd, "%s%s", i == 2 && file != NULL ? file : argv[i], i + 1 < argc ? " " : "\n") < 0) {
             fail(at.sun_path);
         }
     }
+    free(file);
     char said[4096];
     bool is_done = false, is_begun = false;
     for (ssize_t count; (count = read(fd, said, sizeof said)) > 0; is_begun = true) {
