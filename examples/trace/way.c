@@ -112,7 +112,8 @@ void tell(const struct evidence *evidence, const struct end *end) {
 static void print_quoted(const char *text) {
     putchar('"');
     for (; *text != 0; text++) {
-        printf(*text == '"' || *text == '\\' ? "\\%c" : "%c", *text);
+        bool is_control = (unsigned char)*text < ' ';
+        printf(is_control ? "\\u%04x" : *text == '"' || *text == '\\' ? "\\%c" : "%c", (unsigned char)*text);
     }
     putchar('"');
 }
