@@ -14,7 +14,10 @@ bool add_ds(struct ds_set *ds, const char *text) {
     if (digest_len <= 0) {
         return false;
     }
-    const uint8_t head[] = {0, (uint8_t)(4 + digest_len), (uint8_t)(tag >> 8), (uint8_t)tag, (uint8_t)algorithm, (uint8_t)digest_type};
+    const uint8_t head[] = {
+        (uint8_t)((4 + digest_len) >> 8), (uint8_t)(4 + digest_len), (uint8_t)(tag >> 8), (uint8_t)tag, (uint8_t)algorithm,
+        (uint8_t)digest_type,
+    };
     memcpy(record, head, sizeof head);
     ds->len += 6 + (size_t)digest_len;
     return true;
