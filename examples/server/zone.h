@@ -127,12 +127,28 @@ static bool accept_line(struct served *served, const char *words, FILE *said) {
     return keep_lines(served, line, (size_t)len, said);
 }
 
-/* Adds the key of a PEM file. */
+/* Sees to it that a key's file is on disk, if it is in a file system that has one. */
+static bool keep_key(const struct keys *keys, const char *name) {
+    char path[sizeof keys->list->name + 512 + 8];
+    snprintf(path, sizeof path, "%s/%s.pem", keys->folder, name);
+    int fd = open(path, O_RDONLY | O_CLOEXEC);
+    bool is_kept = fd >= 0 && (fsync(fd) == 0 || errno == EROFS || errno == EINVAL);
+    if (fd >= 0) {
+        close(fd);
+    }
+    return is_kept && (keep_names(keys->folder) || errno == EROFS || errno == EINVAL);
+}
+
+/* Adds the key of a PEM file, which is on disk before the journal names the key: nothing else can sign the zone then. */
 static bool add_key(struct served *served, const char *kind, const char *name, FILE *said) {
     char words[3072], text[2048];
     struct key *key = key_named(&served->keys, name);
     if (key == NULL) {
         fprintf(said, "no key %s.pem in %s\n", name, served->keys.folder);
+        return false;
+    }
+    if (!keep_key(&served->keys, name)) {
+        fprintf(said, "%s.pem: %s\n", name, strerror(errno));
         return false;
     }
     EVP_EncodeBlock((unsigned char *)text, key->octets, (int)key->len);
