@@ -22,6 +22,7 @@ struct served {
     uint32_t step;     /* answers are of moments that are multiples of it, so that signatures serve again */
     uint64_t floor;    /* no moment is before this one */
     uint64_t answered; /* the last moment of an answer */
+    uint64_t unsigned_at; /* the last moment of which a signature could not be made */
     uint8_t *out, *made;
 };
 
@@ -236,6 +237,10 @@ static bool make_all(struct served *served, uint64_t moment, size_t len) {
     uint8_t *next = served->out;
     for (size_t rest = len; zermuita_next_sign(&next, &rest, &sign);) {
         if (!answer_sign(&served->cache, &served->keys, moment, &sign)) {
+            if (served->unsigned_at != moment) {
+                served->unsigned_at = moment;
+                fprintf(stderr, "no signature of algorithm %u: is its key missing from %s?\n", sign.algorithm, served->keys.folder);
+            }
             return false;
         }
     }
