@@ -75,7 +75,11 @@ class Server:
 
     def end(self):
         self.process.terminate()
-        self.process.wait(timeout=60)
+        try:
+            self.process.wait(timeout=60)
+        except subprocess.TimeoutExpired:
+            self.process.kill()
+            self.process.wait()
 
     def version(self):
         ran = subprocess.run([self.COMMAND[0], self.VERSION], capture_output=True, text=True)

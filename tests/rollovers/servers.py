@@ -102,7 +102,11 @@ class Server:
         concurrent.futures.wait(self.commands)
         if self.process:
             self.process.terminate()
-            self.process.wait(timeout=60)
+            try:
+                self.process.wait(timeout=60)
+            except subprocess.TimeoutExpired:
+                self.process.kill()
+                self.process.wait()
 
     def check(self):
         """Raises what the first command that failed has raised."""

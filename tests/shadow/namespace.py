@@ -37,4 +37,8 @@ def serving(tree, *server, program=HERE / "tree.py"):
         yield version
     finally:
         process.stdin.close()
-        process.wait(timeout=60)
+        try:
+            process.wait(timeout=300)
+        except subprocess.TimeoutExpired:
+            process.terminate()
+            raise
