@@ -153,9 +153,14 @@ class Tree:
         logs = pathlib.Path(tempfile.mkdtemp(prefix="servers-", dir=self.folder))
         logs.chmod(0o755)
         started = []
-        for server, (kind, address) in SERVERS.items():
-            zones = [(name(apex), self.file(apex)) for apex, it in ZONES.items() if it.server == server]
-            started.append(KINDS[kind](logs / server, zones, address, 53))
+        try:
+            for server, (kind, address) in SERVERS.items():
+                zones = [(name(apex), self.file(apex)) for apex, it in ZONES.items() if it.server == server]
+                started.append(KINDS[kind](logs / server, zones, address, 53))
+        except BaseException:
+            for it in started:
+                it.end()
+            raise
         return started
 
 
