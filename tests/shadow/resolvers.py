@@ -183,7 +183,10 @@ addResponseAction(AllRule(), DnstapLogResponseAction("dnsdist", log))
     def end(self):
         if self.distributor:
             self.distributor.terminate()
-            self.distributor.wait(timeout=20)
+            try:
+                self.distributor.wait(timeout=20)
+            except subprocess.TimeoutExpired:
+                self.distributor.kill()
         super().end()
 
 
