@@ -2,17 +2,17 @@
 
 #include <ctype.h>
 
-enum { OPTION_EDE = 15 };
+enum { OPTION_EDE = 15, MAX_POINTERS = 255 };
 
-/* Pointers lead backwards alone, so reading ends. */
+/* Pointers lead backwards alone, so reading ends; and each name has at most as many as the library reads, so it ends soon. */
 size_t read_name(struct octets all, size_t at, struct name *name) {
-    size_t end = 0, before = at;
+    size_t end = 0, before = at, pointers = 0;
     name->len = 0;
     while (at < all.len && all.data[at] != 0) {
         size_t label = all.data[at];
         if (label >= 0xc0) {
             size_t to = at + 1 < all.len ? (label & 0x3f) << 8 | all.data[at + 1] : all.len;
-            if (to >= before) {
+            if (to >= before || ++pointers > MAX_POINTERS) {
                 return 0;
             }
             end = end != 0 ? end : at + 2;
