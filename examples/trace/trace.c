@@ -36,11 +36,11 @@ static int usage(void) {
           "--server   a resolver, or a server of all the zones on the way, or of one; where one gives no answer the next is asked;\n"
           "           an IPv6 address stands in brackets where a port is behind it, as [::1]:5353\n"
           "--save     writes the messages to a file\n"
-          "--from     takes messages and the moment from such a file; what it lacks is asked for if there is a server\n"
+          "--from     takes messages and the moment from such a file; what is missing there is asked for if there is a server\n"
           "--moment   when signatures are to hold, in seconds since 1970: that of the file, or now, if it is left out\n"
           "\n"
           "Prints the way, zone by zone, and what is said. The status is 0 where that is secure, 3 where it is insecure, 1 where it is\n"
-          "bogus or is not shown, and 2 where an answer lacks or the call cannot be read.\n",
+          "bogus or is not shown, and 2 where an answer is missing or the call cannot be read.\n",
           stderr);
     return FAILED;
 }
