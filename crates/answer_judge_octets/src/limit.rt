@@ -3,6 +3,7 @@ ghost use Rattle.std.specs.Prelude.{◌≡◌, filter, length};
 ghost use Rattle.answer_judge_octets.specs.Replying.{are_too_many, is_carried, most_of, stands_in};
 
 use answer_findings::{Case, CheckedSignature};
+use memchr::memmem;
 
 /// How many signatures may be checked where a case says no number.
 const MOST_SIGNATURES: u32 = 16;
@@ -42,16 +43,10 @@ fn carried(case: &Case, table: &[CheckedSignature]) -> usize
     count
 }
 
-/// Whether octets stand somewhere in others.
+/// Whether octets stand somewhere in others. The search takes time linear in both, whatever they
+/// repeat.
 fn stands_in(octets: &[u8], part: &[u8]) -> bool
     ensures { result ≡ stands_in octets.now part.now }
 {
-    let mut rest = octets;
-    while !rest.starts_with(part) {
-        let Some((_, behind)) = rest.split_first() else {
-            return false;
-        };
-        rest = behind;
-    }
-    true
+    memmem::find(octets, part).is_some()
 }
