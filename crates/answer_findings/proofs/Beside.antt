@@ -1,5 +1,5 @@
 -- The questions that a case's messages are judged for besides its own.
-use Rattle.std.proofs.Common.{◌≡◌, ℕ, Bool, true, false, ◌&&◌, ◌||◌, not, List, [], ◌∷◌, Option, Some, None, refl, subst, ◌∙◌, ◌⊎◌, inl, inr}
+use Rattle.std.proofs.Common.{◌≡◌, ℕ, Bool, true, false, ◌&&◌, not, List, [], ◌∷◌, Option, Some, None, refl, subst, ◌⊎◌, inl, inr}
 use Rattle.std.specs.Prelude.{◌==◌, cond, if◌then◌else◌}
 use Rattle.std.specs.List.{find}
 use Rattle.std.specs.Option.{option_map}
@@ -8,11 +8,11 @@ use Rattle.definitions.specs.Name.{Name, at_or_above, strictly_above}
 use Rattle.denial_laws.proofs.NameFacts.{strictly_at}
 use Rattle.definitions.proofs.ZoneNames.{above_itself}
 use Rattle.messages.specs.Message.{Asked, Spelled}
-use Rattle.answer_judge_keys.specs.Judging.{Answer, JudgeInput}
+use Rattle.answer_judge_keys.specs.Judging.{JudgeInput}
 use Rattle.answer_findings.specs.declared.hints.Hint.TheVariants as hint
 use Rattle.answer_findings.specs.Found.{IsBeside}
 use Rattle.answer_findings.specs.Hints.{answer_records, has_cname_hint, hints_at, owner_hint, stands_at}
-use Rattle.answer_findings.specs.Judgements.{alias_hint, alias_question, asking, cut_question, ds_question, first_question, is_unproven, ns_question, says_delegated, says_no_type, seeks_delegation}
+use Rattle.answer_findings.specs.Judgements.{alias_hint, asking, cut_question}
 
 -- ---- hints
 
@@ -85,19 +85,6 @@ dname_beside h owner inside above = record { above = strictly_at owner h.asked.n
 pub cname_beside : (h : JudgeInput) → at_or_above h.apex h.asked.name ≡ true → IsBeside h (asking h h.asked.name 5)
 cname_beside h inside = record { above = above_itself h.asked.name; inside = inside; class = refl; rtype = inr (inl refl) }
 
-hint_beside : (k : ℕ) (h : JudgeInput) (asked : Asked) → alias_hint k h ≡ Some asked → IsBeside h asked
-hint_beside k h asked e = elim (seeks_alias k h asked e) [
-  | inl s ↦ subst (IsBeside h) s.is (dname_beside h s.owner s.inside s.above)
-  | inr s ↦ subst (IsBeside h) s.is (cname_beside h s.inside)
-]
-
-pub alias_beside : (k : ℕ) (h : JudgeInput) (own : Answer) (asked : Asked) → alias_question k h own ≡ Some asked → IsBeside h asked
-alias_beside k h own asked e = go (is_unproven own) e
-  where
-    go : (b : Bool) → (if b then alias_hint k h else None) ≡ Some asked → IsBeside h asked
-    go true e = hint_beside k h asked e
-    go false e = absurd cc
-
 -- a question at the cut that the answer suggests
 pub record SeeksCut (k : ℕ) (h : JudgeInput) (t : ℕ) (asked : Asked) : Type 0 where
   pub cut : Name
@@ -117,30 +104,5 @@ cut_ns_beside k h c e = let at = cut_above k h c e in record { above = at.1; ins
 pub cut_ds_beside : (k : ℕ) (h : JudgeInput) (c : Name) → owner_hint k h hint.Cut ≡ Some c → IsBeside h (asking h c 43)
 cut_ds_beside k h c e = let at = cut_above k h c e in record { above = at.1; inside = strictly_at h.apex c at.0; class = refl; rtype = inr (inr (inr refl)) }
 
-pub first_beside : (k : ℕ) (h : JudgeInput) (asked : Asked) → first_question k h ≡ Some asked → IsBeside h asked
-first_beside k h asked e = go (alias_hint k h) refl e
-  where
-    go : (o : Option Asked) → alias_hint k h ≡ o → (elim o as (λ _. Option Asked) [ Some a ↦ Some a | None ↦ cut_question k h 43 ]) ≡ Some asked → IsBeside h asked
-    go (Some a) f e = hint_beside k h asked (f ∙ e)
-    go None f e = let s = seeks_cut k h 43 asked e in subst (IsBeside h) s.is (cut_ds_beside k h s.cut s.hint)
-
 pub name_ns_beside : (h : JudgeInput) → strictly_above h.apex h.asked.name ≡ true → IsBeside h (asking h h.asked.name 2)
 name_ns_beside h below = record { above = above_itself h.asked.name; inside = strictly_at h.apex h.asked.name below; class = refl; rtype = inl refl }
-
-pub ns_beside : (k : ℕ) (h : JudgeInput) (own : Answer) (asked : Asked) → ns_question k h own ≡ Some asked → IsBeside h asked
-ns_beside k h own asked e = go (says_delegated own) (seeks_delegation h own) refl e
-  where
-    go : (b c : Bool) → seeks_delegation h own ≡ c → (if b then cut_question k h 2 else if c then Some (asking h h.asked.name 2) else None) ≡ Some asked → IsBeside h asked
-    go true c f e = let s = seeks_cut k h 2 asked e in subst (IsBeside h) s.is (cut_ns_beside k h s.cut s.hint)
-    go false true f e =
-        let below = (and_parts (says_no_type own && (h.asked.rtype == 43)) (strictly_above h.apex h.asked.name) f).1 in
-        let is : asking h h.asked.name 2 ≡ asked = cc in
-        subst (IsBeside h) is (name_ns_beside h below)
-    go false false f e = absurd cc
-
-pub ds_beside : (k : ℕ) (h : JudgeInput) (own : Answer) (leads : Bool) (asked : Asked) → ds_question k h own leads ≡ Some asked → IsBeside h asked
-ds_beside k h own leads asked e = go (says_delegated own || (is_unproven own && not leads)) e
-  where
-    go : (b : Bool) → (if b then cut_question k h 43 else None) ≡ Some asked → IsBeside h asked
-    go true e = let s = seeks_cut k h 43 asked e in subst (IsBeside h) s.is (cut_ds_beside k h s.cut s.hint)
-    go false e = absurd cc

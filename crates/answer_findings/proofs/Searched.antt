@@ -1,13 +1,14 @@
 -- What a search comes to.
-use Rattle.std.proofs.Common.{◌≡◌, Bool, List, Option, Some, None, Result, Ok, Err, IfOk, MatchResult, refl, ap, subst, sym, ◌∙◌, inr}
+use Rattle.std.proofs.Common.{◌≡◌, Bool, List, Option, Some, None, Result, Ok, Err, IfOk, MatchResult, refl, ap, subst, sym, ◌∙◌, inl, inr}
 use Rattle.std.specs.Global.{Vec}
 use Rattle.std.specs.Option.{is_some, option_map}
 use Rattle.std.specs.declared.alloc.AllocError.{AllocError}
 use Rattle.definitions.specs.Limits.{pointer_limit}
 use Rattle.messages.specs.Message.{Asked}
-use Rattle.answer_judge_keys.specs.Judging.{Answer, JudgeInput, answer_of}
+use Rattle.answer_judge_keys.specs.Judging.{JudgeInput, answer_of}
 use Rattle.answer_judge_keys.specs.declared.verdict.Judgement.{Judgement}
 use Rattle.answer_judge_keys.specs.declared.verdict.Refused.{Refused}
+use Rattle.answer_judge_table.specs.Asking.{AreAsked}
 use Rattle.answer_judge_table.specs.Outcomes.{IsJudgedBy, IsOutcome}
 use Rattle.answer_judge_table.specs.Table.{Checked, Tried}
 use Rattle.answer_judge_table.specs.declared.outcome.Outcome.{Outcome}
@@ -17,11 +18,10 @@ use Rattle.answer_findings.specs.declared.finding.Found.{Found}
 use Rattle.answer_findings.specs.declared.finding.Found.TheVariants as f
 use Rattle.answer_findings.specs.declared.made.Judgements.{Judgements}
 use Rattle.answer_findings.specs.declared.made.Made.{Made}
-use Rattle.answer_findings.specs.Found.{AreAskedFor, AreJudgements, ComesTo, IsBeside, IsFound}
+use Rattle.answer_findings.specs.Found.{AreAskedFor, AreJudgements, ComesTo, IsFound, IsSoughtBehind}
 use Rattle.answer_findings.specs.Judgements.{AreAskedAside, IsMadeOf, alias_question, ds_question, first_question, ns_question}
 use Rattle.answer_findings.specs.Seen.{Seen, lead_found, seen}
 use Rattle.answer_findings.specs.Truth.{FindsTruly}
-use Rattle.answer_findings.proofs.Beside.{alias_beside, ds_beside, first_beside, ns_beside}
 use Rattle.answer_findings.proofs.Truly.{found_so}
 
 -- what is found is so of the zone
@@ -52,8 +52,8 @@ pub judged_in : (table : List Checked) (h : JudgeInput) (o : Outcome) (own : Res
 judged_in table h o own e is = subst (IsOutcome table h) e is
 
 pub made_in : (table : List Checked) (h : JudgeInput) (wanted : Option Asked) (o : Result (Option Made) (Vec Tried)) (made : Option Made) → o ≡ Ok made
-    → MatchResult o (IsMadeOf table h wanted) (λ asks. AreAskedFor table h asks.items) → IsMadeOf table h wanted made
-made_in table h wanted o made e is = subst (λ r. MatchResult r (IsMadeOf table h wanted) (λ asks. AreAskedFor table h asks.items)) e is
+    → MatchResult o (IsMadeOf table h wanted) (λ asks. AreAskedAside table h wanted asks.items) → IsMadeOf table h wanted made
+made_in table h wanted o made e is = subst (λ r. MatchResult r (IsMadeOf table h wanted) (λ asks. AreAskedAside table h wanted asks.items)) e is
 
 leads_alike : (lead : Option Finding) (found : Option Seen) → option_map seen lead ≡ found → is_some lead ≡ is_some found
 leads_alike None found e = ap (λ (o : Option Seen). is_some o) e
@@ -69,30 +69,45 @@ are_judgements table h js lead leads own alias e f ns ds =
 
 -- ---- questions beside the case's own
 
--- What comes of a judgement for a question that is wanted, where each that may be wanted stands beside the case's.
-sought : (table : List Checked) (h : JudgeInput) (wanted : Option Asked) → ((asked : Asked) → wanted ≡ Some asked → IsBeside h asked)
-    → (r : Result (Result (Option Made) (Vec Tried)) AllocError)
-    → IfOk r (λ o. MatchResult o (IsMadeOf table h wanted) (λ asks. AreAskedAside table h wanted asks.items))
-    → IfOk r (λ o. MatchResult o (IsMadeOf table h wanted) (λ asks. AreAskedFor table h asks.items))
-sought table h wanted beside (Ok (Ok made)) is = is
-sought table h wanted beside (Ok (Err asks)) is = inr (is.asked, beside is.asked is.is, is.are_asked)
-sought table h wanted beside (Err e) is = tt
+-- what comes of a judgement for a question, if there is one
+abbrev pub Asides : List Checked → JudgeInput → Result (Result (Option Made) (Vec Tried)) AllocError → Option Asked → Type 0
+Asides table h r wanted = IfOk r (λ o. MatchResult o (IsMadeOf table h wanted) (λ asks. AreAskedAside table h wanted asks.items))
 
-module _ (table : List Checked) (h : JudgeInput) (r : Result (Result (Option Made) (Vec Tried)) AllocError) where
-  abbrev pub Asides : Option Asked → Type 0
-  Asides wanted = IfOk r (λ o. MatchResult o (IsMadeOf table h wanted) (λ asks. AreAskedAside table h wanted asks.items))
+-- it is for the question that is wanted
+pub sought : (table : List Checked) (h : JudgeInput) (r : Result (Result (Option Made) (Vec Tried)) AllocError) (asked wanted : Option Asked) → asked ≡ wanted
+    → Asides table h r asked → Asides table h r wanted
+sought table h r asked wanted e is = subst (Asides table h r) e is
 
-  abbrev pub Sought : Option Asked → Type 0
-  Sought wanted = IfOk r (λ o. MatchResult o (IsMadeOf table h wanted) (λ asks. AreAskedFor table h asks.items))
+-- ---- signatures that are asked for
 
-  pub first_sought : (wanted : Option Asked) → wanted ≡ first_question pointer_limit h → Asides wanted → Sought (first_question pointer_limit h)
-  first_sought wanted e is = sought table h (first_question pointer_limit h) (first_beside pointer_limit h) r (subst Asides e is)
+-- a judgement that the table did not suffice for
+pub asks_in : (table : List Checked) (h : JudgeInput) (wanted : Option Asked) (o : Result (Option Made) (Vec Tried)) (asks : Vec Tried) → o ≡ Err asks
+    → MatchResult o (IsMadeOf table h wanted) (λ asks. AreAskedAside table h wanted asks.items) → AreAskedAside table h wanted asks.items
+asks_in table h wanted o asks e is = subst (λ r. MatchResult r (IsMadeOf table h wanted) (λ asks. AreAskedAside table h wanted asks.items)) e is
 
-  pub alias_sought : (own : Answer) (wanted : Option Asked) → wanted ≡ alias_question pointer_limit h own → Asides wanted → Sought (alias_question pointer_limit h own)
-  alias_sought own wanted e is = sought table h (alias_question pointer_limit h own) (alias_beside pointer_limit h own) r (subst Asides e is)
+-- what is asked for before the case itself is judged
+pub own_asked : (table : List Checked) (h : JudgeInput) (first : Option Made) (asks : List Tried) → AreAsked table h asks
+    → IsMadeOf table h (first_question pointer_limit h) first → AreAskedFor table h asks
+own_asked table h first asks are made = inl (record { are_asked = are; first = first; made = made })
 
-  pub ns_sought : (own : Answer) (wanted : Option Asked) → wanted ≡ ns_question pointer_limit h own → Asides wanted → Sought (ns_question pointer_limit h own)
-  ns_sought own wanted e is = sought table h (ns_question pointer_limit h own) (ns_beside pointer_limit h own) r (subst Asides e is)
+pub first_asked : (table : List Checked) (h : JudgeInput) (own asks : List Tried) → AreAsked table h own → AreAskedAside table h (first_question pointer_limit h) asks → AreAskedFor table h asks
+first_asked table h own asks are aside =
+    inr (record { wanted = first_question pointer_limit h; sought = inl (record { own_asks = own; are_asked = are; is = refl }); are = aside })
 
-  pub ds_sought : (own : Answer) (leads : Bool) (wanted : Option Asked) → wanted ≡ ds_question pointer_limit h own leads → Asides wanted → Sought (ds_question pointer_limit h own leads)
-  ds_sought own leads wanted e is = sought table h (ds_question pointer_limit h own leads) (ds_beside pointer_limit h own leads) r (subst Asides e is)
+-- and behind its judgement
+module _ (table : List Checked) (h : JudgeInput) (own : Result Judgement Refused) (judged : IsJudgedBy table h own) (asks : List Tried) where
+  behind : (wanted : Option Asked) → IsSoughtBehind table h (answer_of own) wanted → AreAskedAside table h wanted asks → AreAskedFor table h asks
+  behind wanted is aside = inr (record { wanted = wanted; sought = inr (record { own = own; judged = judged; is = is }); are = aside })
+
+  pub alias_asked : AreAskedAside table h (alias_question pointer_limit h (answer_of own)) asks → AreAskedFor table h asks
+  alias_asked aside = behind (alias_question pointer_limit h (answer_of own)) (inl refl) aside
+
+  module _ (alias : Option Made) (alias_is : IsMadeOf table h (alias_question pointer_limit h (answer_of own)) alias) where
+    pub ns_asked : AreAskedAside table h (ns_question pointer_limit h (answer_of own)) asks → AreAskedFor table h asks
+    ns_asked aside = behind (ns_question pointer_limit h (answer_of own)) (inr (alias, alias_is, inl refl)) aside
+
+    pub ds_asked : (ns : Option Made) → IsMadeOf table h (ns_question pointer_limit h (answer_of own)) ns → (lead : Option Finding) (leads : Bool)
+        → option_map seen lead ≡ lead_found h alias → leads ≡ is_some lead → AreAskedAside table h (ds_question pointer_limit h (answer_of own) leads) asks → AreAskedFor table h asks
+    ds_asked ns ns_is lead leads e f aside =
+        let alike : leads ≡ is_some (lead_found h alias) = f ∙ leads_alike lead (lead_found h alias) e in
+        behind (ds_question pointer_limit h (answer_of own) leads) (inr (alias, alias_is, inr (ns, ns_is, ap (λ (b : Bool). ds_question pointer_limit h (answer_of own) b) alike))) aside

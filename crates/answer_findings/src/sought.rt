@@ -2,9 +2,8 @@
 ghost use Rattle.std.specs.Prelude.{IfOk, MatchResult};
 ghost use Rattle.definitions.specs.Limits.{pointer_limit};
 ghost use Rattle.answer_judge_keys.specs.Judging.{answer_of};
-ghost use Rattle.answer_findings.specs.Found.{AreAskedFor};
-ghost use Rattle.answer_findings.specs.Judgements.{IsMadeOf, alias_question, ds_question};
-ghost use Rattle.answer_findings.specs.Judgements.{first_question, ns_question};
+ghost use Rattle.answer_findings.specs.Judgements.{AreAskedAside, IsMadeOf, alias_question};
+ghost use Rattle.answer_findings.specs.Judgements.{ds_question, first_question, ns_question};
 
 use crate::asked::{alias_question, ds_question, first_question, ns_question};
 use crate::made::{Made, judged_aside};
@@ -20,7 +19,7 @@ pub(crate) fn judged_first(
 ) -> Result<Result<Option<Made>, Vec<Ask>>, AllocError>
     ensures { let wanted = first_question pointer_limit case.now in
         IfOk result (λ r. MatchResult r (IsMadeOf table.now case.now wanted)
-        (λ asks. AreAskedFor table.now case.now asks.items)) }
+        (λ asks. AreAskedAside table.now case.now wanted asks.items)) }
 {
     let question = first_question(alloc, case)?;
     judged_aside(alloc, case, table, question)
@@ -35,7 +34,7 @@ pub(crate) fn judged_alias(
 ) -> Result<Result<Option<Made>, Vec<Ask>>, AllocError>
     ensures { let wanted = alias_question pointer_limit case.now (answer_of own.now) in
         IfOk result (λ r. MatchResult r (IsMadeOf table.now case.now wanted)
-        (λ asks. AreAskedFor table.now case.now asks.items)) }
+        (λ asks. AreAskedAside table.now case.now wanted asks.items)) }
 {
     let question = alias_question(alloc, case, own)?;
     judged_aside(alloc, case, table, question)
@@ -50,7 +49,7 @@ pub(crate) fn judged_ns(
 ) -> Result<Result<Option<Made>, Vec<Ask>>, AllocError>
     ensures { let wanted = ns_question pointer_limit case.now (answer_of own.now) in
         IfOk result (λ r. MatchResult r (IsMadeOf table.now case.now wanted)
-        (λ asks. AreAskedFor table.now case.now asks.items)) }
+        (λ asks. AreAskedAside table.now case.now wanted asks.items)) }
 {
     let question = ns_question(alloc, case, own)?;
     judged_aside(alloc, case, table, question)
@@ -66,7 +65,7 @@ pub(crate) fn judged_ds(
 ) -> Result<Result<Option<Made>, Vec<Ask>>, AllocError>
     ensures { let wanted = ds_question pointer_limit case.now (answer_of own.now) leads in
         IfOk result (λ r. MatchResult r (IsMadeOf table.now case.now wanted)
-        (λ asks. AreAskedFor table.now case.now asks.items)) }
+        (λ asks. AreAskedAside table.now case.now wanted asks.items)) }
 {
     let question = ds_question(alloc, case, own, leads)?;
     judged_aside(alloc, case, table, question)

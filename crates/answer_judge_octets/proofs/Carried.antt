@@ -194,7 +194,7 @@ stay_few most h table answered asks few =
 
 -- A question beside the case's is asked of the same messages.
 pub asks_stay_few : AsksStayFew
-asks_stay_few most h table answered (inl asks) few = stay_few most h table answered asks few
+asks_stay_few most h table answered (inl own) few = stay_few most h table answered own.are_asked few
 asks_stay_few most h table answered (inr beside) few =
-    let stays = stay_few most (aside h beside.0) table answered beside.2 few in
+    let stays = stay_few most (aside h beside.are.asked) table answered beside.are.are_asked few in
     record { counted = stays.counted; few = stays.few }

@@ -39,7 +39,8 @@ pub enum ReplyCode {
     Delegated = 5,
     /// An opt-out chain leaves open what is there.
     Open = 6,
-    /// The DS set is empty, so nothing vouches for the zone's keys.
+    /// The DS set is empty, or no record of it counts (of none is the algorithm checked and the
+    /// digest made), so nothing vouches for the zone's keys.
     Unsigned = 7,
     /// The name has a CNAME record, which leads to another name.
     Alias = 8,

@@ -1,6 +1,10 @@
+use Rattle.definitions.specs.Limits.{pointer_limit}
 use Rattle.answer_judge_keys.specs.Judging.{answer_of}
-use Rattle.answer_findings.proofs.Searched.{alias_sought}
+use Rattle.answer_findings.specs.Judgements.{alias_question}
+use Rattle.answer_findings.proofs.Searched.{sought}
 use Rattle.answer_findings.proofs.sought.judged_alias.Goals as goal
 
 pub returns : goal.returns
-returns c = alias_sought c.args.table.now c.args.case.now c.judged_aside.result (answer_of c.args.own.now) _ c.in_ok-question.ensures c.judged_aside.ensures
+returns c =
+    let wanted = alias_question pointer_limit c.args.case.now (answer_of c.args.own.now) in
+    sought c.args.table.now c.args.case.now c.judged_aside.result _ wanted c.in_ok-question.ensures c.judged_aside.ensures

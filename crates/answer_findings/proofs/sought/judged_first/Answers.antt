@@ -1,5 +1,7 @@
-use Rattle.answer_findings.proofs.Searched.{first_sought}
+use Rattle.definitions.specs.Limits.{pointer_limit}
+use Rattle.answer_findings.specs.Judgements.{first_question}
+use Rattle.answer_findings.proofs.Searched.{sought}
 use Rattle.answer_findings.proofs.sought.judged_first.Goals as goal
 
 pub returns : goal.returns
-returns c = first_sought c.args.table.now c.args.case.now c.judged_aside.result _ c.in_ok-question.ensures c.judged_aside.ensures
+returns c = sought c.args.table.now c.args.case.now c.judged_aside.result _ (first_question pointer_limit c.args.case.now) c.in_ok-question.ensures c.judged_aside.ensures
