@@ -4,4 +4,5 @@ pub mod GivenSorted
 pub mod JudgeKeys
 pub mod KeyClashes
 pub mod KeyPlaces
+pub mod MadeDigests
 pub mod Searching

@@ -17,7 +17,7 @@ find_first p (x ∷ xs) = go (p x) (find_first p xs)
     go true rest = refl
     go false rest = rest
 
-found_passes : {X : Type 0} (p : X → Bool) (xs : List X) (x : X) → find p xs ≡ Some x → p x ≡ true
+pub found_passes : {X : Type 0} (p : X → Bool) (xs : List X) (x : X) → find p xs ≡ Some x → p x ≡ true
 found_passes p [] x e = absurd cc
 found_passes p (y ∷ xs) x e = go (p y) refl e (found_passes p xs x)
   where

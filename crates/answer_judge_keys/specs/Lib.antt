@@ -1,3 +1,4 @@
+pub mod Digests
 pub mod HashRefusal
 pub mod Judging
 pub mod KeyOrder

@@ -1,9 +1,9 @@
 //! The keys of a DNSKEY answer, and which of them are trusted (RFC 4035, 5.2).
-ghost use Rattle.std.specs.Prelude.{◌≡◌, ◌≤◌, IfOk, filter, length, map};
+ghost use Rattle.std.specs.Prelude.{◌≡◌, ◌≤◌, ◌↔◌, Bool, IfOk, IsTrue, Some, filter, length, map};
 ghost use Rattle.std.specs.List.{find, list_any};
-ghost use Rattle.std.specs.Option.{option_map};
-ghost use Rattle.definitions.specs.Dnskey.{dnskey_data, key_tag};
-ghost use Rattle.answer_judge_keys.specs.Trusted.{fits_key, is_usable, is_trusted, matches_key};
+ghost use Rattle.std.specs.Option.{IfSome, option_map};
+ghost use Rattle.definitions.specs.Dnskey.{Dnskey as Key, dnskey_data, key_tag, same_key};
+ghost use Rattle.answer_judge_keys.specs.Trusted.{fits_key, is_usable, is_trusted};
 ghost use Rattle.answer_shared.specs.EqualTags.{clashes, has_equal_tags};
 ghost use Rattle.answer_judge_keys.specs.Judging.{key_at, keys_in};
 ghost use Rattle.messages.specs.Message.{data_of};
@@ -13,10 +13,10 @@ ghost use Rattle.std.specs.List.Sorted.{IsSortedBy};
 ghost use Rattle.std.specs.Ordering.{is_lt};
 
 use crate::check_run::CheckRun;
+use crate::digests::has_matching_ds;
 use crate::trust::Signature;
 use answer_scheme::checks::Checks;
-use answer_scheme::error::SchemeError;
-use answer_shared::dnskey::{Dnskey, ZoneKey, key_of_data};
+use answer_shared::dnskey::{Dnskey, key_of_data};
 use denial_data::Ds;
 use messages::ViewRecord;
 use messages::names::{Name, ToName, ZoneName};
@@ -134,6 +134,23 @@ impl<'a> TaggedKey<'a> {
         ensures { result ≡ fits_key (fields_read signature.now) self.now }
     {
         self.tag == signature.key_tag() && self.dnskey.algorithm() == signature.algorithm()
+    }
+
+    /// Whether another key is the same.
+    fn is_same(&self, other: &TaggedKey) -> bool
+        ensures { result ≡ same_key self.now other.now }
+    {
+        self.dnskey == other.dnskey
+    }
+
+    /// Whether the key is a copy of one, if there is one.
+    fn is_copy_of(&self, other: Option<&TaggedKey>) -> bool
+        ensures { IsTrue result ↔ (option_map (λ k. k.now) other.entry ≡ Some self.now) }
+    {
+        match other {
+            Some(key) => self.is_same(key),
+            None => false,
+        }
     }
 
     /// Whether another key is unlike this one and has its tag.
@@ -322,61 +339,88 @@ pub fn trusted_keys<'a, C: Checks>(
         IfOk result (λ ks. ks.items ≡ filter (is_trusted a apex.now ds.now) keys.now) }
     ensures rest { check_run.new ≡ record check_run.old { octets = check_run.new.octets } }
 {
+    let ranked = ranked_keys(check_run.alloc, keys)?;
+    let named = are_named(apex, ds, &ranked, check_run)?;
     let mut trusted = Vec::new(check_run.alloc);
     for key in keys {
-        if key.is_usable() && has_matching_ds(apex, ds, key, check_run)? {
+        if is_trusted(apex, ds, key, &ranked, &named, check_run)? {
             trusted.push(key.copied())?;
         }
     }
     Ok(trusted)
 }
 
-/// Whether a DS record names a key.
-fn has_matching_ds<C: Checks>(
+/// Whether a key is trusted, beside keys by tag and algorithm of each of which that is known.
+///
+/// Where no two unlike keys have one tag, no key that stands among these is digested again.
+fn is_trusted<C: Checks>(
+    apex: &Name<Vec<u8>>,
+    ds: &[Ds<Vec<u8>>],
+    key: &TaggedKey,
+    ranked: &[TaggedKey],
+    named: &[bool],
+    check_run: &mut CheckRun<C>,
+) -> Result<bool, AllocError>
+    requires { let a = C.answers check_run.old.checks.now in
+        named.now ≡ map (is_trusted a apex.now ds.now) ranked.now }
+    ensures trusted { let a = C.answers check_run.old.checks.now in
+        IfOk result (λ b. b ≡ is_trusted a apex.now ds.now key.now) }
+    ensures rest { check_run.new ≡ record check_run.old { octets = check_run.new.octets } }
+{
+    match known_of(key, ranked, named) {
+        Some(is_known) => Ok(is_known),
+        None => is_named(apex, ds, key, check_run),
+    }
+}
+
+/// What is known of the first of a key's tag and algorithm among keys by these, where it is a copy
+/// of the key.
+fn known_of(key: &TaggedKey, ranked: &[TaggedKey], named: &[bool]) -> Option<bool>
+    ensures { (test : Key → Bool) → named.now ≡ map test ranked.now
+        → IfSome result (λ b. b ≡ test key.now) }
+{
+    let place = ranked.partition_point(|other| other.key_cmp(key).is_lt());
+    let first = ranked.get(place);
+    if key.is_copy_of(first) {
+        return named.get(place).copied();
+    }
+    None
+}
+
+/// Whether each key is trusted. A copy of the key before it is not digested again.
+fn are_named<C: Checks>(
+    apex: &Name<Vec<u8>>,
+    ds: &[Ds<Vec<u8>>],
+    keys: &[TaggedKey],
+    check_run: &mut CheckRun<C>,
+) -> Result<Vec<bool>, AllocError>
+    ensures named { let a = C.answers check_run.old.checks.now in
+        IfOk result (λ v. v.items ≡ map (is_trusted a apex.now ds.now) keys.now) }
+    ensures rest { check_run.new ≡ record check_run.old { octets = check_run.new.octets } }
+{
+    let mut all = Vec::with_capacity(check_run.alloc, keys.len())?;
+    let mut before = None;
+    let mut named = false;
+    for key in keys {
+        if !key.is_copy_of(before) {
+            named = is_named(apex, ds, key, check_run)?;
+        }
+        all.push(named)?;
+        before = Some(key);
+    }
+    Ok(all)
+}
+
+/// Whether a key is usable, and a DS record names it.
+fn is_named<C: Checks>(
     apex: &Name<Vec<u8>>,
     ds: &[Ds<Vec<u8>>],
     key: &TaggedKey,
     check_run: &mut CheckRun<C>,
 ) -> Result<bool, AllocError>
     ensures named { let a = C.answers check_run.old.checks.now in
-        IfOk result (λ b. b ≡ list_any (matches_key a apex.now key.now) ds.now) }
+        IfOk result (λ b. b ≡ is_trusted a apex.now ds.now key.now) }
     ensures rest { check_run.new ≡ record check_run.old { octets = check_run.new.octets } }
 {
-    for record in ds {
-        if matches_key(apex, record, key, check_run)? {
-            return Ok(true);
-        }
-    }
-    Ok(false)
-}
-
-/// Whether one DS record names a key (RFC 4034, 5.1.4).
-///
-/// Anyone can make a key of a tag and an algorithm: the digest alone tells the one that the parent
-/// vouches for.
-fn matches_key<C: Checks>(
-    apex: &Name<Vec<u8>>,
-    ds: &Ds<Vec<u8>>,
-    key: &TaggedKey,
-    check_run: &mut CheckRun<C>,
-) -> Result<bool, AllocError>
-    ensures named { let a = C.answers check_run.old.checks.now in
-        IfOk result (λ b. b ≡ matches_key a apex.now key.now ds.now) }
-    ensures rest { check_run.new ≡ record check_run.old { octets = check_run.new.octets } }
-{
-    if ds.key_tag() != key.tag() || ds.algorithm() != key.dnskey().algorithm() {
-        return Ok(false);
-    }
-    let octets = &mut *check_run.octets;
-    octets.clear();
-    apex.compose_canonical(octets)?;
-    key.dnskey().compose(octets)?;
-    match check_run
-        .checks
-        .digest(check_run.alloc, ds.digest_type(), octets)
-    {
-        Ok(digest) => Ok(digest == *ds.digest()),
-        Err(SchemeError::Failed) => Ok(false),
-        Err(SchemeError::Memory) => Err(AllocError),
-    }
+    Ok(key.is_usable() && has_matching_ds(apex, ds, key, check_run)?)
 }

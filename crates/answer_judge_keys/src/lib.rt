@@ -2,6 +2,7 @@
 #![tactic(auto)]
 
 pub mod check_run;
+mod digests;
 pub mod keys;
 pub mod order;
 pub mod trust;
