@@ -1,43 +1,76 @@
--- Going up the ancestors of a name, each once.
-use Rattle.std.proofs.Common.{◌≡◌, ◌<◌, ◌≤◌, Bool, true, false, ◌||◌, List, [], ◌∷◌, drop, refl, sym, ap, ◌∙◌, subst, arith}
-use Rattle.std.specs.Prelude.{◌↔◌, Option, Some, None, Result, Ok, Err, MatchOption, IfOk, IfSome}
+-- The closest encloser of a name, by how many labels it has.
+use Rattle.std.proofs.Common.{◌≡◌, ℕ, zero, suc, ◌-◌, ◌<◌, ◌≤◌, max, Bool, true, false, ◌||◌, [], ◌∷◌, length, drop, refl, sym, ap, ◌∙◌, subst, arith}
+use Rattle.std.specs.Prelude.{◌↔◌, Option, Some, None, IsNone, Result, Ok, Err, IfOk, IfSome, slice_get}
 use Rattle.std.specs.Option.{option_map}
 use Rattle.definitions.specs.Name.{Name, Label, IsName, wire_len, at_or_above}
 use Rattle.names_labels.specs.Suffixes.{suffixes}
 use Rattle.definitions.specs.Zone.{star_under}
 use Rattle.denial_laws.specs.Facts.{Link}
 use Rattle.denial_laws.specs.NsecRules.{closest}
+use Rattle.denial_laws.specs.Nsec3Rules.{last_labels}
 use Rattle.messages.proofs.NameLaws.{IsName-drop, star_room}
+use Rattle.answer_judge_rules.specs.Enclosers.{shared}
+use Rattle.answer_judge_rules.proofs.SharedLabels.{root_above, shared-le}
 
--- a name that the link shows to exist, or else another
-abbrev pub shown_or : Link → Name → Option Name → Option Name
-shown_or f n rest = elim (at_or_above n f.owner || at_or_above n f.next) [ true ↦ Some n | false ↦ rest ]
+-- ---- it has as many labels as the parent shares with owner or next name
 
--- the first name that the link shows to exist
-abbrev pub first_shown : Link → List Name → Option Name
-first_shown f [] = None
-first_shown f (n ∷ ns) = shown_or f n (first_shown f ns)
+pub closest_labels : (f : Link) (l : Label) (q : Name) → option_map length (closest f (l ∷ q)) ≡ Some (max (shared q f.owner) (shared q f.next))
+closest_labels f l [] = ap (λ (b : Bool). option_map length (elim (b || at_or_above [] f.next) as (λ _. Option Name) [ true ↦ Some [] | false ↦ None ])) (root_above f.owner)
+closest_labels f l (k ∷ r) = step (at_or_above (k ∷ r) f.owner) (at_or_above (k ∷ r) f.next) (closest_labels f k r)
+  where
+    step : (x y : Bool) → option_map length (closest f (k ∷ r)) ≡ Some (max (shared r f.owner) (shared r f.next))
+        → option_map length (elim (x || y) as (λ _. Option Name) [ true ↦ Some (k ∷ r) | false ↦ closest f (k ∷ r) ])
+        ≡ Some (max (elim x as (λ _. ℕ) [ true ↦ length (k ∷ r) | false ↦ shared r f.owner ]) (elim y as (λ _. ℕ) [ true ↦ length (k ∷ r) | false ↦ shared r f.next ]))
+    step true true h = let e : length (k ∷ r) ≡ max (length (k ∷ r)) (length (k ∷ r)) = omega arith in ap (λ (n : ℕ). Some n) e
+    step true false h = let e : length (k ∷ r) ≡ max (length (k ∷ r)) (shared r f.next) = omega (arith, shared-le r f.next) in ap (λ (n : ℕ). Some n) e
+    step false true h = let e : length (k ∷ r) ≡ max (shared r f.owner) (length (k ∷ r)) = omega (arith, shared-le r f.owner) in ap (λ (n : ℕ). Some n) e
+    step false false h = h
 
-above_first : (f : Link) (l : Label) (q : Name) → closest f (l ∷ q) ≡ first_shown f (suffixes q)
-above_first f l [] = refl
-above_first f l (k ∷ q) = ap (shown_or f (k ∷ q)) (above_first f k q)
+pub parent_labels : (f : Link) (n p : Name) (a b m : ℕ) → IsNone (Some p) ↔ (n ≡ []) → p ≡ drop 1 n → a ≡ shared p f.owner → b ≡ shared p f.next → m ≡ max a b → Some m ≡ option_map length (closest f n)
+parent_labels f [] p a b m h e x y z = let none : IsNone (Some p) = h.1 refl in absurd cc
+parent_labels f (l ∷ q) p a b m h e x y z =
+    let is : m ≡ max (shared q f.owner) (shared q f.next) = z ∙ (λ i. max (x i) (y i)) ∙ ap (λ k. max (shared k f.owner) (shared k f.next)) e in
+    ap (λ k. Some k) is ∙ sym (closest_labels f l q)
 
--- the closest encloser is the first ancestor that is shown
-pub closest_above : (f : Link) (n itself : Name) (rest : List Name) → suffixes n ≡ itself ∷ rest → closest f n ≡ first_shown f rest
-closest_above f [] itself rest e = ap (λ ns. first_shown f (drop 1 ns)) e
-closest_above f (l ∷ q) itself rest e = above_first f l q ∙ ap (λ ns. first_shown f (drop 1 ns)) e
+-- it is what the name ends with, and shorter than the name
+pub closest_end : (f : Link) (n e : Name) → closest f n ≡ Some e → (e ≡ last_labels (length e) n) × (length e < length n)
+closest_end f [] e c = absurd cc
+closest_end f (l ∷ q) e c = go (at_or_above q f.owner || at_or_above q f.next) (closest_end f q e) c
+  where
+    go : (b : Bool) → (closest f q ≡ Some e → (e ≡ last_labels (length e) q) × (length e < length q)) → (elim b as (λ _. Option Name) [ true ↦ Some q | false ↦ closest f q ]) ≡ Some e → (e ≡ last_labels (length e) (l ∷ q)) × (length e < length (l ∷ q))
+    go true k d =
+        let is : q ≡ e = cc in
+        let one : 1 ≡ length (l ∷ q) - length q = omega arith in
+        (subst (λ m. m ≡ last_labels (length m) (l ∷ q)) is (ap (λ k. drop k (l ∷ q)) one), omega (arith, ap length is))
+    go false k d =
+        let h = k d in
+        let more : suc (length q - length e) ≡ length (l ∷ q) - length e = omega (arith, h.1) in
+        (h.0 ∙ ap (λ k. drop k (l ∷ q)) more, omega (arith, h.1))
 
--- a name has itself before its ancestors
-some_suffix : (n : Name) → suffixes n ≡ [] → ⊥
-some_suffix [] e = cc
-some_suffix (l ∷ q) e = cc
+suffix_at : (n : Name) (k : ℕ) → k ≤ length n → slice_get (suffixes n) k ≡ Some (drop k n)
+suffix_at [] zero h = refl
+suffix_at [] (suc k) h = absurd (omega arith)
+suffix_at (l ∷ n) zero h = refl
+suffix_at (l ∷ n) (suc k) h = suffix_at n k (omega arith)
 
-pub closest_behind : (f : Link) (n : Name) (first : Option Name) (all rest : List Name) → all ≡ suffixes n → MatchOption first ((all ≡ []) × (rest ≡ [])) (λ itself. all ≡ itself ∷ rest) → closest f n ≡ first_shown f rest
-closest_behind f n None all rest e s = absurd (some_suffix n (sym e ∙ s.0))
-closest_behind f n (Some itself) all rest e s = closest_above f n itself rest (sym e ∙ s)
+module _ (f : Link) (n : Name) (labels : ℕ) where
+  found : (o : Option Name) → closest f n ≡ o → option_map length o ≡ Some labels → slice_get (suffixes n) (length n - labels) ≡ o
+  found None c h = absurd cc
+  found (Some e) c h =
+      let is : length e ≡ labels = cc in
+      let end = closest_end f n e c in
+      suffix_at n (length n - labels) (omega arith) ∙ ap (λ m. Some m) (ap (λ k. last_labels k n) (sym is) ∙ sym end.0)
 
-pub shown_so : (f : Link) (n : Name) (rest : Option Name) (b : Bool) → (at_or_above n f.owner || at_or_above n f.next) ≡ b → shown_or f n rest ≡ (elim b [ true ↦ Some n | false ↦ rest ])
-shown_so f n rest b e = ap (λ (b : Bool). elim b [ true ↦ Some n | false ↦ rest ]) e
+  -- the name that ends with so many labels is the closest encloser
+  pub closest_at : Some labels ≡ option_map length (closest f n) → slice_get (suffixes n) (length n - labels) ≡ closest f n
+  closest_at h = found (closest f n) refl (sym h)
+
+  fewer : (o : Option Name) → closest f n ≡ o → option_map length o ≡ Some labels → labels < length n
+  fewer None c h = absurd cc
+  fewer (Some e) c h = let is : length e ≡ labels = cc in let end = closest_end f n e c in omega (arith, end.1)
+
+  pub closest_fewer : Some labels ≡ option_map length (closest f n) → labels < length n
+  closest_fewer h = fewer (closest f n) refl (sym h)
 
 -- ---- the wildcard under the closest encloser
 

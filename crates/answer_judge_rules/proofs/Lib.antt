@@ -1,4 +1,6 @@
+pub mod SharedLabels
 pub mod Closest
+pub mod Wildcards
 pub mod InTurn
 pub mod Hashers
 pub mod Gaps

@@ -1,3 +1,4 @@
 pub mod Rules
+pub mod Enclosers
 pub mod Hashes
 pub mod Hashing

@@ -9,5 +9,6 @@ mod hash_links;
 mod hashed;
 mod hashing;
 mod links;
+mod shared;
 mod types;
 pub mod verdict;

@@ -1,15 +1,16 @@
 //! What links prove of a name and a type (RFC 4035, 5.4; RFC 4592; RFC 6840, 4.1 and 4.3).
-ghost use Rattle.std.specs.Prelude.{◌≡◌, ◌||◌, IfOk};
+ghost use Rattle.std.specs.Prelude.{◌≡◌, length, IfOk, IfSome};
 ghost use Rattle.std.specs.Option.{option_map};
-ghost use Rattle.definitions.specs.Name.{at_or_above};
 ghost use Rattle.definitions.specs.Zone.{star_under};
 ghost use Rattle.denial_laws.specs.NsecRules.{first_some, at_owner, below_cut, redirects, link_covers, closest, at_star, covered, denied};
+ghost use Rattle.answer_judge_rules.specs.Enclosers.{told_of_star, IsUntold};
 ghost use Rattle.answer_judge_rules.specs.Rules.{verdict_of};
 
 use crate::facts::NsecLink;
+use crate::shared::shared_labels;
 use crate::types::{at_name, is_cut, star_lacks};
 use crate::verdict::Verdict;
-use messages::names::{Name, Octets, ToName, ZoneName, is_above, is_at_or_above};
+use messages::names::{Name, ToName, ZoneName, is_above};
 use names_rdata::rtype::Rtype;
 use std::alloc::{AllocError, Global};
 
@@ -67,12 +68,14 @@ impl<'a> NsecLink<'a> {
         None
     }
 
-    /// Whether owner or next name shows that an ancestor exists.
-    fn shows<Octs: Octets>(&self, ancestor: &Name<Octs>) -> bool
-        ensures { result
-            ≡ (at_or_above ancestor.now self.now.owner || at_or_above ancestor.now self.now.next) }
+    /// How many labels the closest encloser of a name that the link covers has: an ancestor exists
+    /// where owner or next name is at or below it.
+    fn encloser_labels(&self, name: &Name<Vec<u8>>) -> Option<usize>
+        ensures { result ≡ option_map length (closest self.now name.now) }
     {
-        is_at_or_above(ancestor, &self.owner) || is_at_or_above(ancestor, self.next())
+        let parent = name.parent()?;
+        let labels = shared_labels(&parent, &self.owner);
+        Some(labels.max(shared_labels(&parent, self.next())))
     }
 
     /// The closest encloser of a name that the link covers.
@@ -82,14 +85,8 @@ impl<'a> NsecLink<'a> {
     pub(crate) fn closest<'n>(&self, name: &'n Name<Vec<u8>>) -> Option<Name<&'n [u8]>>
         ensures { result ≡ closest self.now name.now }
     {
-        let mut ancestors = name.iter_suffixes();
-        let _itself = ancestors.next();
-        for ancestor in ancestors {
-            if self.shows(&ancestor) {
-                return Some(ancestor);
-            }
-        }
-        None
+        let labels = self.encloser_labels(name)?;
+        name.iter_suffixes().nth(name.depth() - labels)
     }
 
     /// The wildcard under the closest encloser of a name. There is room for it: the encloser is at
@@ -132,11 +129,8 @@ impl<'a> NsecLink<'a> {
         })
     }
 
-    /// What the link, with the others, says of a name that it covers.
-    ///
-    /// A next name below the name shows that the name exists: its absence would deny what stands
-    /// under it (RFC 4592, 2.2.2).
-    fn covered(
+    /// What the links say of the wildcard under the closest encloser of a name.
+    fn told_of_wildcard(
         &self,
         alloc: Global,
         apex: &Name<Vec<u8>>,
@@ -144,8 +138,35 @@ impl<'a> NsecLink<'a> {
         name: &Name<Vec<u8>>,
         rtype: Rtype,
     ) -> Result<Option<Verdict>, AllocError>
-        ensures { IfOk result
+        ensures { IfOk result (λ v. option_map verdict_of v
+            ≡ told_of_star apex.now rtype links.now (closest self.now name.now)) }
+    {
+        match self.wildcard(alloc, name)? {
+            None => Ok(None),
+            Some(star) => Ok(first_at_star(apex, links, &star, rtype)),
+        }
+    }
+
+    /// What the link, with the others, says of a name that it covers.
+    ///
+    /// A next name below the name shows that the name exists: its absence would deny what stands
+    /// under it (RFC 4592, 2.2.2).
+    ///
+    /// `sought` is how many labels an encloser has whose wildcard no link tells of. That wildcard is
+    /// not sought again: otherwise each copy of a record would cost a look at all links.
+    fn covered(
+        &self,
+        alloc: Global,
+        apex: &Name<Vec<u8>>,
+        links: &[NsecLink],
+        name: &Name<Vec<u8>>,
+        rtype: Rtype,
+        sought: &mut Option<usize>,
+    ) -> Result<Option<Verdict>, AllocError>
+        requires { IfSome sought.old (IsUntold apex.now name.now rtype links.now) }
+        ensures verdict { IfOk result
             (λ v. option_map verdict_of v ≡ covered apex.now name.now rtype links.now self.now) }
+        ensures sought { IfSome sought.new (IsUntold apex.now name.now rtype links.now) }
     {
         if !self.covers(apex, name) {
             return Ok(None);
@@ -153,10 +174,16 @@ impl<'a> NsecLink<'a> {
         if is_above(name, self.next()) {
             return Ok(Some(Verdict::NoType));
         }
-        match self.wildcard(alloc, name)? {
-            None => Ok(None),
-            Some(star) => Ok(first_at_star(apex, links, &star, rtype)),
+        let encloser = self.encloser_labels(name);
+        let was_sought = encloser == *sought;
+        if was_sought {
+            return Ok(None);
         }
+        let told = self.told_of_wildcard(alloc, apex, links, name, rtype)?;
+        if told.is_none() {
+            *sought = encloser;
+        }
+        Ok(told)
     }
 }
 
@@ -213,6 +240,9 @@ fn first_below_cut(
 }
 
 /// What the first link that covers a name and tells of it says.
+///
+/// At most two wildcards are sought: a link that covers the name and shares fewer labels with it
+/// covers the wildcard under each ancestor with more.
 fn first_covered(
     alloc: Global,
     apex: &Name<Vec<u8>>,
@@ -223,8 +253,9 @@ fn first_covered(
     ensures { IfOk result (λ v. option_map verdict_of v
         ≡ first_some (covered apex.now name.now rtype links.now) links.now) }
 {
+    let mut sought = None;
     for link in links {
-        if let Some(verdict) = link.covered(alloc, apex, links, name, rtype)? {
+        if let Some(verdict) = link.covered(alloc, apex, links, name, rtype, &mut sought)? {
             return Ok(Some(verdict));
         }
     }

@@ -1,23 +1,24 @@
-use Rattle.std.proofs.Common.{true, false, sym, ap, ◌∙◌}
-use Rattle.answer_judge_rules.proofs.Closest.{first_shown, closest_behind, shown_so}
+use Rattle.std.proofs.Common.{◌≡◌, ◌-◌, ◌<◌, length, refl, sym, ap, ◌∙◌, arith}
+use Rattle.std.specs.Prelude.{Option, Some, None, slice_get}
+use Rattle.std.specs.Option.{option_map}
+use Rattle.std.proofs.lemmas.Iterator.Consumers.{nth_from_yields_List, YieldsList-from_first}
+use Rattle.definitions.specs.Name.{Name}
+use Rattle.names_labels.specs.Suffixes.{suffixes}
+use Rattle.answer_judge_rules.proofs.Closest.{closest_at, closest_fewer}
 use Rattle.answer_judge_rules.proofs.facts.NsecLink.closest.Goals as goal
 
-pub loop-ancestor-init : goal.loop-ancestor-init
-loop-ancestor-init c =
-    closest_behind c.args.self.now c.args.name.now c.next-itself.result c.iter_suffixes-ancestors.result c.next-itself.new.self c.iter_suffixes-ancestors.ensures c.next-itself.ensures.steps
-    ∙ ap (first_shown c.args.self.now) (sym c.into_iter-ancestor-iterator.ensures.into_iter_gives)
+itself : (o : Option Name) → option_map (λ n. n) o ≡ o
+itself None = refl
+itself (Some n) = refl
 
-pub returns-then-shows : goal.returns-then-shows
-returns-then-shows c =
-    let f = c.args.self.now in
-    sym (c.loop-ancestor.invariant ∙ ap (first_shown f) c.in-Some.ensures.steps
-    ∙ shown_so f c.in-Some.ancestor (first_shown f c.next.new.self) true (sym c.shows.ensures ∙ c.if-shows.true))
-
-pub loop-ancestor-preserved : goal.loop-ancestor-preserved
-loop-ancestor-preserved c =
-    let f = c.args.self.now in
-    c.loop-ancestor.invariant ∙ ap (first_shown f) c.in-Some.ensures.steps
-    ∙ shown_so f c.in-Some.ancestor (first_shown f c.next.new.self) false (sym c.shows.ensures ∙ c.if-shows.false)
+pub overflow_sub-depth : goal.overflow_sub-depth
+overflow_sub-depth c =
+    let less : c.in_ok-labels.labels < length c.args.name.now = closest_fewer c.args.self.now c.args.name.now c.in_ok-labels.labels c.in_ok-labels.ensures in
+    omega (arith, c.depth.ensures)
 
 pub returns : goal.returns
-returns c = sym (c.loop-ancestor.invariant ∙ ap (first_shown c.args.self.now) c.in-None.ensures.steps.0)
+returns c =
+    sym (itself c.nth.result)
+    ∙ nth_from_yields_List {v = λ n. n} c.nth.result c.nth.new.self (c.depth.result - c.in_ok-labels.labels) c.nth.ensures.ran (YieldsList-from_first (λ n. n) (λ names. names) (suffixes c.args.name.now) c.iter_suffixes.ensures)
+    ∙ ap (λ k. slice_get (suffixes c.args.name.now) (k - c.in_ok-labels.labels)) c.depth.ensures
+    ∙ closest_at c.args.self.now c.args.name.now c.in_ok-labels.labels c.in_ok-labels.ensures
