@@ -94,6 +94,14 @@ def link(place):
     return [record(label(place) + APEX, NSEC, APEX + b"\0\1\x40")]
 
 
+def covering(place):
+    """An NSEC record that covers the name that is asked for, and not the wildcard beside it."""
+    return [record(b"\1" + b"0" + APEX, NSEC, b"\1b" + APEX + b"\0\1\x40")]
+
+
+COVERING = [verified(b"\1" + b"0" + APEX, b"\1" + b"0", NSEC, b"\1b" + name("example") + b"\0\1\x40")]
+
+
 def signed_link(place):
     signs = verified(label(place) + APEX, label(place), NSEC, name("example") + b"\0\1\x40")
     return [*link(place), signs]
@@ -145,6 +153,11 @@ def with_address(size, made):
     return with_two(size, made, ADDRESS)
 
 
+def with_signature(size, made):
+    """The same, in front the signature of the NSEC record that covers the name."""
+    return with_two(size, made, COVERING)
+
+
 def alike(size, made):
     """A DNSKEY answer of as many keys as fit, which no key signs."""
     count = (size - 27) // 18 - 1
@@ -161,6 +174,7 @@ ROWS = (
     ("NSEC records, each of another owner", with_two, link),
     ("NSEC records, each with a signature that does not verify it", with_two, unsigned_link),
     ("NSEC records, each verified", with_two, signed_link),
+    ("copies of one NSEC record, verified, that covers the name", with_signature, covering),
     ("NSEC3 records, each of another owner", with_two, hash_link),
     ("NSEC3 records, each verified", with_two, signed_hash_link),
     ("keys with different tags, unsigned", alike, None),
