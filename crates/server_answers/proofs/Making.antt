@@ -1,11 +1,11 @@
 -- Messages that are made, and what becomes of them.
-use Rattle.std.proofs.Common.{◌≡◌, ◌∙◌, ℕ, Bool, true, false, List, Vec, refl, sym, ap, subst, inl, inr}
+use Rattle.std.proofs.Common.{◌≡◌, ◌∙◌, ℕ, ◌<◌, Bool, true, false, List, Vec, length, refl, sym, ap, subst, inl, inr}
 use Rattle.std.specs.declared.alloc.Global.{Global}
 use Rattle.std.specs.Prelude.{MatchBool, Option, Result, Ok, Err, IfErr, IfOk, IsOk, OnErr}
 use Rattle.definitions.specs.Limits.{pointer_limit}
 use Rattle.messages.specs.Message.{Asked, Message, message}
 use Rattle.messages.specs.declared.error.MessageError.{MessageError}
-use Rattle.answer_publisher.specs.Inputs.{answer_inputs, keys_inputs}
+use Rattle.answer_publisher.specs.Inputs.{Input, answer_inputs, keys_inputs}
 use Rattle.answer_publisher.specs.declared.publishing.Publisher.{Publisher}
 use Rattle.answer_publisher.specs.declared.fault.AnswerFault.{AnswerFault}
 use Rattle.server_queries.specs.Queries.{Queried}
@@ -38,13 +38,13 @@ of_err (Err e) p = p
 pub by_table : (s : Serving) (asked : Asked) (old new : Option ℕ) (r : Result Signed AnswerFault) → IfOk r (IsSigned s.table (AnswersEach s.table s.world s.keys s.at asked) (answer_inputs s.world s.keys s.at asked))
     → IfErr r (RefusesEach s.table s.world s.keys s.at asked) → new ≡ latest_after r old s.at → Makes s asked false true old new r
 by_table s asked old new (Ok (signed.Message m)) is refused noted_is = (is, noted_is)
-by_table s asked old new (Ok (signed.Missing v)) is refused noted_is = (refl, is, noted_is)
+by_table s asked old new (Ok (signed.Missing v)) is refused noted_is = (refl, is.0, is.1, noted_is)
 by_table s asked old new (Err f) is refused noted_is = (refused, noted_is)
 
 pub keys_by_table : (s : Serving) (asked : Asked) (old : Option ℕ) (r : Result Signed AnswerFault) → IfOk r (IsSigned s.table (AnswersKeysEach s.table s.world s.keys s.at) (keys_inputs s.world s.keys s.at))
     → IfErr r (RefusesKeysEach s.table s.world s.keys s.at) → Makes s asked true true old old r
 keys_by_table s asked old (Ok (signed.Message m)) is refused = (is, refl)
-keys_by_table s asked old (Ok (signed.Missing v)) is refused = (refl, is, refl)
+keys_by_table s asked old (Ok (signed.Missing v)) is refused = (refl, is.0, is.1, refl)
 keys_by_table s asked old (Err f) is refused = (refused, refl)
 
 -- ---- messages read
@@ -68,7 +68,7 @@ reads_whole s asked keys dnssec_ok old new (Err f) h = tt
 pub was_noted : (s : Serving) (asked : Asked) (keys dnssec_ok : Bool) (old new : Option ℕ) (r : Result Signed AnswerFault) → Makes s asked keys dnssec_ok old new r → IsOrWasNoted s.at old new
 was_noted s asked true dnssec_ok old new (Ok (signed.Message m)) h = inl h.1
 was_noted s asked false dnssec_ok old new (Ok (signed.Message m)) h = inr h.1
-was_noted s asked keys dnssec_ok old new (Ok (signed.Missing v)) h = inl h.2
+was_noted s asked keys dnssec_ok old new (Ok (signed.Missing v)) h = inl h.3
 was_noted s asked keys dnssec_ok old new (Err f) h = inl h.1
 
 pub is_answered : (s : Serving) (q : Queried) (old new : Option ℕ) (made : Result Signed AnswerFault) (r : Response) → Makes s q.asked (is_for_keys s.world.zone.apex q.asked) (is_dnssec_ok q) old new made → IsMadeOf s.limit s.size q s.addresses made r
@@ -76,7 +76,9 @@ pub is_answered : (s : Serving) (q : Queried) (old new : Option ℕ) (made : Res
 is_answered s q old new (Ok (signed.Message m)) (response.Reply v) h k = inl (record { m = m.items; is_message = h.0; answers = k; noted_is = h.1 })
 is_answered s q old new (Ok (signed.Message m)) response.Nothing h k = absurd k
 is_answered s q old new (Ok (signed.Message m)) (response.Sign v) h k = absurd k
-is_answered s q old new (Ok (signed.Missing inputs)) (response.Sign v) h k = (h.0, ap (λ x. x.items) k ∙ h.1, h.2)
+is_answered s q old new (Ok (signed.Missing inputs)) (response.Sign v) h k =
+    let is : v.items ≡ inputs.items = ap (λ x. x.items) k in
+    (h.0, is ∙ h.1, subst (λ (l : List Input). 0 < length l) (sym is) h.2, h.3)
 is_answered s q old new (Ok (signed.Missing inputs)) response.Nothing h k = absurd k
 is_answered s q old new (Ok (signed.Missing inputs)) (response.Reply v) h k = absurd k
 is_answered s q old new (Err f) (response.Reply v) h k = inr (record { f = f; is_fault = h.0; enough_memory = k.0; octets_are = k.1; unchanged = h.1 })
@@ -98,7 +100,9 @@ module _ (s : Serving) (q : Queried) (old new : Option ℕ) where
 
   pub unheld_answered : (made : Result Signed AnswerFault) (r : Response) → Makes s (reserved q.asked) false (is_dnssec_ok q) old new made → IsMadeUnheld s.limit s.size q s.addresses made r → AnswersUnheld s q old new r
   unheld_answered (Ok (signed.Message m)) r h k = denied m r h.0 h.1 (has_answers m.items) refl k
-  unheld_answered (Ok (signed.Missing inputs)) (response.Sign v) h k = (h.0, ap (λ x. x.items) k ∙ h.1, h.2)
+  unheld_answered (Ok (signed.Missing inputs)) (response.Sign v) h k =
+      let is : v.items ≡ inputs.items = ap (λ x. x.items) k in
+      (h.0, is ∙ h.1, subst (λ (l : List Input). 0 < length l) (sym is) h.2, h.3)
   unheld_answered (Ok (signed.Missing inputs)) response.Nothing h k = absurd k
   unheld_answered (Ok (signed.Missing inputs)) (response.Reply v) h k = absurd k
   unheld_answered (Err f) (response.Reply v) h k = inr (inr (record { f = f; is_fault = h.0; enough_memory = k.0; octets_are = k.1; unchanged = h.1 }))

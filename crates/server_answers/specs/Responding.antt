@@ -1,5 +1,5 @@
 -- What a server answers to a query.
-use Rattle.std.specs.Prelude.{◌≡◌, ◌≢◌, ◌⊎◌, ℕ, Bool, true, false, ◌&&◌, ◌==◌, List, Option}
+use Rattle.std.specs.Prelude.{◌≡◌, ◌≢◌, ◌⊎◌, ℕ, ◌<◌, Bool, true, false, ◌&&◌, ◌==◌, List, length, Option}
 use Rattle.definitions.specs.Name.{Name, same}
 use Rattle.messages.specs.HandedRr.{HandedRr}
 use Rattle.messages.specs.Message.{Asked}
@@ -86,10 +86,10 @@ pub record IsFailed (s : Serving) (q : Queried) (old new : Option ℕ) (octets :
   pub octets_are : octets ≡ error_response s.size q (rcode_of f)
   pub unchanged : new ≡ old
 
--- What answers a query by what the zone holds: a reply; or, with DO, a wish for all signatures that the table lacks. `old` and `new`
--- are the greatest seconds of an answer before the call and behind it.
+-- What answers a query by what the zone holds: a reply; or, with DO, a wish for all signatures that the table lacks, one at least.
+-- `old` and `new` are the greatest seconds of an answer before the call and behind it.
 abbrev pub AnswersHeld : Serving → Queried → Option ℕ → Option ℕ → Response → Type 0
 AnswersHeld s q old new Nothing = ⊥
 AnswersHeld s q old new (Reply v) = IsAnswered s q old new v.items ⊎ IsFailed s q old new v.items
 AnswersHeld s q old new (Sign v) =
-    (is_dnssec_ok q ≡ true) × (v.items ≡ missing s.table (inputs_for s q.asked (is_for_keys s.world.zone.apex q.asked))) × (new ≡ old)
+    (is_dnssec_ok q ≡ true) × (v.items ≡ missing s.table (inputs_for s q.asked (is_for_keys s.world.zone.apex q.asked))) × (0 < length v.items) × (new ≡ old)

@@ -1,5 +1,5 @@
 -- What a server answers to questions for types of which no accepted zone holds a record.
-use Rattle.std.specs.Prelude.{◌≡◌, ◌≢◌, ◌⊎◌, MatchBool, ℕ, Bool, true, false, not, ◌&&◌, ◌||◌, ◌==◌, List, [], ◌∷◌, Option, Result, Ok, Err, nat_lt, slice_index}
+use Rattle.std.specs.Prelude.{◌≡◌, ◌≢◌, ◌⊎◌, MatchBool, ℕ, ◌<◌, Bool, true, false, not, ◌&&◌, ◌||◌, ◌==◌, List, [], ◌∷◌, length, Option, Result, Ok, Err, nat_lt, slice_index}
 use Rattle.definitions.specs.Name.{Name, same}
 use Rattle.messages.specs.HandedRr.{HandedRr, among}
 use Rattle.messages.specs.Message.{Asked}
@@ -65,8 +65,8 @@ pub record IsUnmade (s : Serving) (q : Queried) (old new : Option ℕ) (octets :
   pub octets_are : octets ≡ error_response s.size q (rcode_of f)
   pub unchanged : new ≡ old
 
--- what answers such a question: a reply; or, with DO, a wish for all signatures that the table lacks
+-- what answers such a question: a reply; or, with DO, a wish for all signatures that the table lacks, one at least
 abbrev pub AnswersUnheld : Serving → Queried → Option ℕ → Option ℕ → Response → Type 0
 AnswersUnheld s q old new Nothing = ⊥
 AnswersUnheld s q old new (Reply v) = IsDenied s q old new v.items ⊎ (IsRefused s q old new v.items ⊎ IsUnmade s q old new v.items)
-AnswersUnheld s q old new (Sign v) = (is_dnssec_ok q ≡ true) × (v.items ≡ missing s.table (inputs_for s (reserved q.asked) false)) × (new ≡ old)
+AnswersUnheld s q old new (Sign v) = (is_dnssec_ok q ≡ true) × (v.items ≡ missing s.table (inputs_for s (reserved q.asked) false)) × (0 < length v.items) × (new ≡ old)

@@ -1,2 +1,3 @@
 pub mod Signing
 pub mod EachScheme
+pub mod Wanting

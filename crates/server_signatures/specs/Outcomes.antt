@@ -1,5 +1,5 @@
 -- What comes of an answer that is signed by a table.
-use Rattle.std.specs.Prelude.{◌≡◌, ◌≢◌, ℕ, Bool, true, false, List, Option, Result, Ok, Err}
+use Rattle.std.specs.Prelude.{◌≡◌, ◌≢◌, ℕ, ◌<◌, Bool, true, false, List, length, Option, Result, Ok, Err}
 use Rattle.definitions.specs.Dnskey.{Dnskey}
 use Rattle.messages.specs.Message.{Asked}
 use Rattle.answer_publisher_keys.specs.Bindings.{ZoneKeys}
@@ -41,10 +41,10 @@ abbrev pub is_sign_failed : AnswerFault → Bool
 is_sign_failed SignFailed = true
 is_sign_failed _ = false
 
--- a message that is such, or what is missing: those of some inputs that the table lacks
+-- a message that is such, or what is missing: those of some inputs that the table lacks, one at least
 abbrev pub IsSigned : List Made → (List ℕ → Type 0) → List Input → Signed → Type 0
 IsSigned table Is inputs (Message m) = Is m.items
-IsSigned table Is inputs (Missing v) = v.items ≡ missing table inputs
+IsSigned table Is inputs (Missing v) = (v.items ≡ missing table inputs) × (0 < length v.items)
 
 -- the greatest second of an answer: a message is noted, and nothing else
 abbrev pub latest_after : Result Signed AnswerFault → Option ℕ → ℕ → Option ℕ

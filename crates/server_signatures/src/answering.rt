@@ -1,9 +1,10 @@
 //! Answers by a table of signatures.
-ghost use Rattle.std.specs.Prelude.{◌≡◌, IfErr, IfOk};
+ghost use Rattle.std.specs.Prelude.{◌≡◌, ◌<◌, IfErr, IfOk, length};
 ghost use Rattle.answer_publisher.specs.Inputs.{answer_inputs, keys_inputs};
 ghost use Rattle.answer_publisher.specs.World.{world_of};
 ghost use Rattle.messages.specs.Questions.{asked_of};
 ghost use Rattle.server_signatures.specs.Outcomes.{AnswersEach, AnswersKeysEach, IsSigned, RefusesEach, RefusesKeysEach, is_sign_failed, latest_after};
+ghost use Rattle.server_signatures.specs.Table.{missing};
 
 use crate::made::MadeSignature;
 use crate::missing::missing;
@@ -27,7 +28,8 @@ pub enum Signed {
 }
 
 /// Answers a question as [`Publisher::answer`] does, signed by a table of signatures that were made
-/// elsewhere. What the table lacks is asked for, all at once, and nothing is noted.
+/// elsewhere. What the table lacks is asked for, all at once, and nothing is noted. Where it lacks
+/// nothing, nothing is asked for.
 ///
 /// A caller begins with no entry, makes what is asked for in any order, puts it into its table and
 /// calls again. Entries of other answers do no harm; of two with one key and octets the first
@@ -59,13 +61,16 @@ pub fn answer_by_table<S: Scheme, H: Nsec3Hasher>(
     }
 }
 
-/// What a table lacks for an answer.
+/// What a table lacks for an answer, where it lacks something.
 fn missing_for<S: Scheme, H: Nsec3Hasher>(
     publisher: &Publisher<'_, S, H>,
     table: &[MadeSignature<'_>],
     question: &Question,
     now: &UnixTime,
 ) -> Result<Signed, AnswerFault>
+    requires { let p = publisher.now in let asked = asked_of question.now in
+        let w = world_of S.signature_of S.verifies S.digest_of H.hash_of p in
+        0 < length (missing table.now (answer_inputs w p.keys now.now asked)) }
     ensures signed { let p = publisher.now in let asked = asked_of question.now in
         let w = world_of S.signature_of S.verifies S.digest_of H.hash_of p in
         let inputs = answer_inputs w p.keys now.now asked in
@@ -107,12 +112,15 @@ pub fn dnskey_answer_by_table<S: Scheme, H: Nsec3Hasher>(
     }
 }
 
-/// What a table lacks for the DNSKEY answer.
+/// What a table lacks for the DNSKEY answer, where it lacks something.
 fn missing_keys_for<S: Scheme, H: Nsec3Hasher>(
     publisher: &Publisher<'_, S, H>,
     table: &[MadeSignature<'_>],
     now: &UnixTime,
 ) -> Result<Signed, AnswerFault>
+    requires { let p = publisher.now in
+        let w = world_of S.signature_of S.verifies S.digest_of H.hash_of p in
+        0 < length (missing table.now (keys_inputs w p.keys now.now)) }
     ensures signed { let p = publisher.now in
         let w = world_of S.signature_of S.verifies S.digest_of H.hash_of p in
         let inputs = keys_inputs w p.keys now.now in

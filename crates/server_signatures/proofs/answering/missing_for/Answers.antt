@@ -1,5 +1,8 @@
+use Rattle.std.proofs.Common.{◌∙◌, ◌<◌, List, ap, length, subst, sym}
+use Rattle.answer_publisher.specs.Inputs.{Input}
 use Rattle.answer_publisher.specs.World.{world_of}
 use Rattle.messages.specs.Questions.{asked_of}
+use Rattle.server_signatures.specs.Table.{missing}
 use Rattle.server_signatures.proofs.EachScheme.{inputs_refused}
 use Rattle.server_signatures.proofs.answering.missing_for.Goals as goal
 
@@ -8,3 +11,8 @@ returns-in-Err-clause-fault g c =
     let p = c.args.publisher.now in
     let w = world_of g.S.Scheme.signature_of g.S.Scheme.verifies g.S.Scheme.digest_of g.H.Nsec3Hasher.hash_of p in
     inputs_refused c.args.table.now w p.keys c.args.now.now (asked_of c.args.question.now) c.in-Err.fault c.in-Err.ensures.fault
+
+pub returns-in-Ok-clause-signed : goal.returns-in-Ok-clause-signed
+returns-in-Ok-clause-signed g c =
+    let is = c.missing.ensures ∙ ap (missing c.args.table.now) c.in-Ok.ensures.inputs in
+    (is, subst (λ (l : List Input). 0 < length l) (sym is) c.requires)
