@@ -49,14 +49,15 @@ struct zermuita_zone_report {
     size_t len;     /* how many octets are told: they stand in front of `out` where there is room for them all */
     size_t line;    /* of a journal that is refused: the line, counted from 1 on; else 0 */
     size_t whole;   /* of a journal: how many octets its whole lines have, those that end in a line feed */
-    size_t settled; /* of a journal: how many octets stand in front of records that wait for their replacement */
+    size_t settled; /* of a journal: how many octets stand up to the last line behind which no records wait for their replacement */
 };
 
 /*
  * Opens a zone that is closed, from its journal: lines as docs/use/SESSIONS.md has them, those of the zone, its records, calls on
  * keys and replacements. ZERMUITA_ZONE_DONE, or ZERMUITA_ZONE_REFUSED at the report's line with what the bench prints in `out`; then
- * the zone stays closed. Octets behind `whole` are a line that is not finished, and were not applied. Octets behind `settled` are
- * records whose replacement is missing: cut the journal there, and open it again.
+ * the zone stays closed. Octets behind `whole` are a line that is not finished, and were not applied. Between `settled` and `whole`
+ * stand records whose replacement is missing: cut the journal at `settled`, and open it again, if no other line was written between
+ * them. A call on keys that stands there was accepted, and a cut would lose it: then take the `rr` lines alone out.
  */
 uint32_t zermuita_zone_open(struct zermuita_zone *zone, const uint8_t *journal, size_t journal_len, uint8_t *out, size_t out_len,
                             struct zermuita_zone_report *report);
@@ -120,9 +121,9 @@ struct zermuita_request {
     struct zermuita_octets request; /* what was received, a whole message */
     struct zermuita_octets made;    /* the signatures that were made for it, as entries back to back, in any order */
     uint64_t now;                   /* the moment of the clock, in seconds since 1970 */
-    uint32_t backdate;              /* the answer is of the moment so many seconds before */
+    uint32_t backdate;              /* the answer is of the moment so many seconds before: fewer than signatures live */
     uint32_t stream;                /* 1: it came by a stream, as TCP; 0: by a datagram */
-    uint16_t limit;                 /* how many octets a response by a datagram has at most */
+    uint16_t limit;                 /* how many octets a response by a datagram has at most; below 512 it counts as 512 */
     uint16_t udp_size;              /* how many octets this server takes by a datagram, as its OPT records say */
 };
 
