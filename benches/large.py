@@ -165,6 +165,13 @@ def alike(size, made):
     return message("example", DNSKEY, keys), message("a.example", A, []), count + 1
 
 
+def copies(size, made):
+    """A DNSKEY answer of as many copies of one key as fit, and as many DS records of its tag that do not name it."""
+    count = (size - 25) // 18
+    keys = [record(QUESTION, DNSKEY, KSK)] * count
+    return message("example", DNSKEY, keys), message("a.example", A, []), count, count
+
+
 ROWS = (
     ("addresses, each of another owner", with_two, owner),
     ("signatures of one RRset, none of which verifies it", with_address, signed),
@@ -178,13 +185,14 @@ ROWS = (
     ("NSEC3 records, each of another owner", with_two, hash_link),
     ("NSEC3 records, each verified", with_two, signed_hash_link),
     ("keys with different tags, unsigned", alike, None),
+    ("copies of one key, unsigned, beside as many DS records of its tag", copies, None),
     ("signed keys with different tags, and signatures of one RRset under other keys", with_keys, unsigned),
 )
 
 
-def judged(keys, answer):
-    """Instructions of a judgement."""
-    lines = [keys.hex(), answer.hex()]
+def judged(keys, answer, _records, others=0):
+    """Instructions of a judgement, beside some DS records that name no key."""
+    lines = [keys.hex(), answer.hex(), str(others)]
     once, more = (counted(BENCH, [f"# judge messages {rounds}", *lines])[0] for rounds in (1, 3))
     return (more - once) / 2
 
@@ -193,9 +201,9 @@ def main():
     build(BENCH)
     print("| a message of 65,535 octets is full of | records | instructions | of half as many | grows by |\n|---|---|---|---|---|")
     for what, made, one in ROWS:
-        (keys, answer, records), half = made(FULL, one), made(FULL // 2, one)
-        whole, less = judged(keys, answer), judged(*half[:2])
-        print(f"| {what} | {records:,} | {whole:,.0f} | {less:,.0f} | {whole / less:.2f} |", flush=True)
+        full, half = made(FULL, one), made(FULL // 2, one)
+        whole, less = judged(*full), judged(*half)
+        print(f"| {what} | {full[2]:,} | {whole:,.0f} | {less:,.0f} | {whole / less:.2f} |", flush=True)
 
 
 if __name__ == "__main__":

@@ -1,7 +1,7 @@
 //! Judgements of whole messages of the zone `example`: its DNSKEY answer stands on the first line,
 //! and its answer for the address of `a.example` on the second, both in hexadecimal. A signature is
 //! a copy of the octets that it is made over, so that verifying costs next to nothing, and a digest
-//! the octet 7.
+//! the octet 7. A third line may have the number of DS records that name no key.
 
 use answer_judge::{Case, judge_with};
 use answer_scheme::error::SchemeError;
@@ -57,7 +57,26 @@ impl Scheme for Copying {
     }
 }
 
-/// What is judged at the moment 1500, beside a DS record of the key whose tag is 1054.
+/// A DS record of the key whose tag is 1054.
+fn ds(alloc: Global, digest: &[u8]) -> Option<Ds<Vec<u8>>> {
+    let (ecdsa, sha256) = (
+        SecurityAlgorithm::from_int(13),
+        DigestAlgorithm::from_int(2),
+    );
+    Ds::new(1054, ecdsa, sha256, digest.to_vec(alloc).ok()?).ok()
+}
+
+/// Some DS records of this tag that name no key, and behind them the one that does.
+fn ds_set(alloc: Global, others: u16) -> Option<Vec<Ds<Vec<u8>>>> {
+    let mut set = Vec::new(alloc);
+    for other in 0..others {
+        set.push(ds(alloc, &other.to_be_bytes())?).ok()?;
+    }
+    set.push(ds(alloc, b"\x07")?).ok()?;
+    Some(set)
+}
+
+/// What is judged at the moment 1500, beside DS records of the key whose tag is 1054.
 #[derive(Drop)]
 struct Asked {
     apex: Name<Vec<u8>>,
@@ -69,16 +88,11 @@ struct Asked {
 
 impl Asked {
     fn read(alloc: Global, lines: &[String]) -> Option<Asked> {
-        let [keys, answer] = lines else {
-            return None;
+        let (keys, answer, others) = match lines {
+            [keys, answer] => (keys, answer, 0),
+            [keys, answer, others] => (keys, answer, others.parse().unwrap_or(0)),
+            _ => return None,
         };
-        let (ecdsa, sha256) = (
-            SecurityAlgorithm::from_int(13),
-            DigestAlgorithm::from_int(2),
-        );
-        let digest = b"\x07".to_vec(alloc).ok()?;
-        let mut set = Vec::new(alloc);
-        set.push(Ds::new(1054, ecdsa, sha256, digest).ok()?).ok()?;
         let question = Question {
             name: Name::vec_from_str(alloc, "a.example.").ok()?,
             rtype: Rtype::A,
@@ -86,7 +100,7 @@ impl Asked {
         };
         Some(Asked {
             apex: Name::vec_from_str(alloc, "example.").ok()?,
-            set,
+            set: ds_set(alloc, others)?,
             question,
             keys: hex::decode(alloc, keys.as_str()).ok()?,
             answer: hex::decode(alloc, answer.as_str()).ok()?,
