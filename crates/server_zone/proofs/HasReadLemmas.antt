@@ -1,8 +1,9 @@
 -- The loop that opens a journal.
-use Rattle.std.proofs.Common.{◌≡◌, ℕ, ◌+◌, ◌≤◌, ◌-◌, Bool, true, false, cond, List, [], ◌∷◌, ◌++◌, length, take, drop, refl, sym, ap, subst, ◌∙◌, arith, append_assoc, append-nil, length-append, Option, Some, None}
+use Rattle.std.proofs.Common.{◌≡◌, ◌⊎◌, ℕ, zero, suc, ◌+◌, ◌<◌, ◌≤◌, ◌-◌, Bool, true, false, ◌||◌, cond, List, [], ◌∷◌, ◌++◌, length, take, drop, refl, sym, ap, subst, ⊎_elim, ◌∙◌, arith, append_assoc, append-nil, length-append, Option, Some, None}
 use Rattle.std.specs.Prelude.{◌==◌}
-use Rattle.std.proofs.Math.Seq.{take-append_seam}
-use Rattle.std.proofs.lemmas.Bool.{false≢true, eqb-true}
+use Rattle.std.proofs.Math.Seq.{take-append-add, take-append_seam}
+use Rattle.std.proofs.lemmas.Bool.{cases_lt, eqb-true, false≢true, or_parts}
+use Rattle.std.proofs.lemmas.List.{length-take-le, take-append-le}
 use Rattle.messages.specs.HandedRr.{HandedRr}
 use Rattle.answer_publisher_keys.specs.Bindings.{Outcome, apply}
 use Rattle.answer_shared.specs.Hashing.{Hasher}
@@ -13,7 +14,7 @@ use Rattle.std.specs.Str.{is_utf8}
 use Rattle.server_zone.specs.Lines.{has_feed, unfinished, whole_lines}
 use Rattle.server_zone.specs.StateLines.{StateLine, Nothing, Added, Replaced, Called, Other, state_line}
 use Rattle.server_zone.specs.States.{Digest, State, after, applied_line, behind_call, digests, made}
-use Rattle.server_zone.specs.Journals.{HasRead, IsOpenError, IsOpening, IsSettledAt, Phase, Empty, Beginning, Running, RefusesBehind, RefusesEnd, RefusesLines, ended, first_line, is_settled, is_there, journal_state, own_line, phase_view, with_line, with_lines}
+use Rattle.server_zone.specs.Journals.{HasRead, IsOpenError, IsOpening, IsSettledAt, NoneSettledBehind, Phase, Empty, Beginning, Running, RefusesBehind, RefusesEnd, RefusesLines, ended, first_line, is_settled, is_there, journal_state, own_line, phase_view, with_line, with_lines}
 use Rattle.server_zone.specs.declared.opening.Phase.{Phase as CodePhase}
 use Rattle.server_zone.specs.declared.refusals.Refusal.{Refusal}
 use Rattle.server_zone.specs.declared.refusals.OpenError.{OpenError}
@@ -47,6 +48,22 @@ cut_front : (journal front behind : List ℕ) (n : ℕ) → journal ≡ front ++
 cut_front journal front behind n e h =
     let size : n ≡ length front = omega (arith, ap length e, length-append front behind) in
     (λ i. take (size i) (e i)) ∙ take-append_seam front behind
+
+-- octets of a line do not end in a line feed
+feedless_front : (n : ℕ) (line : List ℕ) → has_feed line ≡ false → has_feed (take n line) ≡ false
+feedless_front zero line h = refl
+feedless_front (suc n) [] h = refl
+feedless_front (suc n) (c ∷ cs) h =
+    let both = or_parts (c == 10) (has_feed cs) h in
+    λ i. both.0 i || feedless_front n cs both.1 i
+
+ends_inside : (front line behind : List ℕ) (n : ℕ) → unfinished front ≡ [] → has_feed line ≡ false → 0 < n → n ≤ length line → unfinished (take (length front + n) (front ++ (line ++ 10 ∷ behind))) ≡ [] → ⊥
+ends_inside front line behind n whole feedless some inside ends =
+    let cut : take (length front + n) (front ++ (line ++ 10 ∷ behind)) ≡ front ++ take n line =
+    take-append-add front (line ++ 10 ∷ behind) n ∙ ap (λ xs. front ++ xs) (take-append-le n line (10 ∷ behind) inside) in
+    let left : unfinished (front ++ take n line) ≡ take n line = unfinished_append front (take n line) whole ∙ all_unfinished (take n line) (feedless_front n line feedless) in
+    let none : take n line ≡ [] = sym (ap unfinished cut ∙ left) ∙ ends in
+    absurd (omega (arith, some, ap length none, length-take-le n line inside))
 
 module _ {S H : Type 0} (digest : Digest) (scheme : S) (hasher : H) (journal rest line behind : List ℕ) (phase q : CodePhase S H) (number settled : ℕ)
     (p : HasRead digest scheme hasher journal rest phase number settled) (cut : rest ≡ line ++ 10 ∷ behind) (feedless : has_feed line ≡ false)
@@ -85,7 +102,33 @@ module _ {S H : Type 0} (digest : Digest) (scheme : S) (hasher : H) (journal res
     last_settled = s;
     last_there = λ t. t;
     all_settled = λ _. h;
+    none_behind = λ m later inside ends r e. absurd (omega (arith, h, later, inside));
   }
+
+  -- no line ends in front of the line feed of the line that was read, and behind that records are gathered
+  none_ends : is_settled (phase_view q) ≡ false → (n : ℕ) → settled < n → n + length behind ≤ length journal → unfinished (take n journal) ≡ [] → (r : Phase) → with_lines digest Empty (whole_lines (take n journal)) ≡ Some r → is_settled r ≡ false
+  none_ends s n later inside ends r e = ⊎_elim at_end (λ short. ⊎_elim (in_line short) before (cases_lt (length p.front) n)) (cases_lt (length p.front + length line) n)
+    where
+      size : length journal ≡ length p.front + (length line + 1 + length behind)
+      size = omega (arith, ap length p.text_is, length-append p.front rest, shorter)
+
+      at_end : length p.front + length line < n → is_settled r ≡ false
+      at_end past =
+          let whole : n + length behind ≡ length journal = omega (arith, past, inside, size) in
+          let is : Some (phase_view q) ≡ Some r = sym (ap (λ xs. with_lines digest Empty (whole_lines xs)) (cut_front journal next_front behind n next_text whole) ∙ next_accepted) ∙ e in
+          let same : phase_view q ≡ r = cc in
+          sym (ap is_settled same) ∙ s
+
+      in_line : n ≤ length p.front + length line → length p.front < n → is_settled r ≡ false
+      in_line short past =
+          let m = n - length p.front in
+          let is : n ≡ length p.front + m = omega (arith, past) in
+          let text : journal ≡ p.front ++ (line ++ 10 ∷ behind) = p.text_is ∙ ap (λ xs. p.front ++ xs) cut in
+          let there : unfinished (take (length p.front + m) (p.front ++ (line ++ 10 ∷ behind))) ≡ [] = sym (λ i. unfinished (take (is i) (text i))) ∙ ends in
+          absurd (ends_inside p.front line behind m p.whole feedless (omega (arith, past)) (omega (arith, short, past)) there)
+
+      before : n ≤ length p.front → is_settled r ≡ false
+      before early = p.none_behind n later (omega (arith, early, ap length p.text_is, length-append p.front rest)) ends r e
 
   pub progress_gathering : is_settled (phase_view q) ≡ false → HasRead digest scheme hasher journal behind q (number + 1) settled
   unfolding next_front
@@ -103,6 +146,7 @@ module _ {S H : Type 0} (digest : Digest) (scheme : S) (hasher : H) (journal res
     last_settled = p.last_settled;
     last_there = λ _. p.last_there (gathers_behind digest (phase_view phase) (phase_view q) line goes s);
     all_settled = λ t. absurd (cc);
+    none_behind = none_ends s;
   }
 
 -- a line that is refused
@@ -175,3 +219,13 @@ pub settled_ended : (p : Phase) (s : State) → ended p ≡ Some s → (length s
 settled_ended Empty s e h = refl
 settled_ended (Beginning z rs) s e h = refl
 settled_ended (Running r) s e h = let is : r ≡ s = cc in ap (λ (u : State). length u.gathered == 0) is ∙ h
+
+-- behind the last line where no records were gathered none ends where this is so
+pub end_last : {S H : Type 0} (digest : Digest) (scheme : S) (hasher : H) (journal rest : List ℕ) (phase : CodePhase S H) (number settled whole : ℕ)
+    → HasRead digest scheme hasher journal rest phase number settled → whole + length rest ≡ length journal → NoneSettledBehind digest journal settled whole
+end_last digest scheme hasher journal rest phase number settled whole p size n later inside ends at =
+    let lines = with_lines digest Empty (whole_lines (take n journal)) in
+    let b = bind_ok lines ended at.0 at.1 in
+    let none = p.none_behind n later (omega (arith, size, inside)) ends b.0 b.1 in
+    let some = settled_ended b.0 at.0 b.2 (ap (λ (rs : List HandedRr). length rs == 0) at.2) in
+    false≢true (sym none ∙ some)

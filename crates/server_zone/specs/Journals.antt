@@ -1,5 +1,5 @@
 -- Journals: the state that lines give, and why a journal is not opened.
-use Rattle.std.specs.Prelude.{◌≡◌, ℕ, ◌+◌, ◌≤◌, ◌==◌, Bool, true, false, List, [], ◌∷◌, ◌++◌, length, take, map, Option, Some, None, if◌then◌else◌}
+use Rattle.std.specs.Prelude.{◌≡◌, ℕ, ◌+◌, ◌<◌, ◌≤◌, ◌==◌, Bool, true, false, List, [], ◌∷◌, ◌++◌, length, take, map, Option, Some, None, if◌then◌else◌}
 use Rattle.std.specs.Str.{is_utf8}
 use Rattle.messages.specs.HandedRr.{HandedRr, handed_of}
 use Rattle.answer_shared.specs.Hashing.{Hasher}
@@ -98,6 +98,10 @@ is_there (Running s) = true
 abbrev pub IsSettledAt : Digest → List ℕ → ℕ → Type 0
 IsSettledAt digest text at = (s : State) × (journal_state digest (take at text) ≡ Some s) × (s.gathered ≡ [])
 
+-- none of the lines that end behind an octet, up to another, ends where this is so
+abbrev pub NoneSettledBehind : Digest → List ℕ → ℕ → ℕ → Type 0
+NoneSettledBehind digest text at whole = (n : ℕ) → at < n → n ≤ whole → unfinished (take n text) ≡ [] → IsSettledAt digest text n → ⊥
+
 -- A front of a journal was read, so many lines, up to a phase; the phase at an octet in it was the last in which no records were
 -- gathered.
 pub record HasRead {S H : Type 0} (digest : Digest) (scheme : S) (hasher : H) (journal rest : List ℕ) (phase : CodePhase S H) (number settled : ℕ) : Type 0 where
@@ -114,6 +118,8 @@ pub record HasRead {S H : Type 0} (digest : Digest) (scheme : S) (hasher : H) (j
   pub last_settled : is_settled last ≡ true
   pub last_there : is_there (phase_view phase) ≡ true → is_there last ≡ true
   pub all_settled : is_settled (phase_view phase) ≡ true → settled + length rest ≡ length journal
+  pub none_behind : (n : ℕ) → settled < n → n + length rest ≤ length journal → unfinished (take n journal) ≡ []
+      → (q : Phase) → with_lines digest Empty (whole_lines (take n journal)) ≡ Some q → is_settled q ≡ false
 
 -- ---- why a journal is not opened
 

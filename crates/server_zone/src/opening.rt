@@ -3,7 +3,7 @@ ghost use Rattle.std.specs.Prelude.{◌≡◌, ◌++◌, ◌≤◌, ◌==◌, le
 ghost use Rattle.messages.specs.HandedRr.{handed_of};
 ghost use Rattle.answer_zone_records.specs.Faults.{RefusesZone};
 ghost use Rattle.denialbench_session.specs.Readings.{zone_view};
-ghost use Rattle.server_zone.specs.Journals.{HasRead, IsFresh, IsOpenError, IsOpening, IsSettledAt, RefusesBehind, RefusesBeginning, RefusesEnd, RefusesFirst, RefusesOwn, ended, first_line, is_settled, journal_state, own_line, phase_view, ran, with_line, with_own};
+ghost use Rattle.server_zone.specs.Journals.{HasRead, IsFresh, IsOpenError, IsOpening, IsSettledAt, NoneSettledBehind, RefusesBehind, RefusesBeginning, RefusesEnd, RefusesFirst, RefusesOwn, ended, first_line, is_settled, journal_state, own_line, phase_view, ran, with_line, with_own};
 ghost use Rattle.server_zone.specs.Lines.{has_feed, unfinished};
 ghost use Rattle.server_zone.specs.StateLines.{added_in, is_event, line_view};
 ghost use Rattle.server_zone.specs.States.{RefusesLine, RefusesTo, after, applied_line, made, state_of};
@@ -74,6 +74,8 @@ impl<'a, S: Scheme, H: Nsec3Hasher> Zone<'a, S, H> {
             IfOk result (λ o. journal.now ≡ take o.whole journal.now ++ rest) }
         ensures settled { let digest = S.digest_of scheme.now in
             IfOk result (λ o. IsSettledAt digest journal.now o.settled) }
+        ensures last { let digest = S.digest_of scheme.now in
+            IfOk result (λ o. NoneSettledBehind digest journal.now o.settled o.whole) }
         ensures all { IfOk result (λ o. (length o.zone.gathered.items == 0) ≡ true
             → o.settled ≡ o.whole) }
         ensures inside { IfOk result

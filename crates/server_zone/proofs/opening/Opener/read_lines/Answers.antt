@@ -18,6 +18,7 @@ loop-line-init g c = record {
   last_settled = refl;
   last_there = λ t. t;
   all_settled = λ _. omega arith;
+  none_behind = λ n later inside ends q e. absurd (omega (arith, later, inside));
 }
 
 pub loop-line-preserved : goal.loop-line-preserved
