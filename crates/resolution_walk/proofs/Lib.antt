@@ -1,3 +1,4 @@
+pub mod Turning
 pub mod Stopping
 pub mod Onward
 pub mod Truly

@@ -1,12 +1,12 @@
 -- Where evidence leads, turn by turn, and how long that lasts.
-use Rattle.std.proofs.Common.{◌≡◌, ◌<◌, length, arith, Bool, ◌||◌, true, false, ◌&&◌, List, [], ◌∷◌, ◌++◌, Option, Some, None, Result, Ok, Err, IfOk, refl, sym, ap, subst, ◌∙◌, append-nil, append_assoc, drop}
-use Rattle.std.specs.Prelude.{◌==◌, IfNone, IfSome, MatchOption, MatchResult}
+use Rattle.std.proofs.Common.{◌≡◌, ℕ, ◌<◌, length, arith, Bool, ◌||◌, true, false, List, [], ◌∷◌, ◌++◌, Option, Some, None, Result, Ok, Err, IfOk, refl, sym, ap, subst, ◌∙◌, append-nil, append_assoc, drop}
+use Rattle.std.specs.Prelude.{nat_lt, if◌then◌else◌, IfNone, IfSome, MatchOption, MatchResult}
 use Rattle.std.specs.Option.{is_some}
 use Rattle.std.specs.declared.alloc.AllocError.{AllocError}
 use Rattle.std.proofs.lemmas.Bool.{false≢true}
 use Rattle.std.proofs.lemmas.Option.{none-some}
 use Rattle.definitions.specs.Dnskey.{Ds}
-use Rattle.definitions.specs.Name.{Name, same, at_or_above, strictly_above}
+use Rattle.definitions.specs.Name.{Name, same, at_or_above}
 use Rattle.definitions.proofs.ZoneNames.{above_itself}
 use Rattle.denial_laws.specs.Leading.{To, TooLong}
 use Rattle.denial_laws.proofs.NameFacts.{above_trans, strictly_at}
@@ -14,14 +14,15 @@ use Rattle.messages.specs.Message.{Asked}
 use Rattle.resolution_tree.specs.Tree.{Said, Secure, Unsigned, LeftOpen, Leads, leads_on}
 use Rattle.answer_judge_keys.specs.Judging.{JudgeInput}
 use Rattle.answer_judge_keys.specs.declared.verdict.Lasting.{Lasting}
+use Rattle.answer_judge_keys.specs.declared.verdict.Refusal.{Refusal}
 use Rattle.resolution_evidence.specs.Counts.{Counts}
 use Rattle.resolution_evidence.specs.Lasts.{least_of}
-use Rattle.resolution_evidence.specs.Told.{StepSeen, IsCutTelling, IsTelling, at_cut, told}
+use Rattle.resolution_evidence.specs.Told.{StepSeen, TellsNothing, IsCutTelling, IsTelling, at_cut, told}
 use Rattle.resolution_evidence.specs.Telling.{Telling}
 use Rattle.resolution_evidence.specs.Given.{Given, IsOf}
-use Rattle.resolution_evidence.specs.Walking.{Onward, GoesDown, EndsIn, Stops, IsOnward, ByQuestion, ByName, IsOwnStep, IsNameStep, Tells, Ends, Goes, Follows, AtOnce, Led, ds_at, is_asked_of, onward, renamed}
+use Rattle.resolution_evidence.specs.Walking.{Onward, GoesDown, Stops, IsOnward, Tells, Ends, Goes, Follows, AtOnce, Led, is_asked_of, renamed}
 use Rattle.resolution_walk.specs.Ended.{IsWay, IsTurn, IsEnding, IsFollowed, IsWalked, LastsIfSaid, ends_in, lasting_said, leads_to, onward_of, said_of}
-use Rattle.resolution_walk.specs.Stopping.{EndsHere, IsAliasOf, IsLed, IsNoAlias, StopsIn}
+use Rattle.resolution_walk.specs.Stopping.{EndsHere, IsAliasOf, IsLed, IsNoAlias, IsTurnUntold, IsTurnedTo, StopsIn, ending_within}
 use Rattle.resolution_walk.specs.Stopping as stopping
 use Rattle.resolution_walk.specs.Wanted.{IsBetween, IsParent}
 use Rattle.resolution_walk.specs.declared.ending.End.{End}
@@ -30,39 +31,34 @@ use Rattle.resolution_walk.specs.declared.ending.Ending.TheVariants as ends
 use Rattle.resolution_walk.specs.declared.ending.Taken.{Taken}
 use Rattle.resolution_walk.specs.declared.ending.Target.{Target}
 use Rattle.resolution_walk.specs.declared.ending.Walk.{Walk}
+use Rattle.resolution_walk.proofs.Turning.{any_way, name_onward, own_onward, turned_nothing, turned_onward}
 
 module _ (e : Given) (asked : Asked) (zone : Name) (ds : List Ds) where
-  any_way : (o : Onward) (l : Option Lasting) → IsOnward e asked zone ds o l → IsWay e asked zone ds o l
-  any_way (GoesDown c below) l x = x
-  any_way (EndsIn said) l x = x
-  any_way Stops l x = tt
-
-  own_way : (said : StepSeen) (o : Onward) (l : Option Lasting) (n : Counts) → IsOwnStep e zone ds asked said l n → o ≡ onward zone said → IsWay e asked zone ds o l
-  own_way said o l n k is = any_way o l (ByQuestion said n k is)
-
-  name_way : (q : Asked) (said cut_said : StepSeen) (o : Onward) (l : Option Lasting) (n : Counts) → IsBetween zone asked q → IsNameStep e zone ds q said l n → cut_said ≡ at_cut said → o ≡ onward zone cut_said → IsWay e asked zone ds o l
-  name_way q said cut_said o l n b k at is =
-      any_way o l (ByName b.name said n b.below b.above b.other (subst (λ x. IsNameStep e zone ds x said l n) b.is k) (is ∙ ap (onward zone) at))
-
   lasting_way : (t : Taken) (l : Option Lasting) → t.lasting ≡ l → IsWay e asked zone ds (onward_of t.turn) l → IsTurn e asked zone ds t
   lasting_way t l is way = subst (IsWay e asked zone ds (onward_of t.turn)) (sym is) way
 
   pub turned_own : (h : JudgeInput) (t : Telling) (now : StepSeen) (r : Result Taken AllocError) → IsOf e zone ds asked h → IsTelling e.algorithms e.table h t → now ≡ told t.step
-      → IfOk r (λ x. onward_of x.turn ≡ onward zone now) → IfOk r (λ x. x.lasting ≡ t.lasting) → IfOk r (IsTurn e asked zone ds)
-  turned_own h t now (Ok x) of is same leads lasts =
-      lasting_way x t.lasting lasts (own_way (told t.step) (onward_of x.turn) t.lasting t.counts (record { judged = h; of = of; told_is = is }) (leads ∙ ap (onward zone) same))
-  turned_own h t now (Err x) of is same leads lasts = tt
+      → IfOk r (λ x. IsTurnedTo zone ds asked now x.turn) → IfOk r (λ x. x.lasting ≡ t.lasting) → IfOk r (IsTurn e asked zone ds)
+  turned_own h t now (Ok x) of is same turns lasts =
+      let turned = subst (λ (y : StepSeen). IsTurnedTo zone ds asked y x.turn) same turns in
+      let on = own_onward e asked zone ds (told t.step) t.lasting t.counts x.turn (record { judged = h; of = of; told_is = is }) turned in
+      lasting_way x t.lasting lasts (any_way e asked zone ds (onward_of x.turn) t.lasting on)
+  turned_own h t now (Err x) of is same turns lasts = tt
 
   pub turned_at : (q : Asked) (h : JudgeInput) (t : Telling) (now : StepSeen) (r : Result (Result Taken Counts) AllocError) → IsBetween zone asked q → IsOf e zone ds q h → IsCutTelling e.algorithms e.table h t
-      → now ≡ at_cut (told t.step) → IfOk r (λ x. MatchResult x (λ y. onward_of y.turn ≡ onward zone now) (λ n. ⊥)) → IfOk r (λ x. IfOk x (λ y. y.lasting ≡ t.lasting)) → IfOk r (λ x. IfOk x (IsTurn e asked zone ds))
-  turned_at q h t now (Ok (Ok x)) b of is cut leads lasts =
-      lasting_way x t.lasting lasts (name_way q (told t.step) now (onward_of x.turn) t.lasting t.counts b (record { judged = h; of = of; told_is = is }) cut leads)
-  turned_at q h t now (Ok (Err n)) b of is cut leads lasts = tt
-  turned_at q h t now (Err x) b of is cut leads lasts = tt
+      → now ≡ told t.step → now ≡ at_cut (told t.step) → IfOk r (λ x. MatchResult x (λ y. IsTurnedTo zone ds q now y.turn) (λ n. ⊥)) → IfOk r (λ x. IfOk x (λ y. y.lasting ≡ t.lasting))
+      → IfOk r (λ x. IfOk x (IsTurn e asked zone ds))
+  turned_at q h t now (Ok (Ok x)) between of is same cut turns lasts =
+      let on = name_onward e asked zone ds q (told t.step) now t.lasting t.counts x.turn between (record { judged = h; of = of; told_is = is }) same cut turns in
+      lasting_way x t.lasting lasts (any_way e asked zone ds (onward_of x.turn) t.lasting on)
+  turned_at q h t now (Ok (Err n)) between of is same cut turns lasts = tt
+  turned_at q h t now (Err x) between of is same cut turns lasts = tt
 
-  pub stopped : (r : Result Taken AllocError) → IfOk r (λ t. onward_of t.turn ≡ Stops) → IfOk r (IsTurn e asked zone ds)
-  stopped (Ok t) h = subst (λ (o : Onward). IsWay e asked zone ds o t.lasting) (sym h) tt
-  stopped (Err x) h = tt
+  pub stopped : (refusal : Option Refusal) (r : Result Taken AllocError) → IfOk r (λ t. IsTurnUntold zone ds asked refusal t.turn) → IfOk r (IsTurn e asked zone ds)
+  stopped refusal (Ok t) k =
+      let nowhere : onward_of t.turn ≡ Stops = turned_onward zone ds asked (TellsNothing refusal) t.turn (turned_nothing zone ds asked refusal t.turn k) in
+      subst (λ (o : Onward). IsWay e asked zone ds o t.lasting) (sym nowhere) tt
+  stopped refusal (Err x) k = tt
 
   -- ---- ends
 
@@ -112,7 +108,7 @@ walk_ends e asked before end w f same through lasts =
 pub walk_many : (e : Given) (asked : Asked) (before : List Name) (w : Walk) → w.ending ≡ ends.TooManyAliases → IsWalked e asked before w
 walk_many e asked before w same = subst (λ (g : Ending). IfSome (said_of g) (IsFollowed e asked before w.through.items w.lasting)) (sym same) tt
 
-module _ (e : Given) (asked : Asked) (counts : Counts) (t : Target) (k : IsLed e asked counts t) (before longer : List Name) (longer_are : longer ≡ before ++ t.name ∷ []) where
+module _ (e : Given) (asked : Asked) (cuts : ℕ) (counts : Counts) (t : Target) (k : IsLed e asked cuts counts t) (before longer : List Name) (longer_are : longer ≡ before ++ t.name ∷ []) where
   led_so : (through : List Name) (rest all : Option Lasting) (s : Said) → all ≡ least_of t.lasting rest → IsFollowed e (renamed asked t.name) longer through rest s → IsFollowed e asked before through all s
   led_so through rest all s lasts f = record {
     names = t.name ∷ f.names;
@@ -136,28 +132,46 @@ lead_is : (e : Given) (asked : Asked) (n : Name) (o : Option Said) (l : Option L
 lead_is e asked n o l h is = subst (λ (x : Option Said). IfSome x (λ s. Tells e asked s e.anchor e.ds l)) h is
 
 -- what a name's way ends in, by evidence as it is kept
-pub alias_told : (e kept : Given) (asked : Asked) (before : Counts) (end : End) (r : Result Target End) → kept ≡ e → is_asked_of e.anchor asked ≡ true
-    → IsEnding e asked kept.anchor kept.ds end → StopsIn e asked kept.anchor kept.ds before end
-    → MatchResult r (IsAliasOf end) (IsNoAlias end) → MatchResult r (IsLed e asked before) (EndsHere e asked before)
-alias_told e kept asked before end (Ok t) at w leads stops said =
+pub alias_told : (e kept : Given) (asked : Asked) (cuts : ℕ) (before : Counts) (end : End) (r : Result Target End) → kept ≡ e → is_asked_of e.anchor asked ≡ true
+    → IsEnding e asked kept.anchor kept.ds end → StopsIn e asked cuts kept.anchor kept.ds before end
+    → MatchResult r (IsAliasOf end) (IsNoAlias end) → MatchResult r (IsLed e asked cuts before) (EndsHere e asked cuts before)
+alias_told e kept asked cuts before end (Ok t) at w leads stops said =
     let led : IsEnding e asked e.anchor e.ds end = subst (λ (g : Given). IsEnding e asked g.anchor g.ds end) at leads in
-    let here : StopsIn e asked e.anchor e.ds before end = subst (λ (g : Given). StopsIn e asked g.anchor g.ds before end) at stops in
+    let here : StopsIn e asked cuts e.anchor e.ds before end = subst (λ (g : Given). StopsIn e asked cuts g.anchor g.ds before end) at stops in
     record {
       asked_of_it = w;
       tells = subst (Tells e asked (Leads (To t.name)) e.anchor e.ds) (sym said.lasts) (lead_is e asked t.name (said_of end.ending) end.lasting said.says led);
       ending = end.ending;
-      stops = subst (stopping.Stops e asked end.ending e.anchor e.ds before) (sym said.counts_are) here;
+      says = said.says;
+      stops = subst (stopping.Stops e asked end.ending cuts e.anchor e.ds before) (sym said.counts_are) here;
     }
-alias_told e kept asked before end (Err x) at w leads stops said =
+alias_told e kept asked cuts before end (Err x) at w leads stops said =
     let led : IsEnding e asked e.anchor e.ds end = subst (λ (g : Given). IsEnding e asked g.anchor g.ds end) at leads in
-    let here : StopsIn e asked e.anchor e.ds before end = subst (λ (g : Given). StopsIn e asked g.anchor g.ds before end) at stops in
+    let here : StopsIn e asked cuts e.anchor e.ds before end = subst (λ (g : Given). StopsIn e asked cuts g.anchor g.ds before end) at stops in
     let led_x : IsEnding e asked e.anchor e.ds x = subst (IsEnding e asked e.anchor e.ds) (sym said.0) led in
     record {
       says = says_here e asked (said_of x.ending) x.lasting w led_x said.1;
-      stops = stopping.AtOnce w (subst (StopsIn e asked e.anchor e.ds before) (sym said.0) here);
+      stops = λ aliases. stopping.AtOnce w (subst (StopsIn e asked cuts e.anchor e.ds before) (sym said.0) here);
     }
 
 -- ---- what says nothing
+
+-- the limit of messages ends nothing that is said
+pub said_within : (most : ℕ) (e : Given) (ending : Ending) → said_of (ending_within most e ending) ≡ said_of ending
+said_within most e (ends.Wants ws) = go (nat_lt (length e.messages) most)
+  where
+    go : (b : Bool) → said_of (if b then ends.Wants ws else ends.TooManyMessages) ≡ None
+    go true = refl
+    go false = refl
+said_within most e _ = refl
+
+pub within_walked : (e : Given) (asked : Asked) (walk w : Walk) → said_of w.ending ≡ said_of walk.ending → w.through.items ≡ walk.through.items → w.lasting ≡ walk.lasting → IsWalked e asked [] walk → IsWalked e asked [] w
+within_walked e asked walk w said through lasts k =
+    let by_said : IfSome (said_of w.ending) (IsFollowed e asked [] walk.through.items walk.lasting) =
+    subst (λ (o : Option Said). IfSome o (IsFollowed e asked [] walk.through.items walk.lasting)) (sym said) k in
+    let by_names : IfSome (said_of w.ending) (IsFollowed e asked [] w.through.items walk.lasting) =
+    subst (λ (ns : List Name). IfSome (said_of w.ending) (IsFollowed e asked [] ns walk.lasting)) (sym through) by_said in
+    subst (λ (l : Option Lasting). IfSome (said_of w.ending) (IsFollowed e asked [] w.through.items l)) (sym lasts) by_names
 
 pub kept_said : (o : Option Said) (l : Option Lasting) → is_some o ≡ true → l ≡ lasting_said o l
 kept_said (Some s) l is = refl

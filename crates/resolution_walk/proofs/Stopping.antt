@@ -1,24 +1,23 @@
 -- Where a way stops, and what is counted, turn by turn.
-use Rattle.std.proofs.Common.{◌≡◌, true, false, ◌&&◌, List, [], ◌∷◌, ◌++◌, drop, Option, Some, None, Result, Ok, Err, IfOk, refl, sym, ap, ◌∙◌, inl, inr, subst, append-nil, append_assoc}
-use Rattle.std.specs.Prelude.{◌==◌, IfErr, IfSome, MatchResult}
+use Rattle.std.proofs.Common.{◌≡◌, ℕ, suc, ◌-◌, ◌<◌, arith, true, false, ◌&&◌, List, [], ◌∷◌, ◌++◌, drop, Option, Result, Ok, Err, IfOk, refl, sym, ap, ◌∙◌, inl, inr, subst, append-nil, append_assoc}
+use Rattle.std.specs.Prelude.{◌==◌, IfErr, MatchResult}
 use Rattle.std.specs.declared.alloc.AllocError.{AllocError}
-use Rattle.std.proofs.lemmas.Option.{none-some}
 use Rattle.definitions.specs.Dnskey.{Ds}
 use Rattle.definitions.specs.Name.{Name, at_or_above, same, strictly_above}
 use Rattle.messages.specs.Message.{Asked}
 use Rattle.answer_judge_keys.specs.Judging.{JudgeInput}
 use Rattle.answer_judge_keys.specs.declared.verdict.Lasting.{Lasting}
 use Rattle.answer_judge_keys.specs.declared.verdict.Refusal.{Refusal}
-use Rattle.resolution_evidence.specs.Counted.{plus}
+use Rattle.resolution_evidence.specs.Counted.{no_counts, plus}
 use Rattle.resolution_evidence.specs.Counts.{Counts}
 use Rattle.resolution_evidence.specs.Given.{Given, IsOf}
 use Rattle.resolution_evidence.specs.Telling.{Telling}
-use Rattle.resolution_evidence.specs.Told.{StepSeen, TellsVerdict, TellsLead, TellsDown, TellsUnsigned, TellsOpen, TellsNoCut, TellsNothing, AsksFor, IsCutTelling, IsTelling, at_cut, told}
+use Rattle.resolution_evidence.specs.Told.{StepSeen, TellsNothing, IsCutTelling, IsTelling, at_cut, told}
 use Rattle.resolution_evidence.specs.Walking.{GoesDown, IsNameStep, IsOnward, IsOwnStep, ds_at, renamed}
 use Rattle.resolution_walk.specs.Ended.{IsTurn, IsWay, onward_of}
-use Rattle.resolution_walk.specs.Judged.{AreJudged, NotJudged, ByAnswer, Between, AreJudgedDown, Above, Next, IsAnswerUntold, IsJudgedAt, Itself, Other, IsJudgedBelow, IsJudgedFor, IsLacking, IsThere, IsRefused, OfAnswer, OfName, counts_in}
-use Rattle.resolution_walk.specs.Stopping.{EndsAt, EndsHere, IsCounted, IsLed, IsStop, IsStopped, IsTurnedTo, Stops, Here, Below, TooDeep, StopsBehind, TooMany, Led, StopsIn, TurnStops, WalkStops, WantsLacking, refusal_in}
-use Rattle.resolution_walk.specs.Wanted.{IsBetween, IsParent, is_lacking}
+use Rattle.resolution_walk.specs.Judged.{AreJudged, NotJudged, ByAnswer, Between, AreJudgedDown, Above, Next, IsAnswerUntold, IsJudgedAt, Itself, Other, IsJudgedBelow, IsJudgedFor, IsLacking, IsThere, counts_in}
+use Rattle.resolution_walk.specs.Stopping.{EndsAt, IsCounted, IsLed, IsStop, IsStopped, IsTurnUntold, IsTurnedTo, Stops, Here, Below, TooDeep, StopsBehind, TooMany, Led, StopsBelow, NoneLeft, OneLess, StopsBelowIn, StopsIn, StopsWithin, TurnStops, WalkStops, WantsLacking, ending_within}
+use Rattle.resolution_walk.specs.Wanted.{IsBetween, is_lacking}
 use Rattle.resolution_walk.specs.declared.ending.End.{End}
 use Rattle.resolution_walk.specs.declared.ending.Ending.{Ending}
 use Rattle.resolution_walk.specs.declared.ending.Ending.TheVariants as ends
@@ -27,16 +26,11 @@ use Rattle.resolution_walk.specs.declared.ending.Target.{Target}
 use Rattle.resolution_walk.specs.declared.ending.Turn.{Turn}
 use Rattle.resolution_walk.specs.declared.ending.Turn.TheVariants as turns
 use Rattle.resolution_walk.specs.declared.ending.Walk.{Walk}
+use Rattle.resolution_walk.specs.declared.walk.Limits.{Limits}
+use Rattle.resolution_walk.proofs.Turning.{name_stop, own_stop, turned_nothing}
 
-refuses : (said : StepSeen) (x : Refusal) → refusal_in said ≡ Some x → said ≡ TellsNothing (Some x)
-refuses (TellsNothing r) x is = ap TellsNothing is
-refuses (TellsVerdict v) x is = absurd (none-some x is)
-refuses (TellsLead l) x is = absurd (none-some x is)
-refuses (TellsDown c ds) x is = absurd (none-some x is)
-refuses (TellsUnsigned c) x is = absurd (none-some x is)
-refuses TellsOpen x is = absurd (none-some x is)
-refuses TellsNoCut x is = absurd (none-some x is)
-refuses (AsksFor asks) x is = absurd (none-some x is)
+suc_of : (n : ℕ) → 0 < n → suc (n - 1) ≡ n
+suc_of n some = omega arith
 
 module _ (e : Given) (asked : Asked) (zone : Name) (ds : List Ds) where
   -- ---- what is wanted
@@ -84,24 +78,13 @@ module _ (e : Given) (asked : Asked) (zone : Name) (ds : List Ds) where
 
   -- ---- by the answer to the question
 
-  refused_own : (said : StepSeen) (l : Option Lasting) (n : Counts) (r : Option Refusal) → r ≡ refusal_in said → IsOwnStep e zone ds asked said l n → IfSome r (IsRefused e asked zone ds asked)
-  refused_own said l n None is k = tt
-  refused_own said l n (Some x) is k = OfAnswer l n refl (subst (λ (y : StepSeen). IsOwnStep e zone ds asked y l n) (refuses said x (sym is)) k)
-
-  own_stop : (said : StepSeen) (l : Option Lasting) (n : Counts) (t : Turn) → IsOwnStep e zone ds asked said l n → IsTurnedTo zone ds asked (refusal_in said) t → TurnStops e asked zone ds t
-  own_stop said l n (turns.Down c below) k x = tt
-  own_stop said l n (turns.Ends (ends.Untold of by name t r)) k x =
-      record { zone_is = x.0; ds_are = x.1; sought = asked; name_is = x.2; type_is = x.3; is_sought = inl refl; refused = refused_own said l n r x.4 k }
-  own_stop said l n (turns.Ends (ends.Wants ws)) k x = absurd x
-  own_stop said l n (turns.Ends _) k x = tt
-
   own_step : (h : JudgeInput) (t : Telling) → IsOf e zone ds asked h → IsTelling e.algorithms e.table h t → IsOwnStep e zone ds asked (told t.step) t.lasting t.counts
   own_step h t of is = record { judged = h; of = of; told_is = is }
 
   pub own_stops_in : (h : JudgeInput) (t : Telling) (now : StepSeen) (r : Result Taken AllocError) → IsOf e zone ds asked h → IsTelling e.algorithms e.table h t → now ≡ told t.step
-      → IfOk r (λ x. IsTurnedTo zone ds asked (refusal_in now) x.turn) → IfOk r (IsStop e asked zone ds)
+      → IfOk r (λ x. IsTurnedTo zone ds asked now x.turn) → IfOk r (IsStop e asked zone ds)
   own_stops_in h t now (Ok x) of is same k =
-      own_stop (told t.step) t.lasting t.counts x.turn (own_step h t of is) (subst (λ (y : StepSeen). IsTurnedTo zone ds asked (refusal_in y) x.turn) same k)
+      own_stop e asked zone ds (told t.step) t.lasting t.counts x.turn (own_step h t of is) (subst (λ (y : StepSeen). IsTurnedTo zone ds asked y x.turn) same k)
   own_stops_in h t now (Err x) of is same k = tt
 
   pub own_counted_in : (h : JudgeInput) (t : Telling) (before sums : Counts) (r : Result Taken AllocError) → IsOf e zone ds asked h → IsTelling e.algorithms e.table h t → sums ≡ plus before t.counts
@@ -113,9 +96,9 @@ module _ (e : Given) (asked : Asked) (zone : Name) (ds : List Ds) where
   untold_own h t refusal of is same = record { lasting = t.lasting; step = subst (λ (y : StepSeen). IsOwnStep e zone ds asked y t.lasting t.counts) same (own_step h t of is) }
 
   pub untold_stops_in : (refusal : Option Refusal) (own : Counts) (r : Result Taken AllocError) → IsAnswerUntold e asked zone ds refusal own
-      → IfOk r (λ x. IsTurnedTo zone ds asked refusal x.turn) → IfOk r (IsStop e asked zone ds)
-  untold_stops_in refusal own (Ok x) k stops = own_stop (TellsNothing refusal) k.lasting own x.turn k.step stops
-  untold_stops_in refusal own (Err x) k stops = tt
+      → IfOk r (λ x. IsTurnUntold zone ds asked refusal x.turn) → IfOk r (IsStop e asked zone ds)
+  untold_stops_in refusal own (Ok x) k turns = own_stop e asked zone ds (TellsNothing refusal) k.lasting own x.turn k.step (turned_nothing zone ds asked refusal x.turn turns)
+  untold_stops_in refusal own (Err x) k turns = tt
 
   pub between_counted : (refusal : Option Refusal) (own before sums after : Counts) → IsAnswerUntold e asked zone ds refusal own → sums ≡ plus before own → IsJudgedBelow e asked zone ds sums after → AreJudged e asked zone ds before after
   between_counted refusal own before sums after k sum below = Between refusal k.lasting own k.step (subst (λ (n : Counts). IsJudgedBelow e asked zone ds n after) sum below)
@@ -127,27 +110,14 @@ module _ (e : Given) (asked : Asked) (zone : Name) (ds : List Ds) where
 
   -- ---- by an answer for DS
 
-  refused_at : (q : Asked) (said cut_said : StepSeen) (l : Option Lasting) (n : Counts) (r : Option Refusal) → IsBetween zone asked q → IsNameStep e zone ds q said l n → cut_said ≡ at_cut said → r ≡ refusal_in cut_said
-      → IfSome r (IsRefused e asked zone ds q)
-  refused_at q said cut_said l n None between k at is = tt
-  refused_at q said cut_said l n (Some x) between k at is = OfName said l n between k (sym at ∙ refuses cut_said x (sym is))
-
-  name_stop : (q : Asked) (said cut_said : StepSeen) (l : Option Lasting) (n : Counts) (t : Turn) → IsBetween zone asked q → IsNameStep e zone ds q said l n → cut_said ≡ at_cut said → IsTurnedTo zone ds q (refusal_in cut_said) t
-      → TurnStops e asked zone ds t
-  name_stop q said cut_said l n (turns.Down c below) between k at x = tt
-  name_stop q said cut_said l n (turns.Ends (ends.Untold of by name t r)) between k at x =
-      record { zone_is = x.0; ds_are = x.1; sought = q; name_is = x.2; type_is = x.3; is_sought = inr between; refused = refused_at q said cut_said l n r between k at x.4 }
-  name_stop q said cut_said l n (turns.Ends (ends.Wants ws)) between k at x = absurd x
-  name_stop q said cut_said l n (turns.Ends _) between k at x = tt
-
   name_step : (q : Asked) (h : JudgeInput) (t : Telling) → IsOf e zone ds q h → IsCutTelling e.algorithms e.table h t → IsNameStep e zone ds q (told t.step) t.lasting t.counts
   name_step q h t of is = record { judged = h; of = of; told_is = is }
 
-  pub name_stops_in : (q : Asked) (h : JudgeInput) (t : Telling) (now : StepSeen) (r : Result (Result Taken Counts) AllocError) → IsBetween zone asked q → IsOf e zone ds q h → IsCutTelling e.algorithms e.table h t → now ≡ at_cut (told t.step)
-      → IfOk r (λ x. IfOk x (λ y. IsTurnedTo zone ds q (refusal_in now) y.turn)) → IfOk r (λ x. IfOk x (IsStop e asked zone ds))
-  name_stops_in q h t now (Ok (Ok x)) between of is at k = name_stop q (told t.step) now t.lasting t.counts x.turn between (name_step q h t of is) at k
-  name_stops_in q h t now (Ok (Err n)) between of is at k = tt
-  name_stops_in q h t now (Err x) between of is at k = tt
+  pub name_stops_in : (q : Asked) (h : JudgeInput) (t : Telling) (now : StepSeen) (r : Result (Result Taken Counts) AllocError) → IsBetween zone asked q → IsOf e zone ds q h → IsCutTelling e.algorithms e.table h t
+      → now ≡ told t.step → now ≡ at_cut (told t.step) → IfOk r (λ x. MatchResult x (λ y. IsTurnedTo zone ds q now y.turn) (λ n. ⊥)) → IfOk r (λ x. IfOk x (IsStop e asked zone ds))
+  name_stops_in q h t now (Ok (Ok x)) between of is same cut k = name_stop e asked zone ds q (told t.step) now t.lasting t.counts x.turn between (name_step q h t of is) same cut k
+  name_stops_in q h t now (Ok (Err n)) between of is same cut k = tt
+  name_stops_in q h t now (Err x) between of is same cut k = tt
 
   pub name_counted : (q : Asked) (h : JudgeInput) (t : Telling) (before after : Counts) → IsOf e zone ds q h → IsCutTelling e.algorithms e.table h t → after ≡ plus before t.counts → IsJudgedFor e zone ds q before after
   name_counted q h t before after of is sum = IsThere (told t.step) t.lasting t.counts (name_step q h t of is) sum
@@ -196,42 +166,64 @@ module _ (e : Given) (asked : Asked) (zone : Name) (ds : List Ds) where
 
   -- ---- ends
 
-  pub stops_here : (ending : Ending) (before after : Counts) → AreJudged e asked zone ds before after → EndsAt e asked zone ds ending → Stops e asked ending zone ds before after
-  stops_here ending before after counted stops = Here counted stops
+  pub stops_here : (ending : Ending) (cuts : ℕ) (before after : Counts) → AreJudged e asked zone ds before after → EndsAt e asked zone ds ending → Stops e asked ending cuts zone ds before after
+  stops_here ending cuts before after counted stops = Here counted stops
 
-  pub stops_below : (c : Name) (below : List Ds) (l : Option Lasting) (before between : Counts) (end all : End) → AreJudged e asked zone ds before between → IsOnward e asked zone ds (GoesDown c below) l → StopsIn e asked c below between end
-      → all.ending ≡ end.ending → all.counts ≡ end.counts → StopsIn e asked zone ds before all
-  stops_below c below l before between end all counted way stops same counts =
-      let by_end : Stops e asked end.ending zone ds before end.counts = Below l counted way stops in
-      let by_ending : Stops e asked all.ending zone ds before end.counts = subst (λ (g : Ending). Stops e asked g zone ds before end.counts) (sym same) by_end in
-      subst (Stops e asked all.ending zone ds before) (sym counts) by_ending
+  one_below : (ending : Ending) (cuts : ℕ) (c : Name) (below : List Ds) (l : Option Lasting) (before between after : Counts) → AreJudged e asked zone ds before between → IsOnward e asked zone ds (GoesDown c below) l
+      → StopsBelow e asked ending cuts c below between after → Stops e asked ending cuts zone ds before after
+  one_below ending cuts c below l before between after counted way (NoneLeft same is) = TooDeep l (subst (AreJudged e asked zone ds before) (sym is) counted) way same
+  one_below ending cuts c below l before between after counted way (OneLess stops) = Below l counted way stops
+
+  pub stops_below : (cuts : ℕ) (c : Name) (below : List Ds) (l : Option Lasting) (before between : Counts) (end all : End) → AreJudged e asked zone ds before between → IsOnward e asked zone ds (GoesDown c below) l
+      → StopsBelowIn e asked cuts c below between end → all.ending ≡ end.ending → all.counts ≡ end.counts → StopsIn e asked cuts zone ds before all
+  stops_below cuts c below l before between end all counted way stops same counts =
+      let by_end : Stops e asked end.ending cuts zone ds before end.counts = one_below end.ending cuts c below l before between end.counts counted way stops in
+      let by_ending : Stops e asked all.ending cuts zone ds before end.counts = subst (λ (g : Ending). Stops e asked g cuts zone ds before end.counts) (sym same) by_end in
+      subst (Stops e asked all.ending cuts zone ds before) (sym counts) by_ending
+
+  pub none_left : (cuts : ℕ) (before : Counts) → cuts ≡ 0 → StopsBelow e asked ends.TooManyCuts cuts zone ds before before
+  none_left cuts before none = subst (λ (n : ℕ). StopsBelow e asked ends.TooManyCuts n zone ds before before) (sym none) (NoneLeft refl refl)
+
+  pub one_less_in : (cuts : ℕ) (before : Counts) (r : Result End AllocError) → 0 < cuts → IfOk r (StopsIn e asked (cuts - 1) zone ds before) → IfOk r (StopsBelowIn e asked cuts zone ds before)
+  one_less_in cuts before (Ok end) some stops = subst (λ (n : ℕ). StopsBelow e asked end.ending n zone ds before end.counts) (suc_of cuts some) (OneLess stops)
+  one_less_in cuts before (Err x) some stops = tt
 
 -- ---- through aliases
 
-module _ (e : Given) (asked : Asked) (names : List Name) (before : Counts) where
-  as_kept : (more through : List Name) (ending kept : Ending) (after counts : Counts) → StopsBehind e ending asked more before after → through ≡ names ++ more → kept ≡ ending → counts ≡ after → IsStopped e asked names through before kept counts
+module _ (e : Given) (asked : Asked) (cuts aliases : ℕ) (names : List Name) (before : Counts) where
+  as_kept : (more through : List Name) (ending kept : Ending) (after counts : Counts) → StopsBehind e cuts ending aliases asked more before after → through ≡ names ++ more → kept ≡ ending → counts ≡ after
+      → IsStopped e asked cuts aliases names through before kept counts
   as_kept more through ending kept after counts stops are same is = record {
     more = more;
     through_are = are;
-    stops = subst (StopsBehind e kept asked more before) (sym is) (subst (λ (g : Ending). StopsBehind e g asked more before after) (sym same) stops);
+    stops = subst (StopsBehind e cuts kept aliases asked more before) (sym is) (subst (λ (g : Ending). StopsBehind e cuts g aliases asked more before after) (sym same) stops);
   }
 
-  -- the same walk, as it is kept
-  pub walk_stops_same : (walk w : Walk) → WalkStops e asked names before walk → w.ending ≡ walk.ending → w.through.items ≡ walk.through.items → w.counts ≡ walk.counts → WalkStops e asked names before w
-  walk_stops_same walk w stops same through counts = as_kept stops.more w.through.items walk.ending w.ending walk.counts w.counts stops.stops (through ∙ stops.through_are) same counts
-
   -- an end with no aliases, behind those so far
-  pub walk_stops : (end : End) (w : Walk) → StopsBehind e end.ending asked [] before end.counts → w.ending ≡ end.ending → w.through.items ≡ names → w.counts ≡ end.counts → WalkStops e asked names before w
+  pub walk_stops : (end : End) (w : Walk) → StopsBehind e cuts end.ending aliases asked [] before end.counts → w.ending ≡ end.ending → w.through.items ≡ names → w.counts ≡ end.counts → WalkStops e asked cuts aliases names before w
   walk_stops end w stops same through counts = as_kept [] w.through.items end.ending w.ending end.counts w.counts stops (through ∙ sym (append-nil names)) same counts
 
   -- the limit allows no alias more
-  pub walk_stops_many : (t : Target) (w : Walk) → IsLed e asked before t → w.ending ≡ ends.TooManyAliases → w.through.items ≡ names → w.counts ≡ t.counts → WalkStops e asked names before w
-  walk_stops_many t w k same through counts =
-      as_kept [] w.through.items ends.TooManyAliases w.ending t.counts w.counts (TooMany t k refl refl) (through ∙ sym (append-nil names)) same counts
+  pub walk_stops_many : (t : Target) (w : Walk) → aliases ≡ 0 → IsLed e asked cuts before t → w.ending ≡ ends.TooManyAliases → w.through.items ≡ names → w.counts ≡ t.counts → WalkStops e asked cuts aliases names before w
+  walk_stops_many t w none k same through counts =
+      let many : StopsBehind e cuts ends.TooManyAliases aliases asked [] before t.counts =
+      subst (λ (n : ℕ). StopsBehind e cuts ends.TooManyAliases n asked [] before t.counts) (sym none) (TooMany t k refl refl) in
+      as_kept [] w.through.items ends.TooManyAliases w.ending t.counts w.counts many (through ∙ sym (append-nil names)) same counts
 
   -- behind an alias
-  pub walk_stops_led : (t : Target) (longer : List Name) (walk w : Walk) → IsLed e asked before t → longer ≡ names ++ t.name ∷ [] → WalkStops e (renamed asked t.name) longer t.counts walk
-      → w.ending ≡ walk.ending → w.through.items ≡ walk.through.items → w.counts ≡ walk.counts → WalkStops e asked names before w
-  walk_stops_led t longer walk w k are stops same through counts =
+  pub walk_stops_led : (t : Target) (longer : List Name) (walk w : Walk) → 0 < aliases → IsLed e asked cuts before t → longer ≡ names ++ t.name ∷ []
+      → WalkStops e (renamed asked t.name) cuts (aliases - 1) longer t.counts walk → w.ending ≡ walk.ending → w.through.items ≡ walk.through.items → w.counts ≡ walk.counts → WalkStops e asked cuts aliases names before w
+  walk_stops_led t longer walk w some k are stops same through counts =
       let through_are : w.through.items ≡ names ++ t.name ∷ stops.more = through ∙ stops.through_are ∙ ap (λ (ns : List Name). ns ++ stops.more) are ∙ append_assoc names (t.name ∷ []) stops.more in
-      as_kept (t.name ∷ stops.more) w.through.items walk.ending w.ending walk.counts w.counts (Led t k stops.stops) through_are same counts
+      let led : StopsBehind e cuts walk.ending aliases asked (t.name ∷ stops.more) before walk.counts =
+      subst (λ (n : ℕ). StopsBehind e cuts walk.ending n asked (t.name ∷ stops.more) before walk.counts) (suc_of aliases some) (Led t k stops.stops) in
+      as_kept (t.name ∷ stops.more) w.through.items walk.ending w.ending walk.counts w.counts led through_are same counts
+
+-- within limits of a walk, as it is kept
+pub stops_within : (e : Given) (asked : Asked) (limits : Limits) (walk w : Walk) → WalkStops e asked limits.cuts limits.aliases [] no_counts walk → w.ending ≡ ending_within limits.messages e walk.ending
+    → w.through.items ≡ walk.through.items → w.counts ≡ walk.counts → StopsWithin e asked limits w
+stops_within e asked limits walk w stops is through counts = record {
+  ending = walk.ending;
+  stops = as_kept e asked limits.cuts limits.aliases [] no_counts stops.more w.through.items walk.ending walk.ending walk.counts w.counts stops.stops (through ∙ stops.through_are) refl counts;
+  is = is;
+}

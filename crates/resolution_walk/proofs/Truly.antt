@@ -1,5 +1,5 @@
 -- What a walk ends in is what the tree says.
-use Rattle.std.proofs.Common.{◌≡◌, List, [], Option, Some, None, sym, subst}
+use Rattle.std.proofs.Common.{List, [], Option, Some, None, sym, subst}
 use Rattle.std.specs.Prelude.{IfSome}
 use Rattle.messages.specs.Message.{Asked}
 use Rattle.resolution_tree.specs.Tree.{Said, Resolves}

@@ -1,5 +1,5 @@
 -- Which judgements a walk makes of a zone's messages, and how often was verified and hashed for them.
-use Rattle.std.specs.Prelude.{◌≡◌, ℕ, Bool, true, false, ◌&&◌, ◌==◌, List, drop, Option, Some, IfSome, Result, Ok, Err}
+use Rattle.std.specs.Prelude.{◌≡◌, ℕ, true, false, ◌&&◌, ◌==◌, List, drop, Option, None, Result, Ok, Err}
 use Rattle.definitions.specs.Dnskey.{Ds}
 use Rattle.definitions.specs.Name.{Name, same, at_or_above, strictly_above}
 use Rattle.messages.specs.Message.{Asked}
@@ -8,9 +8,9 @@ use Rattle.answer_judge_keys.specs.declared.verdict.Refusal.{Refusal}
 use Rattle.resolution_evidence.specs.Counted.{plus}
 use Rattle.resolution_evidence.specs.Counts.{Counts}
 use Rattle.resolution_evidence.specs.Given.{Given}
-use Rattle.resolution_evidence.specs.Told.{StepSeen, TellsNothing, at_cut}
+use Rattle.resolution_evidence.specs.Told.{StepSeen, TellsNoCut, TellsNothing, at_cut}
 use Rattle.resolution_evidence.specs.Walking.{IsNameStep, IsOwnStep, ds_at}
-use Rattle.resolution_walk.specs.Wanted.{IsBetween, IsSought, is_lacking}
+use Rattle.resolution_walk.specs.Wanted.{IsBetween, is_lacking}
 use Rattle.resolution_walk.specs.declared.ending.Taken.{Taken}
 
 -- ---- counts, those before and those after
@@ -42,13 +42,19 @@ pub data AreJudged (e : Given) (asked : Asked) (zone : Name) (ds : List Ds) (bef
   Between : (refusal : Option Refusal) (lasting : Option Lasting) (counts : Counts) → IsOwnStep e zone ds asked (TellsNothing refusal) lasting counts
       → IsJudgedBelow e asked zone ds (plus before counts) after → AreJudged e asked zone ds before after
 
--- ---- refusals
+-- ---- what tells nothing
 
--- a zone's answer to a question, or to one for DS at a name between, is refused
-pub data IsRefused (e : Given) (asked : Asked) (zone : Name) (ds : List Ds) (sought : Asked) (refusal : Refusal) : Type 0 where
-  OfAnswer : (lasting : Option Lasting) (counts : Counts) → sought ≡ asked → IsOwnStep e zone ds asked (TellsNothing (Some refusal)) lasting counts → IsRefused e asked zone ds sought refusal
-  OfName : (said : StepSeen) (lasting : Option Lasting) (counts : Counts) → IsBetween zone asked sought → IsNameStep e zone ds sought said lasting counts
-      → at_cut said ≡ TellsNothing (Some refusal) → IsRefused e asked zone ds sought refusal
+-- What a zone tells on the way: by its answer to the question, or of a delegation by its answer for DS at a name between.
+pub data IsHeard (e : Given) (asked : Asked) (zone : Name) (ds : List Ds) (sought : Asked) (said : StepSeen) : Type 0 where
+  OfAnswer : (lasting : Option Lasting) (counts : Counts) → sought ≡ asked → IsOwnStep e zone ds asked said lasting counts → IsHeard e asked zone ds sought said
+  OfName : (lasting : Option Lasting) (counts : Counts) → IsBetween zone asked sought → IsNameStep e zone ds sought said lasting counts
+      → said ≡ at_cut said → IsHeard e asked zone ds sought said
+
+-- it is nothing of the way, and this is why it is refused, if it is
+abbrev pub IsNothing : StepSeen → Option Refusal → Type 0
+IsNothing (TellsNothing r) refusal = refusal ≡ r
+IsNothing TellsNoCut refusal = refusal ≡ None
+IsNothing _ refusal = ⊥
 
 -- An end where an answer of a zone tells nothing: of this zone, judged by these DS records; to a question for this name and type; and
 -- why it is refused, if it is.
@@ -58,8 +64,14 @@ pub record IsUntold (e : Given) (asked : Asked) (zone : Name) (ds : List Ds) (of
   pub sought : Asked
   pub name_is : name ≡ sought.name
   pub type_is : t ≡ sought.rtype
-  pub is_sought : IsSought zone asked sought
-  pub refused : IfSome refusal (IsRefused e asked zone ds sought)
+  pub said : StepSeen
+  pub heard : IsHeard e asked zone ds sought said
+  pub nothing : IsNothing said refusal
+
+-- what a zone tells by one of these answers
+pub record IsHeardThere (e : Given) (asked : Asked) (zone : Name) (ds : List Ds) (said : StepSeen) : Type 0 where
+  pub sought : Asked
+  pub heard : IsHeard e asked zone ds sought said
 
 -- ---- as they are kept
 

@@ -1,18 +1,21 @@
 -- Where a walk stops, which messages it wants there or which answer tells nothing, and how often was verified and hashed on the way.
-use Rattle.std.specs.Prelude.{◌≡◌, Bool, true, false, List, [], ◌∷◌, ◌++◌, Option, Some, None, IfSome, Result, Ok, Err}
+use Rattle.std.specs.Prelude.{◌≡◌, ℕ, suc, true, false, List, [], ◌∷◌, ◌++◌, length, nat_lt, if◌then◌else◌, Option, Some, None, IfSome}
 use Rattle.definitions.specs.Dnskey.{Ds}
 use Rattle.definitions.specs.Name.{Name}
 use Rattle.denial_laws.specs.Leading.{To}
 use Rattle.messages.specs.Message.{Asked}
+use Rattle.answer_judge_rules.specs.Rules.{verdict_of}
 use Rattle.answer_judge_keys.specs.declared.verdict.Lasting.{Lasting}
 use Rattle.answer_judge_keys.specs.declared.verdict.Refusal.{Refusal}
-use Rattle.resolution_tree.specs.Tree.{Leads}
+use Rattle.resolution_tree.specs.Tree.{Said, Secure, Unsigned, LeftOpen, Leads}
+use Rattle.resolution_evidence.specs.Counted.{no_counts}
 use Rattle.resolution_evidence.specs.Counts.{Counts}
 use Rattle.resolution_evidence.specs.Given.{Given}
-use Rattle.resolution_evidence.specs.Told.{StepSeen, TellsNothing}
-use Rattle.resolution_evidence.specs.Walking.{GoesDown, IsOnward, Tells, Follows, is_asked_of, renamed}
+use Rattle.resolution_evidence.specs.Seen.{lead_seen}
+use Rattle.resolution_evidence.specs.Told.{StepSeen, TellsVerdict, TellsLead, TellsDown, TellsUnsigned, TellsOpen, AsksFor}
+use Rattle.resolution_evidence.specs.Walking.{GoesDown, EndsIn, IsOnward, Tells, Follows, is_asked_of, renamed}
 use Rattle.resolution_walk.specs.Ended.{leads_to, said_of}
-use Rattle.resolution_walk.specs.Judged.{AreJudged, IsUntold}
+use Rattle.resolution_walk.specs.Judged.{AreJudged, IsHeardThere, IsNothing, IsUntold}
 use Rattle.resolution_walk.specs.Wanted.{AreWantedOf, lacking}
 use Rattle.resolution_walk.specs.declared.ending.End.{End}
 use Rattle.resolution_walk.specs.declared.ending.Ending.{Ending}
@@ -22,34 +25,53 @@ use Rattle.resolution_walk.specs.declared.ending.Target.{Target}
 use Rattle.resolution_walk.specs.declared.ending.Turn.{Turn}
 use Rattle.resolution_walk.specs.declared.ending.Turn.TheVariants as turns
 use Rattle.resolution_walk.specs.declared.ending.Walk.{Walk}
+use Rattle.resolution_walk.specs.declared.walk.Limits.{Limits}
 
--- An ending in a zone: the messages that are wanted are exactly those that lack of it, and an answer that tells nothing is its own.
+-- what a zone's messages tell ends the way, and says this
+pub record IsSaidIn (e : Given) (asked : Asked) (zone : Name) (ds : List Ds) (said : Said) : Type 0 where
+  pub lasting : Option Lasting
+  pub way : IsOnward e asked zone ds (EndsIn said) lasting
+
+-- An ending in a zone: what the zone's messages tell there; an answer that tells nothing is its own; the signatures that are asked for
+-- lack of an answer of it; and the messages that are wanted are exactly those that lack of it. A limit ends nothing in a zone.
 abbrev pub EndsAt : Given → Asked → Name → List Ds → Ending → Type 0
-EndsAt e asked zone ds (ends.Wants ws) = AreWantedOf e asked zone ws.items
+EndsAt e asked zone ds (ends.Secure of v) = IsSaidIn e asked zone ds (Secure of (verdict_of v))
+EndsAt e asked zone ds (ends.Leads lead) = IsSaidIn e asked zone ds (Leads (lead_seen lead))
+EndsAt e asked zone ds (ends.Unsigned c) = IsSaidIn e asked zone ds (Unsigned c)
+EndsAt e asked zone ds (ends.LeftOpen of) = IsSaidIn e asked zone ds (LeftOpen of)
 EndsAt e asked zone ds (ends.Untold of by name t refusal) = IsUntold e asked zone ds of by.items name t refusal
-EndsAt e asked zone ds _ = Unit {0}
+EndsAt e asked zone ds (ends.Asks asks) = IsHeardThere e asked zone ds (AsksFor asks.items)
+EndsAt e asked zone ds (ends.Wants ws) = AreWantedOf e asked zone ws.items
+EndsAt e asked zone ds _ = ⊥
 
--- A way stops in a zone that evidence leads down to, or where that goes too deep. Each zone's messages are judged on the way.
-pub data Stops (e : Given) (asked : Asked) (ending : Ending) : Name → List Ds → Counts → Counts → Type 0 where
-  Here : {zone : Name} {ds : List Ds} {before after : Counts} → AreJudged e asked zone ds before after → EndsAt e asked zone ds ending → Stops e asked ending zone ds before after
-  Below : {zone c : Name} {ds below : List Ds} {before between after : Counts} (lasting : Option Lasting) → AreJudged e asked zone ds before between
-      → IsOnward e asked zone ds (GoesDown c below) lasting → Stops e asked ending c below between after → Stops e asked ending zone ds before after
-  TooDeep : {zone : Name} {ds : List Ds} {before after : Counts} → ending ≡ ends.TooManyCuts → after ≡ before → Stops e asked ending zone ds before after
+-- A way stops in a zone that evidence leads down to, with so many delegations left to go down; or where it leads down and none is
+-- left. Each zone's messages are judged on the way.
+pub data Stops (e : Given) (asked : Asked) (ending : Ending) : ℕ → Name → List Ds → Counts → Counts → Type 0 where
+  Here : {cuts : ℕ} {zone : Name} {ds : List Ds} {before after : Counts} → AreJudged e asked zone ds before after → EndsAt e asked zone ds ending → Stops e asked ending cuts zone ds before after
+  Below : {cuts : ℕ} {zone c : Name} {ds below : List Ds} {before between after : Counts} (lasting : Option Lasting) → AreJudged e asked zone ds before between
+      → IsOnward e asked zone ds (GoesDown c below) lasting → Stops e asked ending cuts c below between after → Stops e asked ending (suc cuts) zone ds before after
+  TooDeep : {zone c : Name} {ds below : List Ds} {before after : Counts} (lasting : Option Lasting) → AreJudged e asked zone ds before after
+      → IsOnward e asked zone ds (GoesDown c below) lasting → ending ≡ ends.TooManyCuts → Stops e asked ending 0 zone ds before after
 
 -- an alias of a question of the anchor, and how often was verified and hashed for it
-pub record IsLed (e : Given) (asked : Asked) (before : Counts) (t : Target) : Type 0 where
+pub record IsLed (e : Given) (asked : Asked) (cuts : ℕ) (before : Counts) (t : Target) : Type 0 where
   pub asked_of_it : is_asked_of e.anchor asked ≡ true
   pub tells : Tells e asked (Leads (To t.name)) e.anchor e.ds t.lasting
   pub ending : Ending
-  pub stops : Stops e asked ending e.anchor e.ds before t.counts
+  pub says : said_of ending ≡ Some (Leads (To t.name))
+  pub stops : Stops e asked ending cuts e.anchor e.ds before t.counts
 
--- The same for a name that aliases lead to, each sought from the anchor on.
-pub data StopsBehind (e : Given) (ending : Ending) : Asked → List Name → Counts → Counts → Type 0 where
-  AtOnce : {asked : Asked} {before after : Counts} → is_asked_of e.anchor asked ≡ true → Stops e asked ending e.anchor e.ds before after → StopsBehind e ending asked [] before after
-  Elsewhere : {asked : Asked} {before after : Counts} → is_asked_of e.anchor asked ≡ false → ending ≡ ends.Outside → after ≡ before → StopsBehind e ending asked [] before after
-  TooMany : {asked : Asked} {before after : Counts} (t : Target) → IsLed e asked before t → ending ≡ ends.TooManyAliases → after ≡ t.counts → StopsBehind e ending asked [] before after
-  Led : {asked : Asked} {ns : List Name} {before after : Counts} (t : Target) → IsLed e asked before t → StopsBehind e ending (renamed asked t.name) ns t.counts after
-      → StopsBehind e ending asked (t.name ∷ ns) before after
+-- The same for a name that aliases lead to, each sought from the anchor on, with so many aliases left to follow; or where an alias
+-- leads on and none is left.
+pub data StopsBehind (e : Given) (cuts : ℕ) (ending : Ending) : ℕ → Asked → List Name → Counts → Counts → Type 0 where
+  AtOnce : {aliases : ℕ} {asked : Asked} {before after : Counts} → is_asked_of e.anchor asked ≡ true → Stops e asked ending cuts e.anchor e.ds before after
+      → StopsBehind e cuts ending aliases asked [] before after
+  Elsewhere : {aliases : ℕ} {asked : Asked} {before after : Counts} → is_asked_of e.anchor asked ≡ false → ending ≡ ends.Outside → after ≡ before
+      → StopsBehind e cuts ending aliases asked [] before after
+  TooMany : {asked : Asked} {before after : Counts} (t : Target) → IsLed e asked cuts before t → ending ≡ ends.TooManyAliases → after ≡ t.counts
+      → StopsBehind e cuts ending 0 asked [] before after
+  Led : {aliases : ℕ} {asked : Asked} {ns : List Name} {before after : Counts} (t : Target) → IsLed e asked cuts before t
+      → StopsBehind e cuts ending aliases (renamed asked t.name) ns t.counts after → StopsBehind e cuts ending (suc aliases) asked (t.name ∷ ns) before after
 
 -- ---- of one zone
 
@@ -57,16 +79,21 @@ abbrev pub TurnStops : Given → Asked → Name → List Ds → Turn → Type 0
 TurnStops e asked zone ds (turns.Down c below) = Unit {0}
 TurnStops e asked zone ds (turns.Ends ending) = EndsAt e asked zone ds ending
 
--- why an answer is refused, if it tells nothing for that
-abbrev pub refusal_in : StepSeen → Option Refusal
-refusal_in (TellsNothing refusal) = refusal
-refusal_in _ = None
+-- a turn where the answer of a zone to a question tells nothing, and why it is refused, if it is
+abbrev pub IsTurnUntold : Name → List Ds → Asked → Option Refusal → Turn → Type 0
+IsTurnUntold zone ds sought refusal (turns.Ends (ends.Untold of by name t r)) = (of ≡ zone) × (by.items ≡ ds) × (name ≡ sought.name) × (t ≡ sought.rtype) × (r ≡ refusal)
+IsTurnUntold zone ds sought refusal _ = ⊥
 
--- a turn by a zone's answer to a question: where it tells nothing it says so of that answer, and it wants no message
-abbrev pub IsTurnedTo : Name → List Ds → Asked → Option Refusal → Turn → Type 0
-IsTurnedTo zone ds sought refusal (turns.Ends (ends.Untold of by name t r)) = (of ≡ zone) × (by.items ≡ ds) × (name ≡ sought.name) × (t ≡ sought.rtype) × (r ≡ refusal)
-IsTurnedTo zone ds sought refusal (turns.Ends (ends.Wants ws)) = ⊥
-IsTurnedTo zone ds sought refusal _ = Unit {0}
+-- the turn by what a zone's answer to a question tells: that, and no other
+abbrev pub IsTurnedTo : Name → List Ds → Asked → StepSeen → Turn → Type 0
+IsTurnedTo zone ds sought said (turns.Down c below) = said ≡ TellsDown c below.items
+IsTurnedTo zone ds sought said (turns.Ends (ends.Secure of v)) = (of ≡ zone) × (said ≡ TellsVerdict (verdict_of v))
+IsTurnedTo zone ds sought said (turns.Ends (ends.Leads lead)) = said ≡ TellsLead (lead_seen lead)
+IsTurnedTo zone ds sought said (turns.Ends (ends.Unsigned c)) = said ≡ TellsUnsigned c
+IsTurnedTo zone ds sought said (turns.Ends (ends.LeftOpen of)) = (of ≡ zone) × (said ≡ TellsOpen)
+IsTurnedTo zone ds sought said (turns.Ends (ends.Untold of by name t r)) = (of ≡ zone) × (by.items ≡ ds) × (name ≡ sought.name) × (t ≡ sought.rtype) × IsNothing said r
+IsTurnedTo zone ds sought said (turns.Ends (ends.Asks asks)) = said ≡ AsksFor asks.items
+IsTurnedTo zone ds sought said _ = ⊥
 
 -- a turn that wants what lacks of a zone for a question
 abbrev pub WantsLacking : Given → Name → Asked → Turn → Type 0
@@ -81,8 +108,16 @@ IsCounted e asked zone ds before t = AreJudged e asked zone ds before t.counts
 
 -- ---- of one name
 
-abbrev pub StopsIn : Given → Asked → Name → List Ds → Counts → End → Type 0
-StopsIn e asked zone ds before end = Stops e asked end.ending zone ds before end.counts
+abbrev pub StopsIn : Given → Asked → ℕ → Name → List Ds → Counts → End → Type 0
+StopsIn e asked cuts zone ds before end = Stops e asked end.ending cuts zone ds before end.counts
+
+-- the same from a zone below on, to which a delegation leads: with so many left, that one with them
+pub data StopsBelow (e : Given) (asked : Asked) (ending : Ending) : ℕ → Name → List Ds → Counts → Counts → Type 0 where
+  NoneLeft : {zone : Name} {ds : List Ds} {before after : Counts} → ending ≡ ends.TooManyCuts → after ≡ before → StopsBelow e asked ending 0 zone ds before after
+  OneLess : {cuts : ℕ} {zone : Name} {ds : List Ds} {before after : Counts} → Stops e asked ending cuts zone ds before after → StopsBelow e asked ending (suc cuts) zone ds before after
+
+abbrev pub StopsBelowIn : Given → Asked → ℕ → Name → List Ds → Counts → End → Type 0
+StopsBelowIn e asked cuts zone ds before end = StopsBelow e asked end.ending cuts zone ds before end.counts
 
 -- an end that is an alias of this name, or the same end, which is none
 pub record IsAliasOf (end : End) (t : Target) : Type 0 where
@@ -93,18 +128,30 @@ pub record IsAliasOf (end : End) (t : Target) : Type 0 where
 abbrev pub IsNoAlias : End → End → Type 0
 IsNoAlias end x = (x ≡ end) × (leads_to (said_of x.ending) ≡ None)
 
--- an ending of a walk with no aliases
-pub record EndsHere (e : Given) (asked : Asked) (before : Counts) (end : End) : Type 0 where
+-- an ending of a walk with no aliases, however many are left
+pub record EndsHere (e : Given) (asked : Asked) (cuts : ℕ) (before : Counts) (end : End) : Type 0 where
   pub says : IfSome (said_of end.ending) (λ s. Follows e s asked [] end.lasting)
-  pub stops : StopsBehind e end.ending asked [] before end.counts
+  pub stops : (aliases : ℕ) → StopsBehind e cuts end.ending aliases asked [] before end.counts
 
 -- ---- of a walk
 
--- a walk stops behind the names that aliases led through so far
-pub record IsStopped (e : Given) (asked : Asked) (names through : List Name) (before : Counts) (ending : Ending) (after : Counts) : Type 0 where
+-- A walk stops behind the names that aliases led through so far: for each name within so many delegations, and within so many aliases
+-- more.
+pub record IsStopped (e : Given) (asked : Asked) (cuts aliases : ℕ) (names through : List Name) (before : Counts) (ending : Ending) (after : Counts) : Type 0 where
   pub more : List Name
   pub through_are : through ≡ names ++ more
-  pub stops : StopsBehind e ending asked more before after
+  pub stops : StopsBehind e cuts ending aliases asked more before after
 
-abbrev pub WalkStops : Given → Asked → List Name → Counts → Walk → Type 0
-WalkStops e asked names before w = IsStopped e asked names w.through.items before w.ending w.counts
+abbrev pub WalkStops : Given → Asked → ℕ → ℕ → List Name → Counts → Walk → Type 0
+WalkStops e asked cuts aliases names before w = IsStopped e asked cuts aliases names w.through.items before w.ending w.counts
+
+-- an ending within a limit of messages: beside so many none is wanted
+abbrev pub ending_within : ℕ → Given → Ending → Ending
+ending_within most e (ends.Wants ws) = if nat_lt (length e.messages) most then ends.Wants ws else ends.TooManyMessages
+ending_within most e ending = ending
+
+-- where a walk stops within limits
+pub record StopsWithin (e : Given) (asked : Asked) (limits : Limits) (w : Walk) : Type 0 where
+  pub ending : Ending
+  pub stops : IsStopped e asked limits.cuts limits.aliases [] w.through.items no_counts ending w.counts
+  pub is : w.ending ≡ ending_within limits.messages e ending

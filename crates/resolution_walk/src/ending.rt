@@ -44,6 +44,8 @@ pub enum Ending {
     TooManyCuts,
     /// More aliases are on the way than the limit allows.
     TooManyAliases,
+    /// More messages are wanted, and the evidence has as many as the limit allows.
+    TooManyMessages,
     /// The question is none of the anchor: its name is not at or below, or it is for DS there.
     Outside,
 }

@@ -5,11 +5,11 @@ ghost use Rattle.definitions.specs.Name.{at_or_above, same, strictly_above};
 ghost use Rattle.messages.specs.Questions.{asked_of};
 ghost use Rattle.resolution_evidence.specs.Told.{at_cut, told};
 ghost use Rattle.resolution_evidence.specs.Given.{IsOf};
-ghost use Rattle.resolution_evidence.specs.Walking.{ds_at, onward};
-ghost use Rattle.resolution_walk.specs.Ended.{IsTurn, onward_of};
+ghost use Rattle.resolution_evidence.specs.Walking.{ds_at};
+ghost use Rattle.resolution_walk.specs.Ended.{IsTurn};
 ghost use Rattle.resolution_walk.specs.Judged.{AreJudgedDown, IsJudgedAt, IsJudgedBelow};
 ghost use Rattle.resolution_walk.specs.Judged.{IsJudgedFor, counts_in};
-ghost use Rattle.resolution_walk.specs.Stopping.{IsStop, IsTurnedTo, WantsLacking, refusal_in};
+ghost use Rattle.resolution_walk.specs.Stopping.{IsStop, IsTurnedTo, WantsLacking};
 ghost use Rattle.resolution_walk.specs.Wanted.{IsBetween, IsParent};
 
 use crate::ending::Taken;
@@ -227,7 +227,8 @@ fn by_cut(
 
 /// What is told of a delegation at the name; none where there is none.
 fn at_cut(step: Step) -> Option<Step>
-    ensures { IfSome result (λ s. told s ≡ at_cut (told step)) }
+    ensures kept { IfSome result (λ s. told s ≡ told step) }
+    ensures cut { IfSome result (λ s. told s ≡ at_cut (told step)) }
 {
     match step {
         Step::Answer(_) | Step::Leads(_) | Step::NoCut => None,
@@ -245,11 +246,8 @@ fn taken_there(
     lasting: Option<Lasting>,
     counts: Counts,
 ) -> Result<Result<Taken, Counts>, AllocError>
-    ensures leads { let o = onward zone.now (told step) in
-        IfOk result (λ r. MatchResult r (λ t. onward_of t.turn ≡ o) (λ n. ⊥)) }
-    ensures stops { let to = IsTurnedTo zone.now ds.now (asked_of asked.now) in
-        let r = refusal_in (told step) in
-        IfOk result (λ x. IfOk x (λ t. to r t.turn)) }
+    ensures turns { let to = IsTurnedTo zone.now ds.now (asked_of asked.now) in
+        IfOk result (λ r. MatchResult r (λ t. to (told step) t.turn) (λ n. ⊥)) }
     ensures lasts { IfOk result (λ r. IfOk r (λ t. t.lasting ≡ lasting)) }
     ensures counted { IfOk result (λ r. counts_in r ≡ counts) }
 {

@@ -3,9 +3,7 @@ ghost use Rattle.std.specs.Prelude.{◌≡◌, IfNone, IfOk, IfSome, Some, true}
 ghost use Rattle.messages.specs.Questions.{asked_of};
 ghost use Rattle.resolution_evidence.specs.Told.{IsCutTelling, IsTelling, told};
 ghost use Rattle.resolution_evidence.specs.Given.{IsOf, message_of};
-ghost use Rattle.resolution_evidence.specs.Walking.{Stops, onward};
-ghost use Rattle.resolution_walk.specs.Ended.{onward_of};
-ghost use Rattle.resolution_walk.specs.Stopping.{IsTurnedTo, WantsLacking, refusal_in};
+ghost use Rattle.resolution_walk.specs.Stopping.{IsTurnUntold, IsTurnedTo, WantsLacking};
 ghost use Rattle.resolution_walk.specs.Wanted.{is_lacking, lacking, wanted_of};
 
 use crate::ending::{Ending, Taken, Turn, Wanted};
@@ -177,9 +175,8 @@ pub(crate) fn taken(
     lasting: Option<Lasting>,
     counts: Counts,
 ) -> Result<Taken, AllocError>
-    ensures leads { IfOk result (λ t. onward_of t.turn ≡ onward zone.now (told step)) }
-    ensures stops { let sought = asked_of question.now in let r = refusal_in (told step) in
-        IfOk result (λ t. IsTurnedTo zone.now ds.now sought r t.turn) }
+    ensures turns { let to = IsTurnedTo zone.now ds.now (asked_of question.now) in
+        IfOk result (λ t. to (told step) t.turn) }
     ensures lasts { IfOk result (λ t. t.lasting ≡ lasting) }
     ensures counted { IfOk result (λ t. t.counts ≡ counts) }
 {
@@ -199,9 +196,8 @@ fn turned(
     question: &Question,
     step: Step,
 ) -> Result<Turn, AllocError>
-    ensures leads { IfOk result (λ t. onward_of t ≡ onward zone.now (told step)) }
-    ensures stops { let sought = asked_of question.now in let r = refusal_in (told step) in
-        IfOk result (IsTurnedTo zone.now ds.now sought r) }
+    ensures { let sought = asked_of question.now in
+        IfOk result (IsTurnedTo zone.now ds.now sought (told step)) }
 {
     match step {
         Step::Answer(verdict) => {
@@ -229,9 +225,8 @@ pub(crate) fn untold(
     question: &Question,
     refusal: Option<Refusal>,
 ) -> Result<Turn, AllocError>
-    ensures leads { IfOk result (λ t. onward_of t ≡ Stops) }
-    ensures stops { let sought = asked_of question.now in
-        IfOk result (IsTurnedTo zone.now ds.now sought refusal) }
+    ensures { let sought = asked_of question.now in
+        IfOk result (IsTurnUntold zone.now ds.now sought refusal) }
 {
     let (zone, name) = (copy_name(alloc, zone)?, copy_name(alloc, &question.name)?);
     let ds = copied_ds(alloc, ds)?;

@@ -3,10 +3,9 @@ ghost use Rattle.std.specs.Prelude.{◌≡◌, IfOk, MatchResult};
 ghost use Rattle.messages.specs.Questions.{asked_of};
 ghost use Rattle.resolution_evidence.specs.Given.{IsOf};
 ghost use Rattle.resolution_evidence.specs.Told.{TellsNothing, told};
-ghost use Rattle.resolution_evidence.specs.Walking.{Stops};
-ghost use Rattle.resolution_walk.specs.Ended.{IsTurn, onward_of};
+ghost use Rattle.resolution_walk.specs.Ended.{IsTurn};
 ghost use Rattle.resolution_walk.specs.Judged.{IsAnswerUntold, IsJudgedBelow, counts_in};
-ghost use Rattle.resolution_walk.specs.Stopping.{IsCounted, IsStop, IsTurnedTo};
+ghost use Rattle.resolution_walk.specs.Stopping.{IsCounted, IsStop, IsTurnUntold};
 
 use crate::ending::Taken;
 use crate::evidence::Evidence;
@@ -116,9 +115,8 @@ fn untold_there(
     refusal: Option<Refusal>,
     counts: Counts,
 ) -> Result<Taken, AllocError>
-    ensures leads { IfOk result (λ t. onward_of t.turn ≡ Stops) }
-    ensures stops { let sought = asked_of question.now in
-        IfOk result (λ t. IsTurnedTo zone.now ds.now sought refusal t.turn) }
+    ensures turns { let sought = asked_of question.now in
+        IfOk result (λ t. IsTurnUntold zone.now ds.now sought refusal t.turn) }
     ensures counted { IfOk result (λ t. t.counts ≡ counts) }
 {
     let turn = untold(alloc, zone, ds, question, refusal)?;

@@ -1,14 +1,15 @@
 //! The way from a trust anchor down.
-ghost use Rattle.std.specs.Prelude.{◌≡◌, ◌++◌, [], ◌∷◌, IfOk, MatchResult, None, Some, true};
+ghost use Rattle.std.specs.Prelude.{◌≡◌, ◌++◌, [], ◌∷◌, length, nat_lt, IfOk, MatchResult};
+ghost use Rattle.std.specs.Prelude.{None, Some, true};
 ghost use Rattle.std.specs.Option.{is_some};
 ghost use Rattle.messages.specs.Questions.{asked_of};
-ghost use Rattle.resolution_evidence.specs.Counted.{no_counts};
 ghost use Rattle.resolution_evidence.specs.Lasts.{least_of};
 ghost use Rattle.resolution_evidence.specs.Walking.{is_asked_of};
 ghost use Rattle.resolution_walk.specs.Ended.{IsEnding, IsWalked, LastsIfSaid, lasting_said};
 ghost use Rattle.resolution_walk.specs.Ended.{said_of};
 ghost use Rattle.resolution_walk.specs.Stopping.{EndsHere, IsAliasOf, IsLed, IsNoAlias};
-ghost use Rattle.resolution_walk.specs.Stopping.{StopsIn, WalkStops};
+ghost use Rattle.resolution_walk.specs.Stopping.{StopsBelowIn, StopsIn, StopsWithin, WalkStops};
+ghost use Rattle.resolution_walk.specs.Stopping.{ending_within};
 ghost use Rattle.resolution_walk.specs.Truth.{WalksTruly};
 
 use crate::ending::{End, Ending, Taken, Target, Turn, Walk};
@@ -28,6 +29,8 @@ pub struct Limits {
     pub cuts: u16,
     /// How many aliases it follows.
     pub aliases: u16,
+    /// How many messages the evidence may have: beside so many, or more, it wants none.
+    pub messages: u16,
 }
 
 /// Says what evidence tells of a question: the verdict of the zone that has the name, or from where
@@ -40,6 +43,9 @@ pub struct Limits {
 /// messages that are wanted are exactly those that lack of the zone that the evidence leads down
 /// to: of its keys and its answer. For one name a message is judged once, so that the judgements
 /// grow with the messages and not with their square.
+///
+/// A limit is where a walk stops that goes on: at one more delegation for a name, one more alias,
+/// or where a message is wanted beside as many as are allowed.
 ///
 /// What is said lasts as long as each step of the way, through all zones and aliases; what says
 /// neither secure nor insecure lasts no time. The counts are those of all judgements that are made:
@@ -59,7 +65,7 @@ pub fn resolve(
     ensures walked { let asked = asked_of question.now in
         IfOk result (IsWalked evidence.now asked []) }
     ensures stops { let asked = asked_of question.now in
-        IfOk result (WalkStops evidence.now asked [] no_counts) }
+        IfOk result (StopsWithin evidence.now asked limits) }
     ensures lasts { IfOk result LastsIfSaid }
     ensures honest { let asked = asked_of question.now in
         IfOk result (WalksTruly evidence.now asked) }
@@ -76,7 +82,45 @@ pub fn resolve(
         limits.aliases,
         counts,
     )?;
-    Ok(lasting_if_said(walk))
+    Ok(lasting_if_said(within(evidence, limits.messages, walk)))
+}
+
+/// The walk, which wants no message beside so many.
+fn within(evidence: &Evidence, most: u16, walk: Walk) -> Walk
+    ensures ending { result.ending ≡ ending_within most evidence.now walk.ending }
+    ensures through { result.through ≡ walk.through }
+    ensures lasts { result.lasting ≡ walk.lasting }
+    ensures counts { result.counts ≡ walk.counts }
+{
+    Walk {
+        ending: ending_within(evidence, most, walk.ending),
+        through: walk.through,
+        lasting: walk.lasting,
+        counts: walk.counts,
+    }
+}
+
+/// The end, or the limit where messages are wanted and so many are there.
+fn ending_within(evidence: &Evidence, most: u16, ending: Ending) -> Ending
+    ensures { result ≡ ending_within most evidence.now ending }
+{
+    match ending {
+        Ending::Wants(wanted) => {
+            if has_room(evidence, most) {
+                Ending::Wants(wanted)
+            } else {
+                Ending::TooManyMessages
+            }
+        }
+        ending => ending,
+    }
+}
+
+/// Whether the evidence has fewer messages than so many.
+fn has_room(evidence: &Evidence, most: u16) -> bool
+    ensures { result ≡ nat_lt (length evidence.now.messages) most }
+{
+    evidence.messages.len() < usize::from(most)
 }
 
 /// The walk; where it says nothing, it lasts no time.
@@ -141,7 +185,7 @@ fn follow(
     ensures walked { let asked = asked_of question in
         IfOk result (IsWalked evidence.now asked through.items) }
     ensures stops { let asked = asked_of question in
-        IfOk result (WalkStops evidence.now asked through.items counts) }
+        IfOk result (WalkStops evidence.now asked cuts aliases through.items counts) }
 {
     let end = led(alloc, evidence, &question, cuts, counts)?;
     let target = match end {
@@ -212,7 +256,8 @@ fn led(
     counts: Counts,
 ) -> Result<Result<Target, End>, AllocError>
     ensures { let e = evidence.now in let asked = asked_of question.now in
-        IfOk result (λ r. MatchResult r (IsLed e asked counts) (EndsHere e asked counts)) }
+        let ends = EndsHere e asked cuts counts in
+        IfOk result (λ r. MatchResult r (IsLed e asked cuts counts) ends) }
 {
     if is_asked_of(evidence.anchor, question) {
         from_anchor(alloc, evidence, question, cuts, counts)
@@ -235,7 +280,8 @@ fn from_anchor(
 ) -> Result<Result<Target, End>, AllocError>
     requires { is_asked_of evidence.now.anchor (asked_of question.now) ≡ true }
     ensures { let e = evidence.now in let asked = asked_of question.now in
-        IfOk result (λ r. MatchResult r (IsLed e asked counts) (EndsHere e asked counts)) }
+        let ends = EndsHere e asked cuts counts in
+        IfOk result (λ r. MatchResult r (IsLed e asked cuts counts) ends) }
 {
     let (anchor, ds) = (evidence.anchor, evidence.ds);
     let end = descend(alloc, evidence, anchor, ds, question, cuts, counts)?;
@@ -289,7 +335,7 @@ fn descend(
     ensures leads { let asked = asked_of question.now in
         IfOk result (IsEnding evidence.now asked zone.now ds.now) }
     ensures stops { let asked = asked_of question.now in
-        IfOk result (StopsIn evidence.now asked zone.now ds.now counts) }
+        IfOk result (StopsIn evidence.now asked cuts zone.now ds.now counts) }
 {
     let taken = in_zone(alloc, evidence, zone, ds, question, counts)?;
     let (lasting, sums) = (taken.lasting, taken.counts);
@@ -332,7 +378,7 @@ fn below(
     ensures leads { let asked = asked_of question.now in
         IfOk result (IsEnding evidence.now asked zone.now ds.now) }
     ensures stops { let asked = asked_of question.now in
-        IfOk result (StopsIn evidence.now asked zone.now ds.now counts) }
+        IfOk result (StopsBelowIn evidence.now asked cuts zone.now ds.now counts) }
 {
     if cuts == 0 {
         Ok(End {

@@ -16,8 +16,8 @@ returns-in-Some c =
     let now = told c.in-Some.step in
     let r = c.taken_there.result in
     record {
-      leads = turned_at e asked zone ds q h t now r c.requires.between c.requires.of c.in_ok-telling.ensures c.in-Some.ensures c.taken_there.ensures.leads c.taken_there.ensures.lasts;
-      stops = name_stops_in e asked zone ds q h t now r c.requires.between c.requires.of c.in_ok-telling.ensures c.in-Some.ensures c.taken_there.ensures.stops;
+      leads = turned_at e asked zone ds q h t now r c.requires.between c.requires.of c.in_ok-telling.ensures c.in-Some.ensures.kept c.in-Some.ensures.cut c.taken_there.ensures.turns c.taken_there.ensures.lasts;
+      stops = name_stops_in e asked zone ds q h t now r c.requires.between c.requires.of c.in_ok-telling.ensures c.in-Some.ensures.kept c.in-Some.ensures.cut c.taken_there.ensures.turns;
       counted = name_counted_in e asked zone ds q h t c.args.counts c.plus-sums.result r c.requires.of c.in_ok-telling.ensures c.plus-sums.ensures c.taken_there.ensures.counted;
     }
 

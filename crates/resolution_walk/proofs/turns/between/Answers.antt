@@ -19,8 +19,8 @@ returns-in-Err c =
     let r = c.untold_there.result in
     let below = subst (λ (x : Result Taken Counts). IsJudgedBelow e asked zone ds sums (counts_in x)) c.in-Err.is c.in_ok-way.ensures.counted in
     record {
-      leads = stopped e asked zone ds r c.untold_there.ensures.leads;
-      stops = untold_stops_in e asked zone ds refusal own r c.requires c.untold_there.ensures.stops;
+      leads = stopped e asked zone ds refusal r c.untold_there.ensures.turns;
+      stops = untold_stops_in e asked zone ds refusal own r c.requires c.untold_there.ensures.turns;
       counted = untold_counted_in e asked zone ds refusal own c.args.counts sums c.in-Err.counts r c.requires c.plus-sums.ensures below c.untold_there.ensures.counted;
     }
 

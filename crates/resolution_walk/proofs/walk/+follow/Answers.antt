@@ -1,9 +1,8 @@
-use Rattle.std.proofs.Common.{◌∷◌, ◌++◌, [], ap, List, Result, subst, ◌∙◌}
-use Rattle.std.specs.Prelude.{◌≡◌, MatchResult}
+use Rattle.std.proofs.Common.{ap, arith, Result, subst}
+use Rattle.std.specs.Prelude.{MatchResult}
 use Rattle.std.specs.Global.{Vec}
 use Rattle.definitions.specs.Name.{Name}
 use Rattle.messages.specs.Questions.{asked_of}
-use Rattle.resolution_evidence.specs.Walking.{renamed}
 use Rattle.resolution_walk.specs.Stopping.{EndsHere, IsLed}
 use Rattle.resolution_walk.specs.declared.ending.End.{End}
 use Rattle.resolution_walk.specs.declared.ending.Target.{Target}
@@ -20,11 +19,11 @@ returns-in-Err t c =
     let w = c.walk_with.result in
     let kept = c.walk_with.ensures in
     let through = ap (λ (v : Vec Name). v.items) kept.through in
-    let here : EndsHere e asked c.args.counts end =
-    subst (λ (r : Result Target End). MatchResult r (IsLed e asked c.args.counts) (EndsHere e asked c.args.counts)) c.in-Err.is c.in_ok-end.ensures in
+    let here : EndsHere e asked c.args.cuts c.args.counts end =
+    subst (λ (r : Result Target End). MatchResult r (IsLed e asked c.args.cuts c.args.counts) (EndsHere e asked c.args.cuts c.args.counts)) c.in-Err.is c.in_ok-end.ensures in
     record {
       walked = walk_ends e asked names end w here.says kept.ending through kept.lasts;
-      stops = walk_stops e asked names c.args.counts end w here.stops kept.ending through kept.counts;
+      stops = walk_stops e asked c.args.cuts c.args.aliases names c.args.counts end w (here.stops c.args.aliases) kept.ending through kept.counts;
     }
 
 pub returns-then-aliases-eq0 : goal.returns-then-aliases-eq0
@@ -36,11 +35,11 @@ returns-then-aliases-eq0 t c =
     let w = c.too_many_aliases.result in
     let kept = c.too_many_aliases.ensures in
     let through = ap (λ (v : Vec Name). v.items) kept.through in
-    let led : IsLed e asked c.args.counts target =
-    subst (λ (r : Result Target End). MatchResult r (IsLed e asked c.args.counts) (EndsHere e asked c.args.counts)) c.in-Ok.is c.in_ok-end.ensures in
+    let led : IsLed e asked c.args.cuts c.args.counts target =
+    subst (λ (r : Result Target End). MatchResult r (IsLed e asked c.args.cuts c.args.counts) (EndsHere e asked c.args.cuts c.args.counts)) c.in-Ok.is c.in_ok-end.ensures in
     record {
       walked = walk_many e asked names w kept.ending;
-      stops = walk_stops_many e asked names c.args.counts target w led kept.ending through kept.counts;
+      stops = walk_stops_many e asked c.args.cuts c.args.aliases names c.args.counts target w c.if-aliases-eq0.true led kept.ending through kept.counts;
     }
 
 pub returns : goal.returns
@@ -54,9 +53,9 @@ returns t c =
     let w = c.behind.result in
     let kept = c.behind.ensures in
     let through = ap (λ (v : Vec Name). v.items) kept.through in
-    let led : IsLed e asked c.args.counts target =
-    subst (λ (r : Result Target End). MatchResult r (IsLed e asked c.args.counts) (EndsHere e asked c.args.counts)) c.in-Ok.is c.in_ok-end.ensures in
+    let led : IsLed e asked c.args.cuts c.args.counts target =
+    subst (λ (r : Result Target End). MatchResult r (IsLed e asked c.args.cuts c.args.counts) (EndsHere e asked c.args.cuts c.args.counts)) c.in-Ok.is c.in_ok-end.ensures in
     record {
-      walked = walk_led e asked c.args.counts target led names longer c.in_ok-longer.ensures walk w c.in_ok-walk.ensures.walked kept.ending through kept.lasts;
-      stops = walk_stops_led e asked names c.args.counts target longer walk w led c.in_ok-longer.ensures c.in_ok-walk.ensures.stops kept.ending through kept.counts;
+      walked = walk_led e asked c.args.cuts c.args.counts target led names longer c.in_ok-longer.ensures walk w c.in_ok-walk.ensures.walked kept.ending through kept.lasts;
+      stops = walk_stops_led e asked c.args.cuts c.args.aliases names c.args.counts target longer walk w (omega (arith, c.if-aliases-eq0.false)) led c.in_ok-longer.ensures c.in_ok-walk.ensures.stops kept.ending through kept.counts;
     }

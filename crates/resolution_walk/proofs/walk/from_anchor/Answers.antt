@@ -4,4 +4,4 @@ use Rattle.resolution_walk.proofs.walk.from_anchor.Goals as goal
 
 pub returns : goal.returns
 returns c =
-    alias_told c.args.evidence.now _ (asked_of c.args.question.now) c.args.counts c.in_ok-end.end c.alias_of.result c.evidence.view_is c.requires c.in_ok-end.ensures.leads c.in_ok-end.ensures.stops c.alias_of.ensures
+    alias_told c.args.evidence.now _ (asked_of c.args.question.now) c.args.cuts c.args.counts c.in_ok-end.end c.alias_of.result c.evidence.view_is c.requires c.in_ok-end.ensures.leads c.in_ok-end.ensures.stops c.alias_of.ensures
