@@ -160,6 +160,7 @@ number_of c.BadCase = 39
 number_of c.BadMessages = 40
 number_of c.TooManyCuts = 48
 number_of c.TooManyAliases = 49
+number_of c.TooManyMessages = 50
 
 abbrev pub code_of_verdict : Verdict → ReplyCode
 code_of_verdict (Records d) = c.Records
@@ -231,6 +232,7 @@ is_refusal c.NothingTold = true
 is_refusal c.Outside = true
 is_refusal c.TooManyCuts = true
 is_refusal c.TooManyAliases = true
+is_refusal c.TooManyMessages = true
 is_refusal _ = false
 
 -- what is replied

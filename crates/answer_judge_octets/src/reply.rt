@@ -94,6 +94,8 @@ pub enum ReplyCode {
     TooManyCuts = 48,
     /// More aliases are on the way to the name than are allowed.
     TooManyAliases = 49,
+    /// More messages are wanted than the evidence may have.
+    TooManyMessages = 50,
 }
 
 impl ReplyCode {
@@ -149,6 +151,7 @@ impl ReplyCode {
             40 => Some(ReplyCode::BadMessages),
             48 => Some(ReplyCode::TooManyCuts),
             49 => Some(ReplyCode::TooManyAliases),
+            50 => Some(ReplyCode::TooManyMessages),
             _ => None,
         }
     }
@@ -180,6 +183,7 @@ impl ReplyCode {
             ReplyCode::MessageTooLong | ReplyCode::TooManySignatures => true,
             ReplyCode::NothingTold | ReplyCode::Outside => true,
             ReplyCode::TooManyCuts | ReplyCode::TooManyAliases => true,
+            ReplyCode::TooManyMessages => true,
             _ => false,
         }
     }
