@@ -182,12 +182,15 @@ def count_of(*questions):
 
 # Lines behind the questions, and what is printed of each: nothing else where that is none.
 LIMITED = (
-    ("# Limits: delegations on the way, and aliases.", None),
+    ("# Limits: delegations on the way, aliases, and messages.", None),
     ("limits 1 11", None),
     ("resolve www.signed.test 1", f"too many cuts; {count_of('www.test')} messages"),
     ("resolve www.test 1", f"{records('test', address(1))}; {count_of('www.test')} messages{lasts('www.test', A)}"),
     ("limits 32 0", None),
     ("resolve alias.test 1", f"too many aliases; {count_of('alias.test')} messages"),
+    ("resolve www.test 1", f"{records('test', address(1))}; {count_of('www.test')} messages{lasts('www.test', A)}"),
+    ("limits 32 11 3", None),
+    ("resolve www.signed.test 1", f"too many messages; {count_of('www.test')} messages"),
     ("resolve www.test 1", f"{records('test', address(1))}; {count_of('www.test')} messages{lasts('www.test', A)}"),
     ("limits 32 11", None),
     ("# Messages that nobody has: these are wanted.", None),
@@ -218,6 +221,8 @@ OCTETS = (
     ("octets www.signed.test 1", f"too many cuts; {count_of('www.test')} messages"),
     ("limits 32 1", None),
     ("octets round.test 1", f"too many aliases; through round.signed.test; {count_of(*ROUND)} messages"),
+    ("limits 32 11 3", None),
+    ("octets www.signed.test 1", f"too many messages; {count_of('www.test')} messages"),
     ("limits 32 11", None),
     ("without test test 48", None),
     ("without test www.signed.test 1", None),

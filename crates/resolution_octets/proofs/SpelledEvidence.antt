@@ -1,5 +1,6 @@
 -- What evidence in octets spells.
 use Rattle.std.proofs.Common.{◌≡◌, false, List, [], ◌∷◌, refl, sym, ap, subst, ◌∙◌}
+use Rattle.definitions.specs.Name.{low}
 use Rattle.messages.specs.Message.{Asked}
 use Rattle.answer_judge_octets.specs.EntryLaws.{once_checked, once_ds, some_checked, some_ds}
 use Rattle.answer_judge_octets.specs.Replying.{judged_ds}
@@ -35,7 +36,7 @@ read_alike ss ts ms ns e p q = one_read ts ms ns (subst (λ (l : List Sent). Are
 
 one_given : (case : OctetEvidence) (e g : Given) (asked other : Asked) → Spells case e asked → Spells case g other → e ≡ g
 one_given case e g asked other p q =
-    let anchor = one_some e.anchor g.anchor _ p.anchor q.anchor in
+    let anchor = p.anchor.lowered ∙ ap low (one_some p.anchor.name q.anchor.name _ p.anchor.spelled q.anchor.spelled) ∙ sym q.anchor.lowered in
     let ds_set = spelled_once FitsDs ds_octets once_ds some_ds p.ds.ds_set q.ds.ds_set p.ds.spelled.fit q.ds.spelled.fit (sym p.ds.spelled.octets_are ∙ q.ds.spelled.octets_are) in
     let ds = p.ds.judged ∙ ap (judged_ds case.algorithms.now) ds_set ∙ sym q.ds.judged in
     let sent = spelled_once FitsSent sent_octets once_sent some_sent p.sent q.sent p.messages.fit q.messages.fit (sym p.messages.octets_are ∙ q.messages.octets_are) in

@@ -3,6 +3,7 @@ pub mod SentOnce
 pub mod Spelling
 pub mod ReadMessages
 pub mod ReadEvidence
+pub mod Limiting
 pub mod Saying
 pub mod Replying
 pub mod Laws

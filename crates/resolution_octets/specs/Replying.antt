@@ -6,27 +6,28 @@ use Rattle.answer_judge_octets.specs.declared.octets.Report.{Report}
 use Rattle.answer_judge_octets.specs.declared.reply.ReplyCode.{ReplyCode}
 use Rattle.answer_judge_octets.specs.declared.reply.ReplyCode.TheVariants as c
 use Rattle.resolution_evidence.specs.Given.{Given}
-use Rattle.resolution_evidence.specs.Counted.{no_counts}
 use Rattle.resolution_walk.specs.Ended.{IsWalked, LastsIfSaid}
-use Rattle.resolution_walk.specs.Stopping.{WalkStops}
+use Rattle.resolution_walk.specs.Stopping.{StopsWithin}
 use Rattle.resolution_walk.specs.Truth.{WalksTruly}
 use Rattle.resolution_walk.specs.declared.ending.Walk.{Walk}
+use Rattle.resolution_walk.specs.declared.walk.Limits.{Limits}
+use Rattle.resolution_octets.specs.Limiting.{limits_of}
 use Rattle.resolution_octets.specs.Saying.{IsSaid}
 use Rattle.resolution_octets.specs.Spelling.{Spells, Unread}
 use Rattle.resolution_octets.specs.declared.octets.OctetEvidence.{OctetEvidence}
 
--- A walk over evidence: where it leads from the anchor down and how long that lasts; where it stops, which messages it wants there, and
--- how often was verified and hashed on the way; and that of evidence of a tree it says what the tree says.
-pub record IsWalk (e : Given) (asked : Asked) (w : Walk) : Type 0 where
+-- A walk over evidence: where it leads from the anchor down and how long that lasts; where it stops within limits, which messages it
+-- wants there, and how often was verified and hashed on the way; and that of evidence of a tree it says what the tree says.
+pub record IsWalk (e : Given) (asked : Asked) (limits : Limits) (w : Walk) : Type 0 where
   pub walked : IsWalked e asked [] w
-  pub stops : WalkStops e asked [] no_counts w
+  pub stops : StopsWithin e asked limits w
   pub lasts : LastsIfSaid w
   pub honest : WalksTruly e asked w
 
--- a walk, and what it is replied as
+-- a walk within the limits of the evidence, and what it is replied as
 pub record Says (case : OctetEvidence) (e : Given) (asked : Asked) (said : Replied) : Type 0 where
   pub walk : Walk
-  pub is_walk : IsWalk e asked walk
+  pub is_walk : IsWalk e asked (limits_of case) walk
   pub is_said : IsSaid case.moment case.max_signatures (length e.table) e asked walk said
 
 -- what the octets spell, and what a walk over it says

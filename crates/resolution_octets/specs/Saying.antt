@@ -43,6 +43,7 @@ code_of_end (ends.Asks asks) = c.Ask
 code_of_end (ends.Wants ws) = c.Want
 code_of_end ends.TooManyCuts = c.TooManyCuts
 code_of_end ends.TooManyAliases = c.TooManyAliases
+code_of_end ends.TooManyMessages = c.TooManyMessages
 code_of_end ends.Outside = c.Outside
 
 -- The zone of a verdict and its data; the name that an alias leads to; the delegation below which nothing is signed, or the zone that
@@ -58,6 +59,7 @@ octets_of_end (ends.Asks asks) = []
 octets_of_end (ends.Wants ws) = []
 octets_of_end ends.TooManyCuts = []
 octets_of_end ends.TooManyAliases = []
+octets_of_end ends.TooManyMessages = []
 octets_of_end ends.Outside = []
 
 -- how many signatures may be checked, 256 where no number is said

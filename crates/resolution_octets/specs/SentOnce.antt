@@ -1,5 +1,5 @@
 -- Messages in octets stand there once, and take octets.
-use Rattle.std.proofs.Common.{◌≡◌, ℕ, ◌+◌, ◌<◌, List, ◌++◌, length, sym, ◌∙◌, append_assoc, length-append, arith}
+use Rattle.std.proofs.Common.{◌≡◌, ℕ, ◌<◌, List, ◌++◌, length, sym, ◌∙◌, append_assoc, length-append, arith}
 use Rattle.std.specs.Int.{w16, w32, to_be_bytes}
 use Rattle.names_rdata.specs.Composing.{with_length}
 use Rattle.definitions.proofs.SignedLaws.{pieces}

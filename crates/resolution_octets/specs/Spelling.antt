@@ -1,6 +1,7 @@
 -- What the octets of evidence spell.
 use Rattle.std.specs.Prelude.{◌≡◌, ℕ, ◌*◌, ◌==◌, ◌⊎◌, Bool, true, false, List, [], ◌∷◌, length, Option, Some, None, Contains, if◌then◌else◌}
 use Rattle.definitions.specs.Dnskey.{Ds}
+use Rattle.definitions.specs.Name.{Name, low}
 use Rattle.messages.specs.Message.{Asked}
 use Rattle.messages.specs.NameOctets.{name_of_octets}
 use Rattle.messages_canonical.specs.InForm.{GrowsTooLong, IsInForm}
@@ -56,9 +57,15 @@ pub record HasDs (case : OctetEvidence) (ds : List Ds) : Type 0 where
   pub judged : ds ≡ judged_ds case.algorithms.now ds_set
   pub some : (length ds == 0) ≡ false
 
+-- the name of an anchor's zone that octets spell, in lower case
+pub record IsAnchor (octets : List ℕ) (anchor : Name) : Type 0 where
+  pub name : Name
+  pub spelled : name_of_octets octets ≡ Some name
+  pub lowered : anchor ≡ low name
+
 -- What the octets spell: evidence, and a question of class IN.
 pub record Spells (case : OctetEvidence) (e : Given) (asked : Asked) : Type 0 where
-  pub anchor : name_of_octets case.anchor.now ≡ Some e.anchor
+  pub anchor : IsAnchor case.anchor.now e.anchor
   pub ds : HasDs case e.ds
   pub name : name_of_octets case.name.now ≡ Some asked.name
   pub rtype : asked.rtype ≡ case.rtype

@@ -1,8 +1,10 @@
 //! A walk from octets to octets, for callers in other languages.
 ghost use Rattle.std.specs.Prelude.{◌≡◌, ◌⊎◌, IfErr, IfOk, Some, None};
+ghost use Rattle.messages.specs.NameOctets.{name_of_octets};
 ghost use Rattle.answer_judge_octets.specs.Replying.{reply_seen};
+ghost use Rattle.resolution_octets.specs.Limiting.{limit_of, limits_of};
 ghost use Rattle.resolution_octets.specs.Replying.{Answers, Replies, Says};
-ghost use Rattle.resolution_octets.specs.Spelling.{HasDs, LacksDs, Unread, flag_in};
+ghost use Rattle.resolution_octets.specs.Spelling.{HasDs, IsAnchor, LacksDs, Unread, flag_in};
 ghost use Rattle.resolution_octets.specs.ReadEvidence.{ReadsAs, asked_in, given_of};
 
 use crate::handed::{IN, ReadMessage, handed, read_messages};
@@ -28,7 +30,7 @@ use std::time::Duration;
 pub struct OctetEvidence<'a> {
     /// How many octets the evidence has as its caller knows it: 128.
     pub size: usize,
-    /// The name of the trust anchor's zone.
+    /// The name of the trust anchor's zone, with capitals or without.
     pub anchor: &'a [u8],
     /// The DS set of the trust anchor: each record's data behind its length in two octets (RFC
     /// 4034, 5.1). Of them those are judged by that have a digest of SHA-256 or SHA-384 and one of
@@ -56,10 +58,12 @@ pub struct OctetEvidence<'a> {
     /// least that can be asked for.
     pub max_cuts: u16,
     /// How many aliases are followed at most; 0 stands for 16, so that one is the least that can be
-    /// asked for.
+    /// asked for, and what is beyond 255 for 255.
     pub max_aliases: u16,
     /// 1 where all signatures of an answer are to be of one inception and one expiration; else 0.
-    pub one_moment: u32,
+    pub one_moment: u16,
+    /// How many messages there may be: beside so many, or more, none is wanted; 0 stands for 128.
+    pub max_messages: u16,
     /// How many signatures `checked` may have with those that are asked for; 0 stands for 256.
     pub max_signatures: u32,
 }
@@ -69,10 +73,15 @@ const EVIDENCE_SIZE: usize = 128;
 
 const _: () = prove!(size_of::<OctetEvidence>() == EVIDENCE_SIZE);
 
-/// The numbers of delegations and aliases that limits of 0 stand for.
+/// The numbers of delegations, aliases and messages that limits of 0 stand for.
 const MOST_CUTS: u16 = 32;
 
 const MOST_ALIASES: u16 = 16;
+
+const MOST_MESSAGES: u16 = 128;
+
+/// How many aliases any evidence allows: the walk takes memory of its stack for each.
+const ALL_ALIASES: u16 = 255;
 
 /// What the octets of evidence spell.
 #[derive(Drop)]
@@ -154,11 +163,7 @@ fn walked(
         limit: handed_in.limit,
         one_moment: read.one_moment,
     };
-    let limits = Limits {
-        cuts: or_else(handed_in.max_cuts, MOST_CUTS),
-        aliases: or_else(handed_in.max_aliases, MOST_ALIASES),
-    };
-    let walk = resolve(alloc, &evidence, &read.question, limits)?;
+    let walk = resolve(alloc, &evidence, &read.question, limits_of(handed_in))?;
     let (second, most) = (handed_in.moment, handed_in.max_signatures);
     let checked = read.table.len();
     reply_of_walk(
@@ -172,8 +177,21 @@ fn walked(
     )
 }
 
+/// The limits of evidence.
+fn limits_of(evidence: &OctetEvidence) -> Limits
+    ensures { result ≡ limits_of evidence.now }
+{
+    Limits {
+        cuts: limit_of(evidence.max_cuts, MOST_CUTS),
+        aliases: limit_of(evidence.max_aliases, MOST_ALIASES).min(ALL_ALIASES),
+        messages: limit_of(evidence.max_messages, MOST_MESSAGES),
+    }
+}
+
 /// A number, or another in the place of 0.
-fn or_else(number: u16, other: u16) -> u16 {
+fn limit_of(number: u16, other: u16) -> u16
+    ensures { result ≡ limit_of number other }
+{
     if number == 0 { other } else { number }
 }
 
@@ -187,7 +205,7 @@ fn read_evidence<'a>(
         (λ c. (c ≡ ReplyCode.OutOfMemory) ⊎ Unread evidence.now c) }
 {
     let one_moment = flag_in(evidence)?;
-    let anchor = read_name(alloc, evidence.anchor, ReplyCode::BadApex)?;
+    let anchor = read_anchor(alloc, evidence.anchor)?;
     let ds = read_ds(alloc, evidence)?;
     let name = read_name(alloc, evidence.name, ReplyCode::BadName)?;
     let Some(sent) = read_list(alloc, evidence.messages)? else {
@@ -209,6 +227,17 @@ fn read_evidence<'a>(
         table,
         one_moment,
     })
+}
+
+/// Reads the anchor's name, in lower case.
+fn read_anchor(alloc: Global, octets: &[u8]) -> Result<Name<Vec<u8>>, ReplyCode>
+    ensures ok { IfOk result (λ n. IsAnchor octets.now n) }
+    ensures unread { IfErr result (λ c. (c ≡ ReplyCode.OutOfMemory)
+        ⊎ ((c ≡ ReplyCode.BadApex) × (name_of_octets octets.now ≡ None))) }
+{
+    let mut name = read_name(alloc, octets, ReplyCode::BadApex)?;
+    name.make_canonical();
+    Ok(name)
 }
 
 /// The DS records of the trust anchor that are judged by, one at least.

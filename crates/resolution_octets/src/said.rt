@@ -199,6 +199,7 @@ fn code_of_end(ending: &Ending) -> ReplyCode
         Ending::Wants(_) => ReplyCode::Want,
         Ending::TooManyCuts => ReplyCode::TooManyCuts,
         Ending::TooManyAliases => ReplyCode::TooManyAliases,
+        Ending::TooManyMessages => ReplyCode::TooManyMessages,
         Ending::Outside => ReplyCode::Outside,
     }
 }
@@ -250,7 +251,8 @@ fn put_end(alloc: Global, ending: &Ending, octets: &mut Vec<u8>) -> Result<(), A
             ..
         } => put_question(zone, name, *rtype, octets),
         Ending::Leads(Lead::TooLong) | Ending::Asks(_) | Ending::Wants(_) => Ok(()),
-        Ending::TooManyCuts | Ending::TooManyAliases | Ending::Outside => Ok(()),
+        Ending::TooManyCuts | Ending::TooManyAliases | Ending::TooManyMessages => Ok(()),
+        Ending::Outside => Ok(()),
     }
 }
 

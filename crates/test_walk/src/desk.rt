@@ -16,6 +16,9 @@ use std::alloc::Global;
 use std::time::Duration;
 use test_lines::{octets_of, text};
 
+/// How many messages a walk may have where no line says it.
+const MOST_MESSAGES: u16 = 128;
+
 #[derive(Drop)]
 pub struct Desk {
     signatures: Signatures,
@@ -34,6 +37,7 @@ impl Desk {
             limits: Limits {
                 cuts: 32,
                 aliases: 11,
+                messages: MOST_MESSAGES,
             },
             most: 0,
         }
@@ -210,13 +214,17 @@ fn part_of(word: &str) -> Option<Part> {
     }
 }
 
+/// Limits of delegations and aliases, and of messages, if they are said.
 fn limits_of(words: &[&str]) -> Option<Limits> {
-    let [cuts, aliases] = words else {
-        return None;
+    let (cuts, aliases, messages) = match words {
+        [cuts, aliases] => (cuts, aliases, MOST_MESSAGES),
+        [cuts, aliases, messages] => (cuts, aliases, messages.parse::<u16>().ok()?),
+        _ => return None,
     };
     Some(Limits {
         cuts: cuts.parse::<u16>().ok()?,
         aliases: aliases.parse::<u16>().ok()?,
+        messages,
     })
 }
 

@@ -131,6 +131,7 @@ impl Handed {
             max_cuts: walker.limits.cuts,
             max_aliases: walker.limits.aliases,
             one_moment: 0,
+            max_messages: walker.limits.messages,
             max_signatures: walker.most,
         };
         let mut out = Vec::from_elem(alloc, 0, ROOM).ok()?;

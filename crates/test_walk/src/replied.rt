@@ -48,6 +48,7 @@ fn ending_text(alloc: Global, code: ReplyCode, octets: &[u8]) -> Option<String> 
         ReplyCode::Dname => text(alloc, "an alias of no name"),
         ReplyCode::TooManyCuts => text(alloc, "too many cuts"),
         ReplyCode::TooManyAliases => text(alloc, "too many aliases"),
+        ReplyCode::TooManyMessages => text(alloc, "too many messages"),
         ReplyCode::Outside => text(alloc, "outside"),
         ReplyCode::Unsigned => named(alloc, "insecure below", octets),
         ReplyCode::Open => named(alloc, "insecure, left open by", octets),

@@ -48,6 +48,7 @@ fn ending_text(alloc: Global, ending: &Ending) -> Option<String> {
         Ending::Wants(wanted) => wanted_text(alloc, wanted),
         Ending::TooManyCuts => text(alloc, "too many cuts"),
         Ending::TooManyAliases => text(alloc, "too many aliases"),
+        Ending::TooManyMessages => text(alloc, "too many messages"),
         Ending::Outside => text(alloc, "outside"),
     }
 }

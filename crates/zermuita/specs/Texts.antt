@@ -44,6 +44,7 @@ code_text c.BadCase = codes "ZERMUITA_BAD_CASE: a size or a flag is unknown, oct
 code_text c.BadMessages = codes "ZERMUITA_BAD_MESSAGES: the messages are not messages behind the names that they are of"
 code_text c.TooManyCuts = codes "ZERMUITA_TOO_MANY_CUTS: more delegations are on the way to the name than are allowed"
 code_text c.TooManyAliases = codes "ZERMUITA_TOO_MANY_ALIASES: more aliases are on the way to the name than are allowed"
+code_text c.TooManyMessages = codes "ZERMUITA_TOO_MANY_MESSAGES: more messages are wanted than the evidence may have"
 
 -- The text of a reply's number, or that no reply has it, and an octet 0 behind it.
 pub record IsTextOf (number : ℕ) (octets : List ℕ) : Type 0 where

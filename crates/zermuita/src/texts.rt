@@ -83,5 +83,7 @@ fn text_of_code(code: ReplyCode) -> &'static [u8]
             b"ZERMUITA_TOO_MANY_CUTS: more delegations are on the way to the name than are allowed\0",
         ReplyCode::TooManyAliases =>
             b"ZERMUITA_TOO_MANY_ALIASES: more aliases are on the way to the name than are allowed\0",
+        ReplyCode::TooManyMessages =>
+            b"ZERMUITA_TOO_MANY_MESSAGES: more messages are wanted than the evidence may have\0",
     }
 }

@@ -1,8 +1,8 @@
 use Rattle.std.proofs.Common.{◌≡◌, [], length, rules}
-use Rattle.resolution_evidence.specs.Counted.{no_counts}
 use Rattle.resolution_walk.specs.Ended.{IsWalked, LastsIfSaid}
-use Rattle.resolution_walk.specs.Stopping.{WalkStops}
+use Rattle.resolution_walk.specs.Stopping.{StopsWithin}
 use Rattle.resolution_walk.specs.Truth.{WalksTruly}
+use Rattle.resolution_octets.specs.Limiting.{limits_of}
 use Rattle.resolution_octets.specs.ReadEvidence.{asked_in, given_of}
 use Rattle.resolution_octets.proofs.Walked.{says_in}
 use Rattle.resolution_octets.proofs.octets.walked.Goals as goal
@@ -15,7 +15,7 @@ returns c =
     let asked = asked_in read in
     let walk = c.in_ok-walk.walk in
     let walked : IsWalked e asked [] walk = search rules in
-    let stops : WalkStops e asked [] no_counts walk = search rules in
+    let stops : StopsWithin e asked (limits_of case) walk = search rules in
     let lasts : LastsIfSaid walk = search rules in
     let honest : WalksTruly e asked walk = search rules in
     let count : c.len-checked.result ≡ length read.table.items = search rules in

@@ -1,6 +1,4 @@
-use Rattle.std.proofs.Common.{◌≡◌, rules}
-use Rattle.answer_judge_octets.specs.Replying.{reply_seen}
-use Rattle.resolution_octets.specs.Saying.{end_reply}
+use Rattle.std.proofs.Common.{rules}
 use Rattle.resolution_octets.proofs.said.end_replied.Goals as goal
 
 pub returns : goal.returns
