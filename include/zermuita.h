@@ -99,8 +99,9 @@ enum zermuita_reply {
     ZERMUITA_BAD_MESSAGES = 40,   /* the messages are not messages behind the names that they are of */
 
     /* Limits of zermuita_resolve, which say why there is no verdict, too. */
-    ZERMUITA_TOO_MANY_CUTS = 48,   /* more delegations are on the way to the name than are allowed */
-    ZERMUITA_TOO_MANY_ALIASES = 49 /* more aliases are on the way to the name than are allowed */
+    ZERMUITA_TOO_MANY_CUTS = 48,    /* more delegations are on the way to the name than are allowed */
+    ZERMUITA_TOO_MANY_ALIASES = 49, /* more aliases are on the way to the name than are allowed */
+    ZERMUITA_TOO_MANY_MESSAGES = 50 /* more messages are wanted than the evidence may have */
 };
 
 /* Octets. Where there are none, `len` is 0, and `data` may be null. */
@@ -145,7 +146,7 @@ struct zermuita_case {
  */
 struct zermuita_evidence {
     size_t size;                       /* sizeof(struct zermuita_evidence) */
-    struct zermuita_octets anchor;     /* the name of the trust anchor's zone; for the root one octet, 0 */
+    struct zermuita_octets anchor;     /* the name of the trust anchor's zone, in any case; for the root one octet, 0 */
     struct zermuita_octets ds;         /* its DS set: each record's data behind its length in two octets */
     struct zermuita_octets name;       /* the name that is asked for */
     struct zermuita_octets messages;   /* the messages so far, back to back, in any order (zermuita_put_message) */
@@ -155,8 +156,9 @@ struct zermuita_evidence {
     uint16_t rtype;                    /* the type that is asked for */
     uint16_t max_nsec3_iterations;     /* how many iterations of a name's hash are allowed (RFC 9276, 3.2) */
     uint16_t max_cuts;                 /* how many delegations are gone down for a name at most; 0: 32, so 1 is the least */
-    uint16_t max_aliases;              /* how many aliases are followed at most; 0: 16, so 1 is the least */
-    uint32_t one_moment;               /* 1: the signatures of an answer must have one inception and one expiration; 0: any */
+    uint16_t max_aliases;              /* how many aliases are followed at most; 0: 16, so 1 is the least; beyond 255: 255 */
+    uint16_t one_moment;               /* 1: the signatures of an answer must have one inception and one expiration; 0: any */
+    uint16_t max_messages;             /* beside so many messages no more are wanted; 0: 128 */
     uint32_t max_signatures;           /* how many entries `checked` may have with those that are asked for; 0: 256 */
 };
 
@@ -280,7 +282,7 @@ static inline enum zermuita_reply zermuita_judge(const struct zermuita_case *han
  *   others                                   nothing
  *
  * With each reply that says something of the name, the names that aliases led through stand in front of that (zermuita_take_aliases):
- * with verdicts, with refusals that have octets, with ZERMUITA_OUTSIDE and with both limits.
+ * with verdicts, with refusals that have octets, with ZERMUITA_OUTSIDE and with the three limits.
  *
  * What is secure or insecure may be kept for `ttl` seconds from the arrival of the oldest message that it rests on, and not beyond
  * the second `until`: both are the least of each zone's step of the way, through all aliases. With other replies they are 0.

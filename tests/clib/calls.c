@@ -180,6 +180,57 @@ static void call_with_ds(void) {
     expect(reply_to(handed) == ZERMUITA_BAD_DS_SET, "octets that are no DS set");
 }
 
+/* A question for the address of a name, from an anchor with a DS record on, beside no messages. */
+static struct zermuita_evidence without_anything(struct zermuita_octets anchor, struct zermuita_octets ds) {
+    struct zermuita_evidence handed;
+    memset(&handed, 0, sizeof handed);
+    handed.size = sizeof handed;
+    handed.anchor = anchor;
+    handed.ds = ds;
+    handed.name = of(name, sizeof name);
+    handed.rtype = 1;
+    return handed;
+}
+
+static enum zermuita_reply walk_of(struct zermuita_evidence handed) {
+    uint8_t out[64];
+    return zermuita_resolve(&handed, out, sizeof out, NULL);
+}
+
+/* Evidence of walks: its size, its flag, and how many messages it may have. */
+static void call_with_evidence(void) {
+    static const uint8_t capital[] = {1, 'A', 0};
+    uint8_t ds[64], messages[64], out[64];
+    struct zermuita_octets ds_set = of(ds, put_ds(ds, 13, 2, 32));
+    struct zermuita_evidence handed = without_anything(of(root, sizeof root), ds_set);
+    for (size_t size = 0; size < sizeof handed + 32; size++) {
+        handed.size = size;
+        expect(walk_of(handed) == (size == 128 ? ZERMUITA_WANT : ZERMUITA_BAD_CASE), "the size of evidence");
+    }
+    handed.size = sizeof handed;
+    for (uint16_t flag = 0; flag < 3; flag++) {
+        handed.one_moment = flag;
+        expect(walk_of(handed) == (flag < 2 ? ZERMUITA_WANT : ZERMUITA_BAD_CASE), "the flag of evidence");
+    }
+    handed.one_moment = 0;
+    struct zermuita_wanted wanted;
+    wanted.zone = wanted.name = of(root, sizeof root);
+    wanted.rtype = 1;
+    zermuita_put_message(messages, &wanted, of(NULL, 0));
+    handed.messages = of(messages, zermuita_message_room(&wanted, 0));
+    for (uint16_t most = 0; most < 3; most++) {
+        handed.max_messages = most;
+        expect(walk_of(handed) == (most == 1 ? ZERMUITA_TOO_MANY_MESSAGES : ZERMUITA_WANT), "as many messages as there may be");
+    }
+    struct zermuita_report report = report_of_nines();
+    handed.max_messages = 1;
+    expect(zermuita_resolve(&handed, out, sizeof out, &report) == ZERMUITA_TOO_MANY_MESSAGES && report.len == 4, "no aliases");
+    handed = without_anything(of(capital, sizeof capital), ds_set);
+    expect(zermuita_resolve(&handed, out, sizeof out, &report) == ZERMUITA_WANT, "an anchor with capitals");
+    struct zermuita_octets rest = of(out, report.len);
+    expect(zermuita_next_wanted(&rest, &wanted) && wanted.zone.len == 3 && wanted.zone.data[1] == 'a', "its name in lower case");
+}
+
 /* What walks over replies, on octets made by hand. */
 static void walk_over_replies(void) {
     static const uint8_t records[] = {0, 2, 'a', 'b', 0, 0, 0, 1, 'c', 0, 9};
@@ -270,6 +321,7 @@ int main(void) {
     call_with_reports();
     call_with_flags();
     call_with_ds();
+    call_with_evidence();
     walk_over_replies();
     walk_over_names();
     walk_over_places();
@@ -277,7 +329,7 @@ int main(void) {
     for (int reply = 0; reply < 64; reply++) {
         uint32_t number = (uint32_t)reply;
         expect(zermuita_is_verdict(number) == (number <= ZERMUITA_REFERRAL), "verdicts");
-        int of_walks = number == ZERMUITA_TOO_MANY_CUTS || number == ZERMUITA_TOO_MANY_ALIASES;
+        int of_walks = ZERMUITA_TOO_MANY_CUTS <= number && number <= ZERMUITA_TOO_MANY_MESSAGES;
         expect(zermuita_is_refusal(number) == ((16 <= number && number <= ZERMUITA_OUTSIDE) || of_walks), "refusals");
         printf("%d %s\n", reply, zermuita_strerror((enum zermuita_reply)reply));
     }

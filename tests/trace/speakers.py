@@ -160,7 +160,7 @@ WORDS = {"RECORDS": "records", "WILDCARD": "records", "NODATA": "NODATA", "WILDC
          "DNAME": "YXDOMAIN"}
 
 # To these a resolver answers SERVFAIL, without any fault of signatures.
-AS_SERVFAIL = ("TOO_MANY_CUTS", "TOO_MANY_ALIASES")
+AS_SERVFAIL = ("TOO_MANY_CUTS", "TOO_MANY_ALIASES", "TOO_MANY_MESSAGES")
 
 
 class Trace:
