@@ -1,7 +1,13 @@
 -- What opening a zone and applying a line tell.
-use Rattle.std.specs.Prelude.{◌≡◌, ◌⊎◌, ℕ, ◌++◌, Bool, true, false, List, length, take, Some}
+use Rattle.std.specs.Prelude.{◌≡◌, ◌⊎◌, ℕ, ◌≤◌, ◌++◌, Bool, true, false, List, [], length, take, Some}
 use Rattle.answer_shared.specs.Hashing.{Hasher}
-use Rattle.server_zone.specs.Journals.{IsFresh, IsOpenError, IsSettledAt, journal_state}
+use Rattle.answer_zone_records.specs.declared.fault.ZoneFault.{ZoneFault}
+use Rattle.answer_zone_records.specs.declared.fault.ZoneFault.TheVariants as zone
+use Rattle.answer_publisher_keys.specs.declared.fault.KeyFault.{KeyFault}
+use Rattle.answer_publisher_keys.specs.declared.fault.KeyFault.TheVariants as key
+use Rattle.answer_publisher.specs.declared.fault.ReplaceFault.{ReplaceFault}
+use Rattle.answer_publisher.specs.declared.fault.ReplaceFault.TheVariants as replace
+use Rattle.server_zone.specs.Journals.{IsFresh, IsOpenError, IsSettledAt, NoneSettledBehind, journal_state}
 use Rattle.server_zone.specs.Lines.{unfinished}
 use Rattle.server_zone.specs.StateLines.{state_line}
 use Rattle.server_zone.specs.States.{Digest, Follows, HasAddresses, IsRestKept, OfLine, RefusesLine, applied_line, state_of}
@@ -16,8 +22,27 @@ use Rattle.server_zone_octets.specs.declared.code.ZoneCode.TheVariants as c
 use Rattle.server_zone_octets.specs.declared.report.ZoneReport.{ZoneReport}
 use Rattle.server_zone_octets.specs.Telling.{IsShown, IsUnknown, CodeAndOctets, is_known, only, telling, told_report}
 
+-- ---- want of memory
+
+-- for a zone of records, for its replacement, for a call on its keys
+abbrev pub is_zone_memory : ZoneFault → Bool
+is_zone_memory zone.Memory = true
+is_zone_memory _ = false
+
+abbrev pub is_replace_memory : ReplaceFault → Bool
+is_replace_memory replace.TooSoon = false
+is_replace_memory (replace.Zone f) = is_zone_memory f
+
+abbrev pub is_key_memory : KeyFault → Bool
+is_key_memory key.Memory = true
+is_key_memory _ = false
+
+-- memory ran out, wherever it was wanted
 abbrev pub is_memory : Refusal → Bool
 is_memory refusal.Memory = true
+is_memory (refusal.Zone f) = is_zone_memory f
+is_memory (refusal.Key f) = is_key_memory f
+is_memory (refusal.Replace f) = is_replace_memory f
 is_memory _ = false
 
 -- ---- what is told
@@ -68,12 +93,16 @@ pub record AppliesLine {S H : Type 0} (digest : Digest) (hash : Hasher) (line : 
 
 -- ---- a journal
 
--- a zone that is opened, and what its report says
+-- A zone that is opened, and what its report says: how many octets its whole lines have, and the last of these octets at which a line
+-- ends behind which no records are gathered.
 pub record OpensAs {S H : Type 0} (digest : Digest) (scheme : S) (hasher : H) (journal : List ℕ) (report : ZoneReport) (z : Zone S H) : Type 0 where
   pub state : journal_state digest journal ≡ Some (state_of z)
   pub fresh : IsFresh scheme hasher z
   pub whole : journal ≡ take report.whole journal ++ unfinished journal
   pub settled : IsSettledAt digest journal report.settled
+  pub inside : (report.settled ≤ report.whole) × (report.whole ≤ length journal)
+  pub last : NoneSettledBehind digest journal report.settled report.whole
+  pub all : (state_of z).gathered ≡ [] → report.settled ≡ report.whole
   pub report_is : report ≡ record (told_report 0) { whole = report.whole; settled = report.settled }
 
 -- a journal that is refused, and what is told

@@ -2,12 +2,13 @@
 ghost use Rattle.std.specs.Prelude.{◌≡◌, true, IfErr, IfOk};
 ghost use Rattle.server_zone.specs.States.{state_of};
 ghost use Rattle.server_zone_octets.specs.Lines.{AppliesLine, IsToldApplied, IsToldRefused};
-ghost use Rattle.server_zone_octets.specs.Lines.{OpensAs, RefusesOpening, SaysApplied, is_memory};
+ghost use Rattle.server_zone_octets.specs.Lines.{OpensAs, RefusesOpening, SaysApplied, is_key_memory, is_memory, is_replace_memory, is_zone_memory};
 ghost use Rattle.server_zone_octets.specs.Telling.{is_known, told_seen};
 
 use crate::code::ZoneCode;
 use crate::report::ZoneReport;
 use crate::told::{CodeAndOctets, put};
+use answer_publisher::fault::{KeyFault, ReplaceFault, ZoneFault};
 use answer_scheme::Scheme;
 use denial_nsec3_hash::hasher::Nsec3Hasher;
 use server_zone::{Applied, Refusal, Zone};
@@ -123,9 +124,39 @@ fn told_refusal(alloc: Global, refusal: &Refusal) -> CodeAndOctets
     }
 }
 
-/// Whether memory ran out.
+/// Whether memory ran out, for the line itself or for what the zone makes of it.
 fn is_memory(refusal: &Refusal) -> bool
     ensures { result ≡ is_memory refusal.now }
 {
-    matches!(refusal, Refusal::Memory)
+    match refusal {
+        Refusal::Memory => true,
+        Refusal::Zone(fault) => is_zone_memory(fault),
+        Refusal::Key(fault) => is_key_memory(fault),
+        Refusal::Replace(fault) => is_replace_memory(fault),
+        _ => false,
+    }
+}
+
+/// Whether memory ran out for a zone of records.
+fn is_zone_memory(fault: &ZoneFault) -> bool
+    ensures { result ≡ is_zone_memory fault.now }
+{
+    matches!(fault, ZoneFault::Memory)
+}
+
+/// Whether memory ran out for a call on keys.
+fn is_key_memory(fault: &KeyFault) -> bool
+    ensures { result ≡ is_key_memory fault.now }
+{
+    matches!(fault, KeyFault::Memory)
+}
+
+/// Whether memory ran out for a replacement.
+fn is_replace_memory(fault: &ReplaceFault) -> bool
+    ensures { result ≡ is_replace_memory fault.now }
+{
+    match fault {
+        ReplaceFault::TooSoon => false,
+        ReplaceFault::Zone(fault) => is_zone_memory(fault),
+    }
 }
