@@ -107,14 +107,14 @@ no_glue flags asked first second m addresses alone f is few set =
     let told : pair m 2 ≡ f = flags_told flags asked first second m alone (omega (arith, is, few)) ∙ is in
     ap (λ b. cond b [] (glue_in addresses m (message pointer_limit m))) (ap (λ n. eqb (n / 1024 % 2) 1) told ∙ set)
 
-hold_all : (rs : List HandedRr) → AllByRecursion IsAddress rs → AllByRecursion Holds (map written_as_handed rs)
+pub hold_all : (rs : List HandedRr) → AllByRecursion IsAddress rs → AllByRecursion Holds (map written_as_handed rs)
 hold_all [] h = tt
 hold_all (r ∷ rs) h =
     let internet : r.class ≡ 1 = eqb-true r.class 1 (and_parts (eqb r.class 1) (eqb r.rtype 1 || eqb r.rtype 28) h.0.is).0 in
     (record { owner = h.0.handed.owner; rtype = h.0.handed.rtype; class = omega (arith, internet); ttl = h.0.handed.ttl }, hold_all rs h.1)
 
 -- a judge uses no address where none is asked for
-unused_all : (t : ℕ) (rs : List HandedRr) → (eqb t 1 || eqb t 28) ≡ false → AllByRecursion IsAddress rs → AllByRecursion (IsUnused t) (map written_as_handed rs)
+pub unused_all : (t : ℕ) (rs : List HandedRr) → (eqb t 1 || eqb t 28) ≡ false → AllByRecursion IsAddress rs → AllByRecursion (IsUnused t) (map written_as_handed rs)
 unused_all t [] e h = tt
 unused_all t (r ∷ rs) e h =
     let p = or_parts (eqb t 1) (eqb t 28) e in
@@ -137,7 +137,7 @@ nothing true = refl
 nothing false = refl
 
 -- no question for OPT records is judged
-opt_unjudged : (h : JudgeInput) → h.asked.rtype ≡ 41 → is_judged h ≡ false
+pub opt_unjudged : (h : JudgeInput) → h.asked.rtype ≡ 41 → is_judged h ≡ false
 opt_unjudged h e =
     (λ i. (h.other_question && (among (5 ∷ 39 ∷ []) (e i) && eqb h.asked.class 1 && at_or_above h.apex h.asked.name)) || is_allowed h.apex h.asked)
     ∙ ap (λ b. b || is_allowed h.apex h.asked) (nothing h.other_question)
@@ -150,7 +150,7 @@ judged_by asked none later answer = elim (if not asked then Some r.QuestionNotAl
   | None ↦ if none then Says Unsigned else answer
 ]
 
-unjudged : (a : Answers) (h : JudgeInput) → is_judged h ≡ false → judged a pointer_limit h ≡ Refuses r.QuestionNotAllowed
+pub unjudged : (a : Answers) (h : JudgeInput) → is_judged h ≡ false → judged a pointer_limit h ≡ Refuses r.QuestionNotAllowed
 unjudged a h e = ap (λ b. judged_by b (nat_eq (length h.ds) 0) (message_refusal pointer_limit h) (judged_bytes a pointer_limit h)) e
 
 seen_judged : (m n : List ℕ) → SeenAlike pointer_limit 48 m n
@@ -169,11 +169,11 @@ seen_judged m n keys answers = record {
 
 -- ---- a response of it
 
-ok_is : {A E : Type 0} (x y : A) → (the_ok : Result A E) → the_ok ≡ Ok x → the_ok ≡ Ok y → x ≡ y
+pub ok_is : {A E : Type 0} (x y : A) → (the_ok : Result A E) → the_ok ≡ Ok x → the_ok ≡ Ok y → x ≡ y
 ok_is x y o e f = let h = sym e ∙ f in cc
 
 -- where addresses are asked for, there are none, or no signature covers one
-abbrev AreBare : List HandedRr → List Written → Type 0
+abbrev pub AreBare : List HandedRr → List Written → Type 0
 AreBare gs ws = (t : ℕ) → (eqb t 1 || eqb t 28) ≡ true → (gs ≡ []) ⊎ AllByRecursion (SignsOther t) ws
 
 module _ (flags : ℕ) (asked : Asked) (first second : List Written) (m : List ℕ) (limit size : ℕ) (q : Queried) (alone : IsAlone flags asked first second m) (small : size < 65536) (fits : limit ≤ 65535) (is : IsQuestion q.asked) (wanted : is_dnssec_ok q ≡ true) (name : low q.asked.name ≡ low asked.name) (rtype : q.asked.rtype ≡ asked.rtype) (class : q.asked.class ≡ asked.class) (gs : List HandedRr) (each : AllByRecursion IsAddress gs) (bare : AreBare gs (first ++ second)) where
@@ -238,10 +238,10 @@ module _ (w : World) (z : IsZone w) where
       (keys_formed w.zone.apex (sorted_records z.records) (are_handed w.answers.hash w.zone.apex w.zone.limit z.records w.zone.mode z.apex_is z.records_are z.accepted) ks)
 
 module _ (s : Serving) (q : Queried) (octets : List ℕ) (h : IsWhole s q octets) (m : List ℕ) where
-  abbrev by_table : World
+  abbrev pub by_table : World
   by_table = signed_by s.world (sign_by s.table) (verify_by s.table)
 
-  zone_table : IsZone by_table
+  pub zone_table : IsZone by_table
   zone_table = record { records = h.zone.records; apex_is = h.zone.apex_is; records_are = h.zone.records_are; accepted = h.zone.accepted; sorted = h.zone.sorted }
 
   abbrev the_served : Served
@@ -264,10 +264,10 @@ module _ (s : Serving) (q : Queried) (octets : List ℕ) (h : IsWhole s q octets
     unsigned : AllByRecursion NoSignature the_groups
     unsigned = groups_unsigned the_served q.asked.name q.asked.rtype plain_parts.0
 
-    abbrev told : Verdict
+    abbrev pub told : Verdict
     told = verdict the_served.zone false q.asked.name q.asked.rtype
 
-    alone : IsAlone (flags_for told) q.asked (joined is.written.answers) (joined is.written.authorities) m
+    pub alone : IsAlone (flags_for told) q.asked (joined is.written.answers) (joined is.written.authorities) m
     alone =
         written_alone by_table.sign by_table.answers.verifies s.world.zone.apex (second_of s.at) s.world.life _ _ q.asked is.answer is.authority the_groups m
         h.zone.apex_is h.asked formed unsigned is.groups_are is.written
@@ -276,7 +276,7 @@ module _ (s : Serving) (q : Queried) (octets : List ℕ) (h : IsWhole s q octets
     authoritative f e few set = no_glue (flags_for told) q.asked (joined is.written.answers) (joined is.written.authorities) m s.addresses alone f e few set
 
     -- only a referral has glue, and nothing there signs an address
-    bare : (v : Verdict) → told ≡ v → AreBare (glue s.addresses m) (joined is.written.answers ++ joined is.written.authorities)
+    pub bare : (v : Verdict) → told ≡ v → AreBare (glue s.addresses m) (joined is.written.answers ++ joined is.written.authorities)
     bare Delegated e t address =
         inr (written_other t by_table.sign by_table.answers.verifies s.world.zone.apex (second_of s.at) s.world.life _ _ q.asked is.answer is.authority the_groups m
         h.zone.apex_is formed unsigned (referral_other the_served q.asked.name q.asked.rtype t address e) is.groups_are is.written)

@@ -4,3 +4,5 @@ pub mod Alone
 pub mod ZoneGroups
 pub mod Shown
 pub mod Heard
+pub mod AnyQuestion
+pub mod Denied

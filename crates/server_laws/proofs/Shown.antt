@@ -370,7 +370,10 @@ module _ (flags : ℕ) (asked : Asked) (answers authority : List Written) (m : L
       (records_append firsts seconds (same_records answers firsts shown_answers is.sections.answers_are) (same_records authority seconds shown_authority is.sections.authority_are))
       (records_append more (opts size q.edns) (more_records few) (opts_records size q.edns small))
 
-  whole_reads : length whole ≤ 65535 → message pointer_limit whole ≡ Ok (record { asked = q.asked; records = spelled_from (first_place q.asked) (firsts ++ seconds ++ extras) })
+  abbrev pub shown_message : Message
+  shown_message = record { asked = q.asked; records = spelled_from (first_place q.asked) (firsts ++ seconds ++ extras) }
+
+  pub whole_reads : length whole ≤ 65535 → message pointer_limit whole ≡ Ok shown_message
   whole_reads few =
       read_framed whole q.header.id (response_flags q.header (pair m 2) false) (length firsts) (length seconds) extra q.asked (firsts ++ seconds ++ extras) [] whole_framed fits
       (omega (arith, same_length answers firsts shown_answers, is.sections.answers_fit)) (omega (arith, same_length authority seconds shown_authority, is.sections.authority_fit))
@@ -383,23 +386,26 @@ module _ (flags : ℕ) (asked : Asked) (answers authority : List Written) (m : L
       records_stand
       (subst (StandsAt whole (first_place q.asked)) (ap (λ x. x ++ []) (flat_map-append record_octets (firsts ++ seconds) extras) ∙ append_assoc (flat_map record_octets (firsts ++ seconds)) (flat_map record_octets extras) []) records_there)
 
-  pub whole_seen : (t : ℕ) → AllByRecursion (IsUnused t) more → eqb 41 t ≡ false → low q.asked.name ≡ low asked.name → q.asked.rtype ≡ asked.rtype → q.asked.class ≡ asked.class → length whole ≤ 65535 → SeenAlike pointer_limit t whole m
-  whole_seen t spare other name rtype class few =
+  pub whole_used : (t : ℕ) → AllByRecursion (IsUnused t) more → eqb 41 t ≡ false → length whole ≤ 65535 → AllZip (IsLike pointer_limit whole m) (filter (is_used t) shown_message.records) (filter (is_used t) spelled_all)
+  whole_used t spare other few =
       let behind : ℕ = place_behind (first_place q.asked) (firsts ++ seconds) in
       let z = records_same few in
       let used : AllZip (IsLike pointer_limit m whole) (filter (is_used t) spelled_all) (filter (is_used t) (spelled_from (first_place q.asked) (firsts ++ seconds) ++ spelled_from behind extras)) =
       both_used t behind extras pointer_limit m whole spelled_all (spelled_from (first_place q.asked) (firsts ++ seconds)) (unused_append t more (opts size q.edns) spare (unused_opts t size q.edns other)) z in
-      record {
-        one = record { asked = q.asked; records = spelled_from (first_place q.asked) (firsts ++ seconds ++ extras) };
-        other = in_message;
-        reads_one = whole_reads few;
-        reads_other = message_read;
-        name_is = name;
-        rtype_is = rtype;
-        class_is = class;
-        records_are = all_turned pointer_limit m whole (filter (is_used t) spelled_all) (filter (is_used t) (spelled_from (first_place q.asked) (firsts ++ seconds ++ extras)))
-            (subst (λ xs. AllZip (IsLike pointer_limit m whole) (filter (is_used t) spelled_all) (filter (is_used t) xs)) (sym (spelled_more (first_place q.asked) (firsts ++ seconds) extras)) used);
-      }
+      all_turned pointer_limit m whole (filter (is_used t) spelled_all) (filter (is_used t) (spelled_from (first_place q.asked) (firsts ++ seconds ++ extras)))
+      (subst (λ xs. AllZip (IsLike pointer_limit m whole) (filter (is_used t) spelled_all) (filter (is_used t) xs)) (sym (spelled_more (first_place q.asked) (firsts ++ seconds) extras)) used)
+
+  pub whole_seen : (t : ℕ) → AllByRecursion (IsUnused t) more → eqb 41 t ≡ false → low q.asked.name ≡ low asked.name → q.asked.rtype ≡ asked.rtype → q.asked.class ≡ asked.class → length whole ≤ 65535 → SeenAlike pointer_limit t whole m
+  whole_seen t spare other name rtype class few = record {
+    one = shown_message;
+    other = in_message;
+    reads_one = whole_reads few;
+    reads_other = message_read;
+    name_is = name;
+    rtype_is = rtype;
+    class_is = class;
+    records_are = whole_used t spare other few;
+  }
 
   -- no signature of the message covers a type that none of its signatures is of
   pub none_covers : (u : ℕ) → AllByRecursion (SignsOther u) (answers ++ authority) → list_any (is_covering pointer_limit m u) spelled_all ≡ false

@@ -20,6 +20,7 @@ use Rattle.server_queries.specs.Headers.{has_flag}
 use Rattle.server_queries.specs.Queries.{Queried}
 use Rattle.server_responses.specs.Responses.{is_dnssec_ok}
 use Rattle.server_answers.specs.Responding.{IsAnswered, Serving}
+use Rattle.server_answers.specs.Unheld.{IsDenied}
 
 -- the zone of a world is one of records that were handed in and accepted
 pub record IsZone (w : World) : Type 0 where
@@ -52,6 +53,22 @@ pub record IsJudgedAs (one other : List ℕ) : Type 0 where
 -- a response, and the message that it is made of
 abbrev pub ResponsesJudgedAlike : Type 0
 ResponsesJudgedAlike = (s : Serving) (q : Queried) (old new : Option ℕ) (octets : List ℕ) → IsWhole s q octets → (r : IsAnswered s q old new octets) → IsJudgedAs octets r.m
+
+-- the same of a question for any type
+pub record HoldsAll (s : Serving) (q : Queried) (octets : List ℕ) : Type 0 where
+  pub zone : IsZone s.world
+  pub asked : IsQuestion q.asked
+  pub wanted : is_dnssec_ok q ≡ true
+  pub limit : s.limit ≤ 65535
+  pub size : s.size < 65536
+  pub whole : is_truncated octets ≡ false
+
+-- The response to a question for a type that no zone holds is made of the message for a reserved type: a judge that takes an answer to
+-- another question says of it what it says of that message, whatever it is asked.
+abbrev pub DenialsJudgedAlike : Type 0
+DenialsJudgedAlike =
+    (s : Serving) (q : Queried) (old new : Option ℕ) (octets : List ℕ) → HoldsAll s q octets → (d : IsDenied s q old new octets)
+    → (a : Answers) (h : JudgeInput) → h.other_question ≡ true → judged a pointer_limit (record h { answer_bytes = octets }) ≡ judged a pointer_limit (record h { answer_bytes = d.0.m })
 
 -- What a zone under keys that meet has given, a DNSKEY answer and an answer, is judged by its clients as it is: from the whole responses
 -- that they have of both, whichever servers of the zone made them, the judge says the zone's verdict.

@@ -1,5 +1,5 @@
 //! Laws of the responses of a name server.
-ghost use Rattle.server_laws.specs.Heard.{ClientsAreTold, ResponsesJudgedAlike};
+ghost use Rattle.server_laws.specs.Heard.{ClientsAreTold, DenialsJudgedAlike, ResponsesJudgedAlike};
 ghost use Rattle.server_laws.specs.Unheld.{AbsentAnsweredAlike, UnheldAnsweredAlike};
 
 /// A judge says of a whole response to a query that wants records of DNSSEC what it says of the
@@ -11,6 +11,14 @@ ghost use Rattle.server_laws.specs.Unheld.{AbsentAnsweredAlike, UnheldAnsweredAl
 /// without TC holds all that the message holds.
 pub fn responses_are_judged_alike()
     ensures { ResponsesJudgedAlike }
+{}
+
+/// A response to a question for a type that no zone holds (CNAME, DNAME, NSEC3; but at the apex
+/// DNSKEY and NSEC3PARAM) is made of the zone's message for a reserved type: of such a response,
+/// whole and with records of DNSSEC, a judge that takes an answer to another question says what it
+/// says of that message.
+pub fn denials_are_judged_alike()
+    ensures { DenialsJudgedAlike }
 {}
 
 /// So the verdict reaches the clients of a name server: from the whole responses to two queries,

@@ -1,0 +1,119 @@
+-- A judge that takes answers to other questions says the same of messages whose records are alike, whatever they ask.
+use Rattle.std.proofs.Common.{◌≡◌, ℕ, Bool, true, false, not, ◌&&◌, ◌||◌, List, filter, length, Option, Some, None, Result, Ok, Err, nat_eq, sym, ap, ◌∙◌}
+use Rattle.std.specs.Prelude.{if◌then◌else◌}
+use Rattle.std.specs.List.{AllZip, list_any}
+use Rattle.definitions.specs.Dnskey.{Dnskey}
+use Rattle.definitions.specs.Name.{Name}
+use Rattle.definitions.specs.Zone.{Unsigned}
+use Rattle.denial_laws.specs.Facts.{Facts}
+use Rattle.messages.specs.declared.error.MessageError.{MessageError}
+use Rattle.messages.specs.Message.{Asked, Message, message}
+use Rattle.answer_scheme.specs.Answers.{Answers}
+use Rattle.answer_shared.specs.Alike.{IsLike}
+use Rattle.answer_shared.specs.EqualTags.{has_equal_tags}
+use Rattle.answer_shared.specs.FactsCase.{low_facts}
+use Rattle.answer_shared.proofs.FactsCase.{caseless}
+use Rattle.answer_judge_rules.specs.Hashes.{hash_among}
+use Rattle.answer_judge_keys.specs.Judging.{Answer, JudgeInput, Refuses, Says, is_judged, keys_in, may_ask, message_refusal, same_question}
+use Rattle.answer_judge_keys.specs.Trusted.{is_usable}
+use Rattle.answer_judge_keys.specs.declared.verdict.Refusal.{Refusal}
+use Rattle.answer_judge_keys.specs.declared.verdict.Refusal.TheVariants as r
+use Rattle.answer_judge_facts.specs.Judged.{are_mixed, are_over, by_facts, ds_authenticates_keys, facts_in, is_unhashed, judged, judged_answer, judged_bytes, judged_facts, judged_messages, keys_of, trusting}
+use Rattle.answer_judge_facts.specs.Times.{are_unlike, proof_times}
+use Rattle.answer_judge_facts.specs.Verified.{Trusting, verified_facts}
+use Rattle.answer_alike.specs.SeenAlike.{is_covering, is_used}
+use Rattle.answer_alike.proofs.FactsAlike.{all_bare_times, all_times, bare_facts, facts_alike}
+
+-- ---- what a judge looks at
+
+abbrev keys_question : Name → Asked
+keys_question apex = record { name = apex; rtype = 48; class = 1 }
+
+abbrev refused_by : Bool → Bool → Option Refusal
+refused_by asks tags = if not asks then Some r.QuestionMismatch else if tags then Some r.EqualTags else None
+
+abbrev refused_of : Result Message MessageError → Result Message MessageError → (Message → Message → Option Refusal) → Option Refusal
+refused_of keys answer f = elim keys [
+  | Err e ↦ Some r.BadDnskeyMessage
+  | Ok x ↦ elim answer [ Err e ↦ Some r.BadAnswerMessage | Ok y ↦ f x y ]
+]
+
+abbrev judged_of : Result Message MessageError → Result Message MessageError → (Message → Message → Answer) → Answer
+judged_of keys answer f = elim keys [
+  | Err e ↦ Refuses r.BadDnskeyMessage
+  | Ok x ↦ elim answer [ Err e ↦ Refuses r.BadAnswerMessage | Ok y ↦ f x y ]
+]
+
+abbrev said_of : Bool → Bool → Option Refusal → Answer → Answer
+said_of allowed none later answer = elim (if not allowed then Some r.QuestionNotAllowed else if none then None else later) [
+  | Some e ↦ Refuses e
+  | None ↦ if none then Says Unsigned else answer
+]
+
+-- ---- facts, in whose links the case of names means nothing
+
+judged_low : (a : Answers) (h : JudgeInput) (f : Facts) → judged_facts a h f ≡ judged_facts a h (low_facts f)
+judged_low a h f =
+    ap (λ v. if are_mixed f.hash_links then Refuses r.MixedNsec3Parameters else if are_over h.limit f.hash_links then Refuses r.IterationsOverLimit else if is_unhashed a h f then Refuses r.HashFailed else by_facts v)
+    (sym (caseless h.apex (hash_among a.hash f.hash_links) f h.asked.name h.asked.rtype).links)
+
+judged_same : (a : Answers) (h : JudgeInput) (f g : Facts) → low_facts f ≡ low_facts g → judged_facts a h f ≡ judged_facts a h g
+judged_same a h f g e = judged_low a h f ∙ ap (judged_facts a h) e ∙ sym (judged_low a h g)
+
+-- ---- answers to any question
+
+module _ (a : Answers) (k : ℕ) (h : JudgeInput) (any : h.other_question ≡ true) (m n : List ℕ) (one other : Message) (reads_one : message k m ≡ Ok one) (reads_other : message k n ≡ Ok other) where
+  abbrev one_handing : JudgeInput
+  one_handing = record h { answer_bytes = m }
+
+  abbrev other_handing : JudgeInput
+  other_handing = record h { answer_bytes = n }
+
+  module _ (facts : (w : Trusting) → low_facts (verified_facts w k m one.records h.asked.name h.asked.rtype) ≡ low_facts (verified_facts w k n other.records h.asked.name h.asked.rtype)) (times : (w : Trusting) → proof_times w k m one.records h.asked.name h.asked.rtype ≡ proof_times w k n other.records h.asked.name h.asked.rtype) where
+    answer_asked : may_ask one_handing one.asked ≡ may_ask other_handing other.asked
+    answer_asked = ap (λ b. b || same_question one.asked h.asked) any ∙ sym (ap (λ b. b || same_question other.asked h.asked) any)
+
+    abbrev answer_refused : (Message → Bool) → Message → Message → Option Refusal
+    answer_refused asks x y = refused_by (same_question x.asked (keys_question h.apex) && asks y) (has_equal_tags (keys_in h.dnskey_bytes h.apex x.records))
+
+    answer_first : message_refusal k one_handing ≡ message_refusal k other_handing
+    answer_first =
+        ap (λ o. refused_of (message k h.dnskey_bytes) o (answer_refused (λ y. may_ask one_handing y.asked))) reads_one
+        ∙ (λ i. refused_of (message k h.dnskey_bytes) (Ok one) (answer_refused (λ y. answer_asked i)))
+        ∙ ap (λ o. refused_of (message k h.dnskey_bytes) o (answer_refused (λ y. may_ask other_handing y.asked))) (sym reads_other)
+
+    answer_judged : (usable : List Dnskey) → judged_answer a k one_handing usable one ≡ judged_answer a k other_handing usable other
+    answer_judged usable =
+        let w = trusting a h usable in
+        let at = times w in
+        let same : judged_facts a h (facts_in a k one_handing usable one) ≡ judged_facts a h (facts_in a k other_handing usable other) =
+        judged_same a h (facts_in a k one_handing usable one) (facts_in a k other_handing usable other) (facts w) in
+        λ i. if h.one_moment && are_unlike (at i) then Refuses r.MixedVersions else same i
+
+    chained_answer : (x : Message) → judged_messages a k one_handing x one ≡ judged_messages a k other_handing x other
+    chained_answer x =
+        ap (λ v. elim (ds_authenticates_keys a k h x) as (λ _. Answer) [ true ↦ v | false ↦ Refuses r.NoTrustedKey ]) (answer_judged (filter is_usable (keys_of h x)))
+
+    answer_bytes_judged : judged_bytes a k one_handing ≡ judged_bytes a k other_handing
+    answer_bytes_judged =
+        ap (λ o. judged_of (message k h.dnskey_bytes) o (judged_messages a k one_handing)) reads_one
+        ∙ (λ i. judged_of (message k h.dnskey_bytes) (Ok one) (λ x y. chained_answer x i))
+        ∙ ap (λ o. judged_of (message k h.dnskey_bytes) o (judged_messages a k other_handing)) (sym reads_other)
+
+    answers_judged : judged a k one_handing ≡ judged a k other_handing
+    answers_judged = λ i. said_of (is_judged h) (nat_eq (length h.ds) 0) (answer_first i) (answer_bytes_judged i)
+
+  -- where the records are alike that are used for the type that is asked for
+  pub any_alike : AllZip (IsLike k m n) (filter (is_used h.asked.rtype) one.records) (filter (is_used h.asked.rtype) other.records) → judged a k one_handing ≡ judged a k other_handing
+  any_alike alike =
+      answers_judged
+      (λ w. facts_alike k m n h.asked.rtype one.records other.records alike w h.asked.name)
+      (λ w. all_times k m n h.asked.rtype one.records other.records alike w h.asked.name)
+
+  -- where signatures and records of chains are alike, and no signature covers that type
+  pub any_uncovered : AllZip (IsLike k m n) (filter (is_used 46) one.records) (filter (is_used 46) other.records) → list_any (is_covering k n h.asked.rtype) other.records ≡ false
+      → judged a k one_handing ≡ judged a k other_handing
+  any_uncovered alike bare =
+      answers_judged
+      (λ w. bare_facts k m n h.asked.rtype one.records other.records alike bare w h.asked.name)
+      (λ w. all_bare_times k m n h.asked.rtype one.records other.records alike bare w h.asked.name)

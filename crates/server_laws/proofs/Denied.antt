@@ -1,0 +1,122 @@
+-- A judge says of a response to a question for a type that no zone holds what it says of the message for the reserved type.
+use Rattle.std.proofs.Common.{◌≡◌, ℕ, ◌≤◌, ◌<◌, Bool, true, false, ◌||◌, List, [], ◌++◌, length, map, Ok, eqb, refl, sym, subst, ap, ◌∙◌, ⊎_elim, arith, lit<}
+use Rattle.std.specs.List.{AllByRecursion}
+use Rattle.std.proofs.lemmas.Bool.{eqb-true}
+use Rattle.definitions.specs.Limits.{pointer_limit}
+use Rattle.messages.specs.HandedRr.{HandedRr}
+use Rattle.messages.specs.Message.{Asked, Message, Spelled, message}
+use Rattle.messages.specs.Written.{Written}
+use Rattle.messages.specs.WrittenLaws.{IsQuestion}
+use Rattle.answer_scheme.specs.Answers.{Answers}
+use Rattle.answer_zone.specs.ZoneAnswers.{flags_for}
+use Rattle.answer_judge_keys.specs.Judging.{JudgeInput, is_judged}
+use Rattle.answer_judge_facts.specs.Judged.{judged}
+use Rattle.server_answers.specs.Composed.{joined}
+use Rattle.server_answers.specs.Glue.{IsAddress, glue}
+use Rattle.server_answers.specs.Responding.{IsMessage, Serving}
+use Rattle.server_answers.specs.Unheld.{IsDenied, reserved}
+use Rattle.server_answers.specs.Table.{sign_by, verify_by}
+use Rattle.server_answers.specs.World.{AnswersQuestion}
+use Rattle.server_answers.proofs.Signing.{own_entries}
+use Rattle.server_queries.specs.Queries.{Queried}
+use Rattle.server_responses.specs.Responses.{AnswersQuery, is_dnssec_ok, response_of}
+use Rattle.server_responses.specs.Sections.{written_as_handed}
+use Rattle.server_laws.specs.Heard.{DenialsJudgedAlike, HoldsAll, IsWhole, is_truncated}
+use Rattle.server_laws.proofs.Alone.{SignsOther}
+use Rattle.server_laws.proofs.AnyQuestion.{any_alike, any_uncovered}
+use Rattle.server_laws.proofs.Heard.{AreBare, alone, bare, by_table, hold_all, ok_is, opt_unjudged, told, unjudged, unused_all}
+use Rattle.server_laws.proofs.Shown.{IsAlone, IsUnused, in_message, message_read, none_covers, shown_message, spelled_all, whole, whole_reads, whole_used, whole_where_clear}
+
+module _ (flags : ℕ) (asked : Asked) (first second : List Written) (m : List ℕ) (limit size : ℕ) (q : Queried) (is_alone : IsAlone flags asked first second m) (small : size < 65536) (fits : limit ≤ 65535) (is : IsQuestion q.asked) (wanted : is_dnssec_ok q ≡ true) (gs : List HandedRr) (each : AllByRecursion IsAddress gs) (are_bare : AreBare gs (first ++ second)) where
+  abbrev more : List Written
+  more = map written_as_handed gs
+
+  abbrev the_whole : List ℕ
+  the_whole = whole flags asked first second m is_alone size q small is wanted more (hold_all gs each)
+
+  abbrev the_records : List Spelled
+  the_records = spelled_all flags asked first second m is_alone size q small is wanted more (hold_all gs each)
+
+  abbrev the_message : Message
+  the_message = in_message flags asked first second m is_alone size q small is wanted more (hold_all gs each)
+
+  abbrev the_shown : Message
+  the_shown = shown_message flags asked first second m is_alone size q small is wanted more (hold_all gs each)
+
+  back : message pointer_limit m ≡ Ok the_message
+  back = message_read flags asked first second m is_alone size q small is wanted more (hold_all gs each)
+
+  module _ (few : length the_whole ≤ 65535) (a : Answers) (h : JudgeInput) (any : h.other_question ≡ true) where
+    abbrev Same : Type 0
+    Same = judged a pointer_limit (record h { answer_bytes = the_whole }) ≡ judged a pointer_limit (record h { answer_bytes = m })
+
+    reads : message pointer_limit the_whole ≡ Ok the_shown
+    reads = whole_reads flags asked first second m is_alone size q small is wanted more (hold_all gs each) few
+
+    -- where the additional section has no record that is used
+    spared : AllByRecursion (IsUnused h.asked.rtype) more → eqb 41 h.asked.rtype ≡ false → Same
+    spared spare other =
+        any_alike a pointer_limit h any the_whole m the_shown the_message reads back
+        (whole_used flags asked first second m is_alone size q small is wanted more (hold_all gs each) h.asked.rtype spare other few)
+
+    -- where an address is asked for that no signature covers
+    covered : AllByRecursion (SignsOther h.asked.rtype) (first ++ second) → Same
+    covered others =
+        any_uncovered a pointer_limit h any the_whole m the_shown the_message reads back
+        (whole_used flags asked first second m is_alone size q small is wanted more (hold_all gs each) 46 (unused_all 46 gs refl each) refl few)
+        (none_covers flags asked first second m is_alone size q small is wanted more (hold_all gs each) h.asked.rtype others)
+
+    of_address : (b : Bool) → (eqb h.asked.rtype 1 || eqb h.asked.rtype 28) ≡ b → eqb 41 h.asked.rtype ≡ false → Same
+    of_address false e other = spared (unused_all h.asked.rtype gs e each) other
+    of_address true e other =
+        ⊎_elim
+        (λ none. spared (subst (λ (xs : List HandedRr). AllByRecursion (IsUnused h.asked.rtype) (map written_as_handed xs)) (sym none) tt) other)
+        covered
+        (are_bare h.asked.rtype e)
+
+    of_opt : (b : Bool) → eqb 41 h.asked.rtype ≡ b → Same
+    of_opt true e =
+        let opt : is_judged h ≡ false = opt_unjudged h (sym (eqb-true 41 h.asked.rtype e)) in
+        unjudged a (record h { answer_bytes = the_whole }) opt ∙ sym (unjudged a (record h { answer_bytes = m }) opt)
+    of_opt false e = of_address (eqb h.asked.rtype 1 || eqb h.asked.rtype 28) refl e
+
+    whole_judged : Same
+    whole_judged = of_opt (eqb 41 h.asked.rtype) refl
+
+  response_judged : (octets : List ℕ) → is_truncated octets ≡ false → AnswersQuery limit size q m gs octets
+      → (a : Answers) (h : JudgeInput) → h.other_question ≡ true → judged a pointer_limit (record h { answer_bytes = octets }) ≡ judged a pointer_limit (record h { answer_bytes = m })
+  response_judged octets clear (read, reads, are) a h any =
+      let same : response_of limit size q m read.records more ≡ response_of limit size q m the_records more = ap (λ (x : Message). response_of limit size q m x.records more) (ok_is read _ (message pointer_limit m) reads back) in
+      let found = whole_where_clear flags asked first second m is_alone size q small is wanted more (hold_all gs each) limit (ap is_truncated (sym (are ∙ same)) ∙ clear) in
+      subst (λ (o : List ℕ). judged a pointer_limit (record h { answer_bytes = o }) ≡ judged a pointer_limit (record h { answer_bytes = m })) (sym (are ∙ same ∙ found.0))
+      (whole_judged (omega (arith, found.1, fits)) a h any)
+
+-- ---- by a server
+
+abbrev reserving : Queried → Queried
+reserving q = record q { asked = reserved q.asked }
+
+module _ (s : Serving) (q : Queried) (octets : List ℕ) (h : HoldsAll s q octets) (m : List ℕ) where
+  of_reserved : IsWhole s (reserving q) octets
+  of_reserved = record {
+    zone = h.zone;
+    asked = record { name = h.asked.name; rtype = lit< tt; class = h.asked.class };
+    plain = refl;
+    wanted = h.wanted;
+    limit = h.limit;
+    size = h.size;
+    whole = h.whole;
+  }
+
+  denial_judged : AnswersQuestion (by_table s (reserving q) octets of_reserved m) s.keys s.at (reserved q.asked) m → AllByRecursion IsAddress (glue s.addresses m) → AnswersQuery s.limit s.size q m (glue s.addresses m) octets
+      → (a : Answers) (j : JudgeInput) → j.other_question ≡ true → judged a pointer_limit (record j { answer_bytes = octets }) ≡ judged a pointer_limit (record j { answer_bytes = m })
+  denial_judged is each answers =
+      let said = told s (reserving q) octets of_reserved m is in
+      response_judged (flags_for said) (reserved q.asked) (joined is.written.answers) (joined is.written.authorities) m s.limit s.size q
+      (alone s (reserving q) octets of_reserved m is) h.size h.limit h.asked h.wanted (glue s.addresses m) each (bare s (reserving q) octets of_reserved m is said refl)
+      octets h.whole answers
+
+pub denials_judged : DenialsJudgedAlike
+denials_judged s q old new octets h d =
+    let made = subst (λ (b : Bool). IsMessage s (reserved q.asked) false b d.0.m) h.wanted d.0.is_message in
+    denial_judged s q octets h d.0.m (made.0 (sign_by s.table) (verify_by s.table) (own_entries s.table)).0 d.1.each d.1.answers
