@@ -6,8 +6,7 @@ use Rattle.server_zone_octets.proofs.lines.open_octets.Goals as goal
 pub returns-in-Ok-clause-opened : goal.returns-in-Ok-clause-opened
 returns-in-Ok-clause-opened g c =
     let e = c.in-Ok.ensures in
-    let z = c.in-Ok.opened.zone in
-    (
+    let z = c.in-Ok.opened.zone in (
       record {
         state = e.state;
         fresh = e.fresh;
