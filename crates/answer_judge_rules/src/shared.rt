@@ -1,5 +1,5 @@
 //! Labels that two names have in common at their ends.
-ghost use Rattle.std.specs.Prelude.{◌≡◌, ◌≤◌, length};
+ghost use Rattle.std.specs.Prelude.{◌≡◌, length};
 ghost use Rattle.answer_judge_rules.specs.Enclosers.{shared};
 
 use denial_nsec3_hash::wire_form::without_first;
@@ -16,7 +16,8 @@ pub(crate) fn shared_labels<A: Absolute, B: Absolute>(name: &A, other: &B) -> us
     shared_beside(count.min(others), labels, beside) - 1
 }
 
-/// The same of `count` labels of both names, the root's counted.
+/// How many of the last `count` labels of two names, the root's counted, are equal up to the first
+/// from the end that differs.
 fn shared_beside<A: Absolute, B: Absolute>(
     count: usize,
     labels: LabelIter<'_, A>,
