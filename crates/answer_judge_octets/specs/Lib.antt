@@ -1,4 +1,5 @@
 pub mod Written
+pub mod Crowded
 pub mod Places
 pub mod Replying
 pub mod ReadCases

@@ -27,6 +27,7 @@ use Rattle.answer_judge_octets.specs.declared.octets.OctetCase.{OctetCase}
 use Rattle.answer_judge_octets.specs.declared.octets.Report.{Report}
 use Rattle.answer_findings.specs.Asking.{unchecked}
 use Rattle.answer_findings.specs.Table.{Checked, Tried, answers_with, passes_in}
+use Rattle.answer_judge_octets.specs.Crowded.{are_crowded}
 use Rattle.answer_judge_octets.specs.Places.{octets_in_front}
 use Rattle.answer_judge_octets.specs.Written.{FitsChecked, FitsDs, IsList, checked_octets, ds_octets}
 
@@ -392,12 +393,17 @@ pub record SaysFound (case : OctetCase) (error : ℕ) (places : Bool) (h : Judge
   pub honest : FindsTruly table h found
   pub replied : IsRepliedTo case error places h table found said
 
--- what the octets spell, and what is found and replied
+-- What is said of a case: that one of its messages has too many signatures, or what is found in them.
+pub data Says (case : OctetCase) (error : ℕ) (places : Bool) (h : JudgeInput) (table : List Checked) (said : Replied) : Type 0 where
+  Crowded : are_crowded h ≡ true → said ≡ only c.TooManySignatures → Says case error places h table said
+  Searched : are_crowded h ≡ false → SaysFound case error places h table said → Says case error places h table said
+
+-- what the octets spell, and what is said of it
 pub record IsReply (case : OctetCase) (said : Replied) : Type 0 where
   pub judge_input : JudgeInput
   pub table : List Checked
   pub spelled : Spells case judge_input table
-  pub says : SaysFound case (unsupported spelled.ds_set) spelled.places judge_input table said
+  pub says : Says case (unsupported spelled.ds_set) spelled.places judge_input table said
 
 -- A reply to a case: that memory ran out, also for an extended error, or that octets of it spell nothing, or what is found in what
 -- they spell.

@@ -2,6 +2,7 @@
 //! has checked, and the reply to it in octets, for callers in other languages.
 #![tactic(auto)]
 
+pub mod crowded;
 pub mod ds;
 mod entries;
 pub mod errors;

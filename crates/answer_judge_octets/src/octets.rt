@@ -3,11 +3,13 @@ ghost use Rattle.std.specs.Prelude.{◌≡◌, ◌⊎◌, Some, None, false, IfO
 ghost use Rattle.std.specs.Cow.{cow_slice_items};
 ghost use Rattle.messages.specs.NameOctets.{name_of_octets};
 ghost use Rattle.messages_canonical.specs.InForm.{GrowsTooLong};
-ghost use Rattle.answer_judge_octets.specs.Replying.{Answers, IsHandedOut, IsJudged, Replies, SaysFound};
+ghost use Rattle.answer_judge_octets.specs.Replying.{Answers, IsHandedOut, IsJudged, Replies, Says};
+ghost use Rattle.answer_judge_octets.specs.Replying.{SaysFound};
 ghost use Rattle.answer_judge_octets.specs.Replying.{Unread};
 ghost use Rattle.answer_judge_octets.specs.Replying.{flag_in, reply_seen, report_of};
 ghost use Rattle.answer_judge_octets.specs.ReadCases.{ReadsAs, judge_input_of};
 
+use crate::crowded::are_crowded;
 use crate::ds::{judged_ds, unsupported};
 use crate::errors::error_of;
 use crate::limit::are_too_many;
@@ -205,9 +207,20 @@ fn reply(alloc: Global, case: &OctetCase) -> Reply
 fn reply_of(alloc: Global, case: &OctetCase, read: &ReadCase) -> Result<Reply, AllocError>
     ensures { let h = judge_input_of case.now read.now in let table = read.now.table.items in
         let places = read.now.places in
-        IfOk result (λ r. SaysFound case.now read.now.error places h table (reply_seen r)) }
+        IfOk result (λ r. Says case.now read.now.error places h table (reply_seen r)) }
 {
-    let handed = Case {
+    let handed = handed(case, read);
+    if are_crowded(&handed) {
+        return Ok(Reply::only(alloc, ReplyCode::TooManySignatures));
+    }
+    searched(alloc, case, read, &handed)
+}
+
+/// What a case spells, as a search is handed it.
+fn handed<'a>(case: &OctetCase, read: &'a ReadCase) -> Case<'a>
+    ensures { result ≡ judge_input_of case.now read.now }
+{
+    Case {
         apex: &read.apex,
         ds: &read.ds,
         dnskey: read.dnskey.as_slice(),
@@ -217,8 +230,21 @@ fn reply_of(alloc: Global, case: &OctetCase, read: &ReadCase) -> Result<Reply, A
         limit: case.limit,
         one_moment: read.one_moment,
         other_question: read.other_question,
-    };
-    match find(alloc, &handed, &read.table)? {
+    }
+}
+
+/// The reply to what is found in a case's messages.
+fn searched(
+    alloc: Global,
+    case: &OctetCase,
+    read: &ReadCase,
+    handed: &Case,
+) -> Result<Reply, AllocError>
+    ensures { let h = handed.now in let table = read.now.table.items in
+        let places = read.now.places in
+        IfOk result (λ r. SaysFound case.now read.now.error places h table (reply_seen r)) }
+{
+    match find(alloc, handed, &read.table)? {
         Found::Finds {
             finding,
             lasting,
@@ -230,18 +256,18 @@ fn reply_of(alloc: Global, case: &OctetCase, read: &ReadCase) -> Result<Reply, A
             if !read.places {
                 return Ok(reply);
             }
-            reply.behind(octets_in_front(alloc, &handed, &read.table, &finding)?)
+            reply.behind(octets_in_front(alloc, handed, &read.table, &finding)?)
         }
         Found::Refused {
             refusal,
             verifications,
             hashes,
         } => {
-            let error = error_of(alloc, &handed, &read.table, refusal)?;
+            let error = error_of(alloc, handed, &read.table, refusal)?;
             Ok(reply_of_refusal(alloc, refusal, error).counted(verifications, hashes))
         }
         Found::Asks(asks) => {
-            let stops = are_too_many(case.max_signatures, &handed, &read.table, asks.len());
+            let stops = are_too_many(case.max_signatures, handed, &read.table, asks.len());
             reply_of_asks(alloc, &asks, stops)
         }
     }

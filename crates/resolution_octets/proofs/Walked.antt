@@ -7,14 +7,14 @@ use Rattle.resolution_evidence.specs.Given.{Given}
 use Rattle.resolution_walk.specs.declared.ending.Walk.{Walk}
 use Rattle.resolution_octets.specs.Limiting.{limits_of}
 use Rattle.resolution_octets.specs.ReadEvidence.{asked_in, given_of}
-use Rattle.resolution_octets.specs.Replying.{IsWalk, Says}
+use Rattle.resolution_octets.specs.Replying.{IsWalk, SaysWalked}
 use Rattle.resolution_octets.specs.Saying.{IsSaid}
 use Rattle.resolution_octets.specs.declared.octets.OctetEvidence.{OctetEvidence}
 use Rattle.resolution_octets.specs.declared.octets.ReadEvidence.{ReadEvidence}
 
 pub says_in : (case : OctetEvidence) (r : ReadEvidence) (kept : Given) (checked : ℕ) (w : Walk) (said : Result Reply AllocError)
     → IfOk said (λ x. IsSaid case.moment case.max_signatures checked kept (asked_in r) w (reply_seen x)) → kept ≡ given_of case r → checked ≡ length r.table.items → IsWalk (given_of case r) (asked_in r) (limits_of case) w
-    → IfOk said (λ x. Says case (given_of case r) (asked_in r) (reply_seen x))
+    → IfOk said (λ x. SaysWalked case (given_of case r) (asked_in r) (reply_seen x))
 says_in case r kept checked w (Ok x) replied given count walk = record {
   walk = w;
   is_walk = walk;

@@ -1,11 +1,13 @@
 -- What is replied to evidence in octets.
-use Rattle.std.specs.Prelude.{◌≡◌, ◌⊎◌, ℕ, List, [], length}
+use Rattle.std.specs.Prelude.{◌≡◌, ◌⊎◌, ℕ, Bool, true, false, List, [], length}
+use Rattle.std.specs.List.{list_any}
 use Rattle.messages.specs.Message.{Asked}
+use Rattle.answer_judge_octets.specs.Crowded.{is_crowded}
 use Rattle.answer_judge_octets.specs.Replying.{IsHandedOut, Replied, number_of, only, report_of, report_size}
 use Rattle.answer_judge_octets.specs.declared.octets.Report.{Report}
 use Rattle.answer_judge_octets.specs.declared.reply.ReplyCode.{ReplyCode}
 use Rattle.answer_judge_octets.specs.declared.reply.ReplyCode.TheVariants as c
-use Rattle.resolution_evidence.specs.Given.{Given}
+use Rattle.resolution_evidence.specs.Given.{Given, Message}
 use Rattle.resolution_walk.specs.Ended.{IsWalked, LastsIfSaid}
 use Rattle.resolution_walk.specs.Stopping.{StopsWithin}
 use Rattle.resolution_walk.specs.Truth.{WalksTruly}
@@ -25,12 +27,21 @@ pub record IsWalk (e : Given) (asked : Asked) (limits : Limits) (w : Walk) : Typ
   pub honest : WalksTruly e asked w
 
 -- a walk within the limits of the evidence, and what it is replied as
-pub record Says (case : OctetEvidence) (e : Given) (asked : Asked) (said : Replied) : Type 0 where
+pub record SaysWalked (case : OctetEvidence) (e : Given) (asked : Asked) (said : Replied) : Type 0 where
   pub walk : Walk
   pub is_walk : IsWalk e asked (limits_of case) walk
   pub is_said : IsSaid case.moment case.max_signatures (length e.table) e asked walk said
 
--- what the octets spell, and what a walk over it says
+-- a message has too many signatures to be judged
+abbrev pub are_crowded : List Message → Bool
+are_crowded messages = list_any (λ m. is_crowded m.octets) messages
+
+-- What is said of evidence: that one of its messages has too many signatures, or what a walk over it comes to.
+pub data Says (case : OctetEvidence) (e : Given) (asked : Asked) (said : Replied) : Type 0 where
+  Crowded : are_crowded e.messages ≡ true → said ≡ only c.TooManySignatures → Says case e asked said
+  Walked : are_crowded e.messages ≡ false → SaysWalked case e asked said → Says case e asked said
+
+-- what the octets spell, and what is said of it
 pub record IsReply (case : OctetEvidence) (said : Replied) : Type 0 where
   pub evidence : Given
   pub asked : Asked

@@ -1,10 +1,12 @@
 //! Messages as a walk is handed them.
 ghost use Rattle.std.specs.Prelude.{◌≡◌, ◌⊎◌, map, IfErr, IfOk};
 ghost use Rattle.resolution_octets.specs.Spelling.{AreRead, IsRead, IsUnread, SomeUnread};
+ghost use Rattle.resolution_octets.specs.Replying.{are_crowded};
 ghost use Rattle.resolution_octets.specs.ReadMessages.{message_of};
 
 use crate::sent::SentMessage;
 use answer_judge_octets::ReplyCode;
+use answer_judge_octets::crowded::is_crowded;
 use answer_judge_octets::octets::{judged_form, read_name};
 use messages::names::Name;
 use messages::question::Question;
@@ -60,6 +62,18 @@ fn read_message<'a>(alloc: Global, sent: &SentMessage<'a>) -> Result<ReadMessage
         },
         octets,
     })
+}
+
+/// Whether one of the messages has too many signatures.
+pub(crate) fn are_crowded(read: &[ReadMessage]) -> bool
+    ensures { result ≡ are_crowded (map message_of read.now) }
+{
+    for message in read {
+        if is_crowded(message.octets.as_slice()) {
+            return true;
+        }
+    }
+    false
 }
 
 /// Messages that were read, as a walk is handed them.

@@ -3,11 +3,11 @@ ghost use Rattle.std.specs.Prelude.{◌≡◌, ◌⊎◌, IfErr, IfOk, Some, Non
 ghost use Rattle.messages.specs.NameOctets.{name_of_octets};
 ghost use Rattle.answer_judge_octets.specs.Replying.{reply_seen};
 ghost use Rattle.resolution_octets.specs.Limiting.{limit_of, limits_of};
-ghost use Rattle.resolution_octets.specs.Replying.{Answers, Replies, Says};
+ghost use Rattle.resolution_octets.specs.Replying.{Answers, Replies, Says, SaysWalked};
 ghost use Rattle.resolution_octets.specs.Spelling.{HasDs, IsAnchor, LacksDs, Unread, flag_in};
 ghost use Rattle.resolution_octets.specs.ReadEvidence.{ReadsAs, asked_in, given_of};
 
-use crate::handed::{IN, ReadMessage, handed, read_messages};
+use crate::handed::{IN, ReadMessage, are_crowded, handed, read_messages};
 use crate::said::reply_of_walk;
 use answer_judge_octets::ds::judged_ds;
 use answer_judge_octets::list::read_list;
@@ -151,6 +151,21 @@ fn walked(
 ) -> Result<Reply, AllocError>
     ensures { let e = given_of handed_in.now read.now in let asked = asked_in read.now in
         IfOk result (λ r. Says handed_in.now e asked (reply_seen r)) }
+{
+    if are_crowded(&read.messages) {
+        return Ok(Reply::only(alloc, ReplyCode::TooManySignatures));
+    }
+    resolved(alloc, handed_in, read)
+}
+
+/// The reply to what evidence tells.
+fn resolved(
+    alloc: Global,
+    handed_in: &OctetEvidence,
+    read: &ReadEvidence,
+) -> Result<Reply, AllocError>
+    ensures { let e = given_of handed_in.now read.now in let asked = asked_in read.now in
+        IfOk result (λ r. SaysWalked handed_in.now e asked (reply_seen r)) }
 {
     let messages = handed(alloc, &read.messages)?;
     let evidence = Evidence {

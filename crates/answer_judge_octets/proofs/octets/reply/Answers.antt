@@ -1,5 +1,5 @@
 use Rattle.std.proofs.Common.{inr, subst₂}
-use Rattle.answer_judge_octets.specs.Replying.{SaysFound, reply_seen}
+use Rattle.answer_judge_octets.specs.Replying.{Says, reply_seen}
 use Rattle.answer_judge_octets.specs.ReadCases.{judge_input_of}
 use Rattle.answer_judge_octets.proofs.octets.reply.Goals as goal
 
@@ -13,5 +13,5 @@ returns-in-Ok-reply_of c =
       judge_input = h;
       table = read.table.items;
       spelled = reads.spelled;
-      says = subst₂ (λ error places. SaysFound case error places h read.table.items (reply_seen c.in-Ok-reply_of.reply)) reads.error_is reads.places_are c.in-Ok-reply_of.ensures;
+      says = subst₂ (λ error places. Says case error places h read.table.items (reply_seen c.in-Ok-reply_of.reply)) reads.error_is reads.places_are c.in-Ok-reply_of.ensures;
     }

@@ -3,16 +3,15 @@ use Rattle.answer_findings.specs.Found.{IsFound}
 use Rattle.answer_findings.specs.Seen.{seen}
 use Rattle.answer_findings.specs.Truth.{FindsTruly}
 use Rattle.answer_judge_octets.specs.Places.{octets_in_front}
-use Rattle.answer_judge_octets.specs.ReadCases.{judge_input_of}
 use Rattle.answer_judge_octets.specs.Replying.{counted, found_reply, reply_seen}
 use Rattle.answer_judge_octets.proofs.PlacesInFront.{says_places}
-use Rattle.answer_judge_octets.proofs.octets.reply_of.Goals as goal
+use Rattle.answer_judge_octets.proofs.octets.searched.Goals as goal
 
 pub returns-in_ok-octets_in_front-in-Finds : goal.returns-in_ok-octets_in_front-in-Finds
 returns-in_ok-octets_in_front-in-Finds c =
     let case = c.args.case.now in
     let read = c.args.read.now in
-    let h = judge_input_of case read in
+    let h = c.args.handed.now in
     let table = read.table.items in
     let finds = c.in-Finds in
     let found : IsFound table h c.in_ok-finding.field-0 = search rules in

@@ -5,7 +5,7 @@ use Rattle.resolution_walk.specs.Truth.{WalksTruly}
 use Rattle.resolution_octets.specs.Limiting.{limits_of}
 use Rattle.resolution_octets.specs.ReadEvidence.{asked_in, given_of}
 use Rattle.resolution_octets.proofs.Walked.{says_in}
-use Rattle.resolution_octets.proofs.octets.walked.Goals as goal
+use Rattle.resolution_octets.proofs.octets.resolved.Goals as goal
 
 pub returns : goal.returns
 returns c =

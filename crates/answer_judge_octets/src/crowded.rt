@@ -1,0 +1,54 @@
+//! Messages that have too many signatures to be judged.
+ghost use Rattle.std.specs.Prelude.{◌≡◌};
+ghost use Rattle.answer_judge_octets.specs.Crowded.{are_crowded, has_more_rrsigs, is_crowded};
+
+use answer_findings::Case;
+use messages::view::{Records, read_message};
+use names_rdata::rtype::Rtype;
+
+/// How many octets a message may have with however many signatures.
+const SMALL_MESSAGE: usize = 4096;
+
+/// How many RRSIG records a longer message may have.
+const MOST_RRSIGS: usize = 64;
+
+/// Whether a message of over 4,096 octets has more than 64 RRSIG records.
+///
+/// Each signature that is looked up costs its RRset written out: a thousand forged signatures of an
+/// RRset of thousands of records would keep a resolver busy for seconds.
+pub fn is_crowded(message: &[u8]) -> bool
+    ensures { result ≡ is_crowded message.now }
+{
+    if message.len() <= SMALL_MESSAGE {
+        return false;
+    }
+    match read_message(message) {
+        Ok(view) => has_more_rrsigs(MOST_RRSIGS, view.records()),
+        Err(_) => false,
+    }
+}
+
+/// Whether there are more RRSIG records than so many.
+fn has_more_rrsigs(most: usize, records: Records<'_>) -> bool
+    ensures { result ≡ has_more_rrsigs most records.entry }
+{
+    let mut records = records;
+    let mut room = most;
+    while let Some(record) = records.next() {
+        if record.rtype == Rtype::RRSIG {
+            match room.checked_sub(1) {
+                Some(left) => room = left,
+                None => return true,
+            }
+        }
+    }
+    false
+}
+
+/// Whether one of the messages that a case is judged by is crowded. Beside no DS record none is
+/// judged.
+pub(crate) fn are_crowded(case: &Case) -> bool
+    ensures { result ≡ are_crowded case.now }
+{
+    !case.ds.is_empty() && (is_crowded(case.dnskey) || is_crowded(case.answer))
+}
