@@ -47,7 +47,8 @@ enum zermuita_reply {
      * Every verdict except ZERMUITA_INSECURE vouches for the NSEC and NSEC3 records whose signatures pass and for the DNSKEY set;
      * ZERMUITA_RECORDS and ZERMUITA_WILDCARD also for the RRset that was asked for, the replies of an alias for its CNAME or DNAME
      * record, and ZERMUITA_REFERRAL for its DS set. None vouches for anything else: the SOA record beside a denial, the NS set of
-     * a referral, DS records beside ZERMUITA_DELEGATED and the CNAME that servers make of a DNAME are not verified.
+     * a referral and the CNAME that servers make of a DNAME are not verified. ZERMUITA_DELEGATED alone does not say whether DS
+     * records beside it are verified: with `places` 1 those that are verified have places.
      * A verdict is about `name` and `rtype` of its call alone. The reply of an alias says only where `name` leads: ask for the
      * target next, from the root down. Do not follow it where `name` is not the client's name, as in a search for a delegation
      * above that: the client's name leads elsewhere.
@@ -512,9 +513,9 @@ static inline int zermuita_next_ask(uint8_t **next, size_t *len, struct zermuita
     return 1;
 }
 
-/* Writes into an entry whether its signature passes. */
+/* Writes into an entry that its signature passes, where `passes` is 1; else, as for a library's negative error, that it fails. */
 static inline void zermuita_answer(const struct zermuita_ask *ask, int passes) {
-    *ask->passes = passes != 0;
+    *ask->passes = passes == 1;
 }
 
 #ifdef __cplusplus

@@ -247,10 +247,14 @@ static void walk_over_replies(void) {
     struct zermuita_ask ask;
     expect(zermuita_next_ask(&next, &len, &ask) && ask.algorithm == 13 && ask.key.len == 1 && ask.key.data[0] == 'k', "a key");
     expect(ask.dnskey.len == 5 && ask.octets.len == 2 && ask.octets.data[1] == 'p' && ask.signature.data[0] == 's', "its parts");
-    zermuita_answer(&ask, 5);
+    zermuita_answer(&ask, 1);
     expect(entries[16] == 1, "a signature that passes");
-    zermuita_answer(&ask, 0);
-    expect(entries[16] == 0, "one that doesn't");
+    static const int others[] = {0, -1, 2};
+    for (size_t i = 0; i < sizeof others / sizeof *others; i++) {
+        entries[16] = 1;
+        zermuita_answer(&ask, others[i]);
+        expect(entries[16] == 0, "one that doesn't, or of which a library says an error");
+    }
     expect(zermuita_next_ask(&next, &len, &ask) && ask.algorithm == 8 && ask.key.len == 0 && len == 0, "the second entry");
     expect(!zermuita_next_ask(&next, &len, &ask), "no third");
     next = entries;
