@@ -79,8 +79,8 @@ enum zermuita_reply {
     ZERMUITA_NOT_PROVEN = 25,             /* the signed records prove no verdict */
     ZERMUITA_OUT_OF_MEMORY = 26,          /* memory ran out */
     ZERMUITA_MIXED_VERSIONS = 27,         /* signatures have different times, and one moment is demanded */
-    ZERMUITA_MESSAGE_TOO_LONG = 28,       /* a message is too long in canonical form */
-    ZERMUITA_TOO_MANY_SIGNATURES = 29,    /* more signatures than the case allows, or a message with too many */
+    ZERMUITA_MESSAGE_TOO_LONG = 28,       /* a message is too long in canonical form, or costs too much work */
+    ZERMUITA_TOO_MANY_SIGNATURES = 29,    /* more signatures are to be checked than the case allows */
 
     /* Of zermuita_resolve alone. */
     ZERMUITA_NOTHING_TOLD = 30, /* a zone's answer tells nothing of the way to the name */
@@ -231,8 +231,8 @@ static inline int zermuita_octets_are(struct zermuita_octets *octets) {
  *
  * On ZERMUITA_ASK `out` has signatures that are to be checked: check each (zermuita_next_ask), put the octets of `out` at the end
  * of `checked`, and call again. Put no entry there that was not checked: it stands for a signature that fails. There is no need to
- * count: where more are to be checked than `max_signatures`, the reply is ZERMUITA_TOO_MANY_SIGNATURES. So it is beside a DS set
- * where a message of over 4,096 octets has more than 64 RRSIG records.
+ * count: where more are to be checked than `max_signatures`, the reply is ZERMUITA_TOO_MANY_SIGNATURES. Beside a DS set a message of
+ * over 4,096 octets with more than 64 RRSIG records, or owners of more than 32,768 labels in all, is ZERMUITA_MESSAGE_TOO_LONG.
  */
 static inline enum zermuita_reply zermuita_judge(const struct zermuita_case *handed, uint8_t *out, size_t out_len,
                                                  struct zermuita_report *report) {

@@ -13,6 +13,8 @@
 #include <stdlib.h>
 
 enum { ROOM_EACH = 64, ROOM_ANEW = 128, ROOM_BESIDES = 16384, NOW = 1790000000 };
+/* Of more than 64 in a long message none is judged. */
+enum { MOST_SIGNED = 60 };
 enum { A = 1, MX = 15, TXT = 16, RRSIG = 46, NSEC = 47, DNSKEY = 48 };
 
 static const size_t sizes[] = {512, 1232, 4096, 16384, 65535};
@@ -166,7 +168,7 @@ static void make_text(struct buffer *answer, size_t size) {
     count(answer, 0);
 }
 
-/* As many NSEC records as there is room for, each signed, at names with one label more than a name of 251 octets. */
+/* As many NSEC records as there is room for, the first 60 signed, at names with one label more than a name of 251 octets. */
 static void make_chain(struct buffer *answer, size_t size) {
     struct zermuita_octets asked = {long_name + 4, 251};
     long_name[4] = 59;
@@ -178,8 +180,10 @@ static void make_chain(struct buffer *answer, size_t size) {
         put_octets(answer, last);
         put(answer, 0x000140, 3);
         count(answer, 1);
-        sign(answer, front, NSEC, 6, last, tag_of(signer, sizeof signer));
-        count(answer, 1);
+        if (number < MOST_SIGNED) {
+            sign(answer, front, NSEC, 6, last, tag_of(signer, sizeof signer));
+            count(answer, 1);
+        }
     }
     long_name[4] = 'n';
 }

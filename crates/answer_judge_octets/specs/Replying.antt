@@ -393,9 +393,9 @@ pub record SaysFound (case : OctetCase) (error : ℕ) (places : Bool) (h : Judge
   pub honest : FindsTruly table h found
   pub replied : IsRepliedTo case error places h table found said
 
--- What is said of a case: that one of its messages has too many signatures, or what is found in them.
+-- What is said of a case: that one of its messages would cost too much work, or what is found in them.
 pub data Says (case : OctetCase) (error : ℕ) (places : Bool) (h : JudgeInput) (table : List Checked) (said : Replied) : Type 0 where
-  Crowded : are_crowded h ≡ true → said ≡ only c.TooManySignatures → Says case error places h table said
+  Crowded : are_crowded h ≡ true → said ≡ only c.MessageTooLong → Says case error places h table said
   Searched : are_crowded h ≡ false → SaysFound case error places h table said → Says case error places h table said
 
 -- what the octets spell, and what is said of it

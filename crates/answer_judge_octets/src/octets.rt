@@ -143,8 +143,13 @@ struct ReadCase<'a> {
 /// version of the zone: of a zone in order (nothing beside a CNAME, nothing below a DNAME), whoever
 /// signs and serves it, and whichever question the answer was given to.
 ///
+/// Beside a DS set a message that would cost too much work ([`is_crowded`]) is refused as too long,
+/// and not judged.
+///
 /// A refusal brings its extended error, for which the signatures of the answer may be looked up
 /// once more.
+///
+/// [`is_crowded`]: crate::crowded::is_crowded
 pub fn judge_octets(
     alloc: Global,
     case: &OctetCase,
@@ -211,7 +216,7 @@ fn reply_of(alloc: Global, case: &OctetCase, read: &ReadCase) -> Result<Reply, A
 {
     let handed = handed(case, read);
     if are_crowded(&handed) {
-        return Ok(Reply::only(alloc, ReplyCode::TooManySignatures));
+        return Ok(Reply::only(alloc, ReplyCode::MessageTooLong));
     }
     searched(alloc, case, read, &handed)
 }

@@ -32,13 +32,13 @@ pub record SaysWalked (case : OctetEvidence) (e : Given) (asked : Asked) (said :
   pub is_walk : IsWalk e asked (limits_of case) walk
   pub is_said : IsSaid case.moment case.max_signatures (length e.table) e asked walk said
 
--- a message has too many signatures to be judged
+-- a message would cost too much work to be judged
 abbrev pub are_crowded : List Message → Bool
 are_crowded messages = list_any (λ m. is_crowded m.octets) messages
 
--- What is said of evidence: that one of its messages has too many signatures, or what a walk over it comes to.
+-- What is said of evidence: that one of its messages would cost too much work, or what a walk over it comes to.
 pub data Says (case : OctetEvidence) (e : Given) (asked : Asked) (said : Replied) : Type 0 where
-  Crowded : are_crowded e.messages ≡ true → said ≡ only c.TooManySignatures → Says case e asked said
+  Crowded : are_crowded e.messages ≡ true → said ≡ only c.MessageTooLong → Says case e asked said
   Walked : are_crowded e.messages ≡ false → SaysWalked case e asked said → Says case e asked said
 
 -- what the octets spell, and what is said of it

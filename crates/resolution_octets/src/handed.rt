@@ -64,7 +64,7 @@ fn read_message<'a>(alloc: Global, sent: &SentMessage<'a>) -> Result<ReadMessage
     })
 }
 
-/// Whether one of the messages has too many signatures.
+/// Whether one of the messages would cost too much work to be judged.
 pub(crate) fn are_crowded(read: &[ReadMessage]) -> bool
     ensures { result ≡ are_crowded (map message_of read.now) }
 {

@@ -113,7 +113,10 @@ struct ReadEvidence<'a> {
 /// be looked up once more.
 ///
 /// Each message is judged with names in its data in full and in lower case (RFC 4034, 6.2), as
-/// every validator does: put in canonical form where it has to be.
+/// every validator does: put in canonical form where it has to be. Evidence with one that would cost
+/// too much work ([`is_crowded`]) is refused as too long.
+///
+/// [`is_crowded`]: answer_judge_octets::crowded::is_crowded
 pub fn resolve_octets(
     alloc: Global,
     evidence: &OctetEvidence,
@@ -153,7 +156,7 @@ fn walked(
         IfOk result (λ r. Says handed_in.now e asked (reply_seen r)) }
 {
     if are_crowded(&read.messages) {
-        return Ok(Reply::only(alloc, ReplyCode::TooManySignatures));
+        return Ok(Reply::only(alloc, ReplyCode::MessageTooLong));
     }
     resolved(alloc, handed_in, read)
 }

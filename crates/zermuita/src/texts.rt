@@ -56,9 +56,9 @@ fn text_of_code(code: ReplyCode) -> &'static [u8]
         ReplyCode::MixedVersions =>
             b"ZERMUITA_MIXED_VERSIONS: signatures have different times, and one moment is demanded\0",
         ReplyCode::MessageTooLong =>
-            b"ZERMUITA_MESSAGE_TOO_LONG: a message is too long in canonical form\0",
+            b"ZERMUITA_MESSAGE_TOO_LONG: a message is too long in canonical form, or costs too much work\0",
         ReplyCode::TooManySignatures =>
-            b"ZERMUITA_TOO_MANY_SIGNATURES: more signatures than the case allows, or a message with too many\0",
+            b"ZERMUITA_TOO_MANY_SIGNATURES: more signatures are to be checked than the case allows\0",
         ReplyCode::NothingTold =>
             b"ZERMUITA_NOTHING_TOLD: a zone's answer tells nothing of the way to the name\0",
         ReplyCode::Outside =>
