@@ -63,7 +63,7 @@ pub enum ReplyCode {
     OutOfMemory = 26,
     /// Signatures are of unlike times where the case asks for one moment.
     MixedVersions = 27,
-    /// A message has more than 65,535 octets in canonical form.
+    /// A message has more than 65,535 octets in canonical form, or would cost too much work.
     MessageTooLong = 28,
     /// More signatures would be asked for than the case allows.
     TooManySignatures = 29,
