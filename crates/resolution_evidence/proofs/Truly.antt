@@ -17,7 +17,7 @@ use Rattle.resolution_tree.specs.Orderly.{IsOrderlyZone}
 use Rattle.resolution_tree.proofs.Trees.{IsReferred, referred}
 use Rattle.resolution_step.specs.KnownDs.{knows}
 use Rattle.resolution_step.specs.declared.telling.Counts.{Counts}
-use Rattle.resolution_step.specs.Told.{StepSeen, TellsVerdict, TellsLead, TellsDown, TellsUnsigned, TellsOpen, TellsNoCut, TellsNothing, AsksFor, at_cut}
+use Rattle.resolution_step.specs.Told.{StepSeen, TellsVerdict, TellsLead, TellsDown, TellsUnsigned, TellsOpen, TellsNoCut, TellsNoneBelow, TellsNothing, AsksFor, at_cut}
 use Rattle.resolution_step.specs.Truth.{AreOfZone, IsCutSo, IsToldSo, IsWayDown, zone_of_version}
 use Rattle.resolution_step.proofs.Truly.{cut_truly, lowered_so, told_truly}
 use Rattle.resolution_evidence.specs.Given.{Given, IsOf, judge_input}
@@ -58,6 +58,7 @@ module _ (e : Given) (zones : List SignedZone) (anchor : SignedZone) (of : IsOfT
   told_onward asked s (TellsUnsigned c) so = so
   told_onward asked s TellsOpen so = so
   told_onward asked s TellsNoCut so = tt
+  told_onward asked s TellsNoneBelow so = tt
   told_onward asked s (TellsNothing r) so = tt
   told_onward asked s (AsksFor asks) so = tt
 

@@ -2,16 +2,19 @@
 use Rattle.std.proofs.Common.{◌≡◌, ℕ, zero, suc, Bool, true, false, ◌&&◌, List, [], ◌∷◌, Option, Some, None, Result, Ok, Err, IfOk, refl, sym, ap, subst, ◌∙◌, inr, arith}
 use Rattle.std.specs.Prelude.{◌==◌, Contains, if◌then◌else◌}
 use Rattle.std.specs.declared.alloc.AllocError.{AllocError}
-use Rattle.std.proofs.lemmas.Bool.{and_parts, false≢true}
-use Rattle.definitions.specs.Name.{Name, low, same, at_or_above, strictly_above}
-use Rattle.definitions.specs.Zone.{Verdict, Records, NoType, NoName, StarRecords, StarNoType, Delegated, Open, Unsigned, apex_of, cut, has, verdict}
+use Rattle.std.proofs.lemmas.Bool.{and_from, and_parts, false≢true}
+use Rattle.definitions.specs.Name.{Name, low, same, at_or_above, strictly_above, wire}
+use Rattle.definitions.specs.Zone.{Zone, Verdict, Records, NoType, NoName, StarRecords, StarNoType, Delegated, Open, Unsigned, apex_of, cut, has, verdict}
 use Rattle.definitions.specs.ZoneChain.{optout_of}
 use Rattle.definitions.proofs.ZoneNames.{low-low, above_lowered, lowered_above}
-use Rattle.denial_laws.specs.Aliases.{is_aliased}
+use Rattle.denial_laws.specs.Aliases.{IsOrderly, is_aliased}
 use Rattle.denial_laws.specs.Leading.{Lead, LeadsTo}
 use Rattle.denial_laws.specs.Leading as leading
-use Rattle.denial_laws.proofs.NameFacts.{above-low, above_trans, strictly_at}
-use Rattle.denial_laws.proofs.ZoneCuts.{IsCut, cut_is}
+use Rattle.denial_laws.specs.Saying.{IsMissing}
+use Rattle.denial_laws.proofs.NameFacts.{above-low, above_either, above_trans, strictly-low, strictly_above_at, strictly_at}
+use Rattle.denial_laws.proofs.Unaliased.{cut_unredirected, no_redirector}
+use Rattle.denial_laws.proofs.ZoneCuts.{IsCut, cut_is, cut_live, delegation_owner, kept_up, owner_kept}
+use Rattle.denial_laws.proofs.ZoneCuts as cuts
 use Rattle.answer_findings.specs.Honest.{IsSaidByOne}
 use Rattle.answer_findings.specs.Versions.{Version, zone_in}
 use Rattle.answer_judge_keys.specs.Judging.{JudgeInput}
@@ -30,16 +33,47 @@ use Rattle.resolution_tree.specs.Orderly.{IsOrderlyZone}
 use Rattle.resolution_tree.proofs.Trees.{lead_uncut, referred, refers}
 use Rattle.resolution_tree.proofs.Verdicts.{cut_down, delegated_refers, ds_cut, no_ds_cut, no_ds_uncut, open_down, own_cut, own_verdict, unaliased_down, unbound, verdict_told}
 use Rattle.resolution_step.specs.KnownDs.{knows}
-use Rattle.resolution_step.specs.Told.{StepSeen, TellsVerdict, TellsLead, TellsDown, TellsUnsigned, TellsOpen, TellsNoCut, TellsNothing, AsksFor, Search, Sees, Refuses, Wants, IsCutFound, IsCutTelling, IsCutTold, IsFoundTelling, IsSearched, IsSearchTold, IsSeenTold, IsTelling, IsTold, IsToldAt, at_cut, counts_of, cut_said, cut_searched, cut_told, lasting_of, referral_told, search_of, seen_told, told, bound_told}
+use Rattle.resolution_step.specs.Told.{StepSeen, TellsVerdict, TellsLead, TellsDown, TellsUnsigned, TellsOpen, TellsNoCut, TellsNoneBelow, TellsNothing, AsksFor, Search, Sees, Refuses, Wants, IsCutFound, IsCutTelling, IsCutTold, IsFoundTelling, IsSearched, IsSearchTold, IsSeenTold, IsTelling, IsTold, IsToldAt, at_cut, counts_of, cut_said, cut_searched, cut_told, lasting_of, referral_told, search_of, seen_told, told, bound_told}
 use Rattle.resolution_step.specs.Told as tells
 use Rattle.resolution_step.specs.declared.telling.Counts.{Counts}
 use Rattle.resolution_step.specs.declared.telling.Telling.{Telling}
-use Rattle.resolution_step.specs.Truth.{AreOfZone, IsCutSo, IsToldSo, TellsCutTruly, TellsTruly, zone_of_version}
+use Rattle.resolution_step.specs.Truth.{AreOfZone, HasNoCutBelow, IsCutSo, IsToldSo, TellsCutTruly, TellsTruly, zone_of_version}
 use Rattle.resolution_step.proofs.Bound.{bound_at_cut, bound_below}
 
 only : {A : Type 0} (x y : A) → Contains (x ∷ []) y → x ≡ y
 only x y (zero, l, e) = e
 only x y (suc n, l, e) = absurd (omega (arith, l))
+
+-- ---- names with no delegation below them
+
+-- a delegation at or above a name below a missing one stands above that one, or makes it exist
+missing_below : (z : Zone) (n : Name) → IsMissing z (low n) → HasNoCutBelow z n
+missing_below z n m = record { uncut = m.uncut; below = λ q inside down. go q inside down (cut z (low q)) refl }
+  where
+    go : (q : Name) → at_or_above (apex_of z) n ≡ true → at_or_above n q ≡ true → (o : Option Name) → cut z (low q) ≡ o → o ≡ None
+    go q inside down None e = refl
+    go q inside down (Some c) e =
+        let k : IsCut z (low q) c = cut_is z (low q) c (low-low q) e in
+        absurd (elim (above_either (low n) c (low q) (above-low n q ∙ down) k.above) [
+          | inl up ↦
+              let there = owner_kept z false c (delegation_owner z c k.delegation) (and_from _ _ (cut_live z (low q) c k) refl) in
+              false≢true (sym m.gone ∙ kept_up z false (low n) c there up (above_lowered (apex_of z) n ∙ inside))
+          | inr up ↦ cuts.uncut z (low n) (low-low n) m.uncut c k.delegation up
+        ])
+
+-- nor does one stand above what a DNAME redirects
+redirected_below : (z : Zone) (n owner : Name) (datas : List (List ℕ)) → IsOrderly z → HasRecords z owner 39 datas → strictly_above owner n ≡ true → HasNoCutBelow z n
+redirected_below z n owner datas s r above = record { uncut = uncut_at n above; below = λ q inside down. uncut_at q (strictly_above_at owner n q above down) }
+  where
+    go : (q : Name) → strictly_above owner q ≡ true → (o : Option Name) → cut z (low q) ≡ o → o ≡ None
+    go q a None e = refl
+    go q a (Some c) e =
+        let k : IsCut z (low q) c = cut_is z (low q) c (low-low q) e in
+        let plain = cut_unredirected z s (low q) c k.delegation (cut_live z (low q) c k) k.above in
+        absurd (no_redirector z (low q) (low owner) (low-low q) plain (record { redirects = r.there; live = r.live; above = strictly-low owner q ∙ a }))
+
+    uncut_at : (q : Name) → strictly_above owner q ≡ true → cut z (low q) ≡ None
+    uncut_at q a = go q a (cut z (low q)) refl
 
 module _ (algorithms : List ℕ) (h : JudgeInput) (v : Version) (o : IsOrderlyZone (zone_of_version h.apex v)) where
   abbrev z : TreeZone
@@ -78,9 +112,9 @@ module _ (algorithms : List ℕ) (h : JudgeInput) (v : Version) (o : IsOrderlyZo
       let at = ds_cut z.zone z.optout q datas o.ds (ds_said ds (Records datas) s) in
       bound_at_cut algorithms z datas q at.0 at.1
   verdict_so ds NoType s = tt
-  verdict_so ds NoName s = (verdict_told z.zone z.optout q 43 NoName (ds_said ds NoName s)).1.missing.uncut
-  verdict_so ds (StarRecords datas) s = (verdict_told z.zone z.optout q 43 (StarRecords datas) (ds_said ds (StarRecords datas) s)).1.1.missing.uncut
-  verdict_so ds StarNoType s = (verdict_told z.zone z.optout q 43 StarNoType (ds_said ds StarNoType s)).1.1.missing.uncut
+  verdict_so ds NoName s = missing_below z.zone q (verdict_told z.zone z.optout q 43 NoName (ds_said ds NoName s)).1.missing
+  verdict_so ds (StarRecords datas) s = missing_below z.zone q (verdict_told z.zone z.optout q 43 (StarRecords datas) (ds_said ds (StarRecords datas) s)).1.1.missing
+  verdict_so ds StarNoType s = missing_below z.zone q (verdict_told z.zone z.optout q 43 StarNoType (ds_said ds StarNoType s)).1.1.missing
   verdict_so ds Delegated s = tt
   verdict_so ds Open s = (verdict_told z.zone z.optout q 43 Open (ds_said ds Open s), ds_plain ds Open s)
   verdict_so ds Unsigned s = tt
@@ -93,8 +127,12 @@ module _ (algorithms : List ℕ) (h : JudgeInput) (v : Version) (o : IsOrderlyZo
       (refl, at.0, unbound (knows algorithms) z.zone (low q) at.1)
   cut_so ds (SeesNoDs false) s = no_ds_uncut z.zone z.optout q (ds_said ds NoType s.0) (λ d. false≢true ((s.1 v refl).1 d))
   cut_so ds (SeesAlias target) s = uncut s.version (leading.To target) s.there s.leads
-  cut_so ds (SeesStarAlias target) s = uncut s.version (leading.To target) s.there s.leads
-  cut_so ds (SeesDname owner lead) s = uncut s.version lead s.there s.leads
+  cut_so ds (SeesStarAlias target) s =
+      let is = ap (λ u. verdict (zone_in h.apex u) (optout_of u.mode) q 5) (only v s.version s.there) ∙ s.says in
+      missing_below z.zone q (verdict_told z.zone z.optout q 5 (StarRecords (wire target ∷ [])) is).1.1.missing
+  cut_so ds (SeesDname owner lead) s =
+      let has = subst (λ u. HasRecords (zone_in h.apex u) owner 39 (wire s.target ∷ [])) (sym (only v s.version s.there)) s.has in
+      redirected_below z.zone q owner (wire s.target ∷ []) o.servable.aliases has s.above
   cut_so ds (SeesReferral c datas) s = tt
 
   -- ---- the question itself
@@ -141,6 +179,7 @@ module _ (algorithms : List ℕ) (h : JudgeInput) (v : Version) (o : IsOrderlyZo
       let up : at_or_above (low n) (low q) ≡ true = above-low n q ∙ a in
       (refl, open_down z.zone z.optout n q at up s.0, unaliased_down z.zone z.optout n q at up t o.servable.aliases s.0 s.1)
   lowered_so n TellsNoCut inside a other s = tt
+  lowered_so n TellsNoneBelow inside a other s = tt
   lowered_so n (TellsNothing e) inside a other s = tt
   lowered_so n (AsksFor asks) inside a other s = tt
   lowered_so n (TellsVerdict w) inside a other s = tt

@@ -31,6 +31,7 @@ pub data StepSeen : Type 0 where
   TellsUnsigned : Name → StepSeen
   TellsOpen : StepSeen
   TellsNoCut : StepSeen
+  TellsNoneBelow : StepSeen
   TellsNothing : Option Refusal → StepSeen
   AsksFor : List Tried → StepSeen
 
@@ -41,6 +42,7 @@ told (s.Down c ds) = TellsDown c ds.items
 told (s.Unsigned c) = TellsUnsigned c
 told s.LeftOpen = TellsOpen
 told s.NoCut = TellsNoCut
+told s.NoneBelow = TellsNoneBelow
 told (s.Untold e) = TellsNothing e
 told (s.Asks asks) = AsksFor asks.items
 
@@ -89,20 +91,21 @@ bound_told algorithms c datas = by_known (low c) (known_ds algorithms datas)
 
 abbrev pub cut_said : List ℕ → Name → Verdict → StepSeen
 cut_said algorithms n (Records datas) = bound_told algorithms n datas
-cut_said algorithms n NoName = TellsNoCut
-cut_said algorithms n (StarRecords datas) = TellsNoCut
-cut_said algorithms n StarNoType = TellsNoCut
+cut_said algorithms n NoName = TellsNoneBelow
+cut_said algorithms n (StarRecords datas) = TellsNoneBelow
+cut_said algorithms n StarNoType = TellsNoneBelow
 cut_said algorithms n Open = TellsOpen
 cut_said algorithms n _ = TellsNothing None
 
--- What is found of DS at a name tells of a delegation there. A name that has no DS record may be one; an alias is none.
+-- What is found of DS at a name tells of a delegation there. A name that has no DS record may be one; an alias is none. None is below
+-- a name that does not exist, nor below a DNAME.
 abbrev pub cut_told : List ℕ → Name → Seen → StepSeen
 cut_told algorithms n (SeesVerdict v) = cut_said algorithms n v
 cut_told algorithms n (SeesNoDs true) = TellsUnsigned (low n)
 cut_told algorithms n (SeesNoDs false) = TellsNoCut
 cut_told algorithms n (SeesAlias target) = TellsNoCut
-cut_told algorithms n (SeesStarAlias target) = TellsNoCut
-cut_told algorithms n (SeesDname owner lead) = TellsNoCut
+cut_told algorithms n (SeesStarAlias target) = TellsNoneBelow
+cut_told algorithms n (SeesDname owner lead) = TellsNoneBelow
 cut_told algorithms n _ = TellsNothing None
 
 abbrev pub cut_searched : List ℕ → Name → Search → StepSeen

@@ -2,8 +2,8 @@
 use Rattle.std.specs.Prelude.{◌≡◌, ℕ, Bool, true, false, List, [], ◌∷◌, Some, None}
 use Rattle.definitions.specs.Dnskey.{Ds}
 use Rattle.definitions.specs.Limits.{pointer_limit}
-use Rattle.definitions.specs.Name.{Name, low}
-use Rattle.definitions.specs.Zone.{cut, is_open, data_at}
+use Rattle.definitions.specs.Name.{Name, at_or_above, low}
+use Rattle.definitions.specs.Zone.{Zone, apex_of, cut, is_open, data_at}
 use Rattle.definitions.specs.ZoneChain.{optout_of}
 use Rattle.denial_laws.specs.Aliases.{is_aliased}
 use Rattle.answer_findings.specs.Versions.{Version, zone_in}
@@ -13,7 +13,7 @@ pub use Rattle.answer_findings.specs.Truth.{AreHonestBeside}
 use Rattle.resolution_tree.specs.Tree.{TreeZone, Secure, Unsigned, LeftOpen, Leads, SaysItself, is_bound, refers_to}
 use Rattle.resolution_tree.specs.Orderly.{IsOrderlyZone}
 use Rattle.resolution_step.specs.KnownDs.{known_ds, knows}
-use Rattle.resolution_step.specs.Told.{StepSeen, TellsVerdict, TellsLead, TellsDown, TellsUnsigned, TellsOpen, TellsNoCut}
+use Rattle.resolution_step.specs.Told.{StepSeen, TellsVerdict, TellsLead, TellsDown, TellsUnsigned, TellsOpen, TellsNoCut, TellsNoneBelow}
 
 -- the zone of a version, as one of a tree
 abbrev pub zone_of_version : Name → Version → TreeZone
@@ -24,12 +24,18 @@ pub record IsWayDown (algorithms : List ℕ) (z : TreeZone) (c : Name) (ds : Lis
   pub bound : is_bound (knows algorithms) z.zone c ≡ true
   pub ds_are : ds ≡ known_ds algorithms (data_at z.zone c 43)
 
+-- The zone has no delegation at a name or above it, nor, below its apex, at any name below it.
+pub record HasNoCutBelow (z : Zone) (n : Name) : Type 0 where
+  pub uncut : cut z (low n) ≡ None
+  pub below : (q : Name) → at_or_above (apex_of z) n ≡ true → at_or_above n q ≡ true → cut z (low q) ≡ None
+
 -- of a name at which a delegation is sought
 abbrev pub IsCutSo : List ℕ → TreeZone → Name → StepSeen → Type 0
 IsCutSo algorithms z n (TellsDown c ds) = (c ≡ low n) × (cut z.zone (low n) ≡ Some (low n)) × IsWayDown algorithms z c ds
 IsCutSo algorithms z n (TellsUnsigned c) = (c ≡ low n) × (cut z.zone (low n) ≡ Some (low n)) × (is_bound (knows algorithms) z.zone c ≡ false)
 IsCutSo algorithms z n TellsOpen = (is_open z.zone z.optout (low n) ≡ true) × (is_aliased z.zone z.optout n 43 ≡ false)
 IsCutSo algorithms z n TellsNoCut = cut z.zone (low n) ≡ None
+IsCutSo algorithms z n TellsNoneBelow = HasNoCutBelow z.zone n
 IsCutSo algorithms z n _ = Unit {0}
 
 -- of a question

@@ -17,8 +17,9 @@ use std::alloc::{AllocError, Global};
 /// and how often was verified and hashed for it.
 ///
 /// A name without DS is a delegation only where NS records show it: an empty set alone is not
-/// insecure. An alias at the name means that no delegation is there (RFC 4035, 3.1.4.1).
-/// `algorithms` names those that signatures are checked of; none stands for all.
+/// insecure. An alias at the name means that no delegation is there (RFC 4035, 3.1.4.1). Where the
+/// name does not exist, also where a wildcard stands for it, or is below a DNAME, there is none
+/// below it either. `algorithms` names those that signatures are checked of; none stands for all.
 ///
 /// Where nothing in the messages is forged this is so of the zone, if it is in order, has DS records
 /// at delegations alone and does not change.
@@ -95,10 +96,8 @@ fn cut_found(
     match finding {
         Finding::Verdict(verdict) => cut_said(alloc, algorithms, name, verdict),
         Finding::NoDs(true) => Ok(Step::Unsigned(canonical_name(alloc, name)?)),
-        Finding::NoDs(false)
-        | Finding::Alias(_)
-        | Finding::WildcardAlias(_)
-        | Finding::Dname { .. } => Ok(Step::NoCut),
+        Finding::NoDs(false) | Finding::Alias(_) => Ok(Step::NoCut),
+        Finding::WildcardAlias(_) | Finding::Dname { .. } => Ok(Step::NoneBelow),
         Finding::Delegated(_) | Finding::Referral { .. } => Ok(Step::Untold(None)),
     }
 }
@@ -114,7 +113,7 @@ fn cut_said(
 {
     match verdict {
         Verdict::Records(datas) => bound(alloc, algorithms, name, &datas),
-        Verdict::NoName | Verdict::StarRecords(_) | Verdict::StarNoType => Ok(Step::NoCut),
+        Verdict::NoName | Verdict::StarRecords(_) | Verdict::StarNoType => Ok(Step::NoneBelow),
         Verdict::Open => Ok(Step::LeftOpen),
         Verdict::NoType | Verdict::Delegated | Verdict::Unsigned => Ok(Step::Untold(None)),
     }

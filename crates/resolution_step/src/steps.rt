@@ -185,7 +185,8 @@ fn at_cut(step: Step) -> Step
     ensures { told result ≡ at_cut (told step) }
 {
     match step {
-        Step::Answer(_) | Step::Leads(_) | Step::NoCut => Step::Untold(None),
+        Step::Answer(_) | Step::Leads(_) => Step::Untold(None),
+        Step::NoCut | Step::NoneBelow => Step::Untold(None),
         step => step,
     }
 }

@@ -27,6 +27,9 @@ pub enum Step {
     LeftOpen,
     /// No delegation is at the name or above it.
     NoCut,
+    /// No delegation is at the name or above it, nor at any name below it: the name does not exist,
+    /// or it is below a DNAME.
+    NoneBelow,
     /// The message tells none of this: why it was refused, or none where it says something else.
     Untold(Option<Refusal>),
     /// The table does not have these signatures.
