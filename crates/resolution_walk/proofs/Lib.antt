@@ -1,3 +1,4 @@
+pub mod Cuts
 pub mod Turning
 pub mod Stopping
 pub mod Onward

@@ -24,12 +24,14 @@ use Rattle.resolution_evidence.specs.Walking.{Onward, GoesDown, Stops, IsOnward,
 use Rattle.resolution_walk.specs.Ended.{IsWay, IsTurn, IsEnding, IsFollowed, IsWalked, LastsIfSaid, ends_in, lasting_said, leads_to, onward_of, said_of}
 use Rattle.resolution_walk.specs.Stopping.{EndsHere, IsAliasOf, IsLed, IsNoAlias, IsTurnUntold, IsTurnedTo, StopsIn, ending_within}
 use Rattle.resolution_walk.specs.Stopping as stopping
-use Rattle.resolution_walk.specs.Wanted.{IsBetween, IsParent}
+use Rattle.resolution_walk.specs.Wanted.{IsParent}
+use Rattle.resolution_walk.specs.Between.{IsBetween}
 use Rattle.resolution_walk.specs.declared.ending.End.{End}
 use Rattle.resolution_walk.specs.declared.ending.Ending.{Ending}
 use Rattle.resolution_walk.specs.declared.ending.Ending.TheVariants as ends
 use Rattle.resolution_walk.specs.declared.ending.Taken.{Taken}
 use Rattle.resolution_walk.specs.declared.ending.Target.{Target}
+use Rattle.resolution_walk.specs.declared.ending.Uncut.{Uncut}
 use Rattle.resolution_walk.specs.declared.ending.Walk.{Walk}
 use Rattle.resolution_walk.proofs.Turning.{any_way, name_onward, own_onward, turned_nothing, turned_onward}
 
@@ -45,7 +47,7 @@ module _ (e : Given) (asked : Asked) (zone : Name) (ds : List Ds) where
       lasting_way x t.lasting lasts (any_way e asked zone ds (onward_of x.turn) t.lasting on)
   turned_own h t now (Err x) of is same turns lasts = tt
 
-  pub turned_at : (q : Asked) (h : JudgeInput) (t : Telling) (now : StepSeen) (r : Result (Result Taken Counts) AllocError) → IsBetween zone asked q → IsOf e zone ds q h → IsCutTelling e.algorithms e.table h t
+  pub turned_at : (q : Asked) (h : JudgeInput) (t : Telling) (now : StepSeen) (r : Result (Result Taken Uncut) AllocError) → IsBetween e asked zone ds q → IsOf e zone ds q h → IsCutTelling e.algorithms e.table h t
       → now ≡ told t.step → now ≡ at_cut (told t.step) → IfOk r (λ x. MatchResult x (λ y. IsTurnedTo zone ds q now y.turn) (λ n. ⊥)) → IfOk r (λ x. IfOk x (λ y. y.lasting ≡ t.lasting))
       → IfOk r (λ x. IfOk x (IsTurn e asked zone ds))
   turned_at q h t now (Ok (Ok x)) between of is same cut turns lasts =

@@ -1,9 +1,9 @@
 -- Where a way stops, and what is counted, turn by turn.
-use Rattle.std.proofs.Common.{◌≡◌, ℕ, suc, ◌-◌, ◌<◌, arith, true, false, ◌&&◌, List, [], ◌∷◌, ◌++◌, drop, Option, Result, Ok, Err, IfOk, refl, sym, ap, ◌∙◌, inl, inr, subst, append-nil, append_assoc}
-use Rattle.std.specs.Prelude.{◌==◌, IfErr, MatchResult}
+use Rattle.std.proofs.Common.{◌≡◌, ℕ, suc, ◌-◌, ◌<◌, arith, true, false, List, [], ◌∷◌, ◌++◌, drop, Option, Result, Ok, Err, IfOk, refl, sym, ap, ◌∙◌, inl, inr, subst, append-nil, append_assoc}
+use Rattle.std.specs.Prelude.{IfErr, MatchResult}
 use Rattle.std.specs.declared.alloc.AllocError.{AllocError}
 use Rattle.definitions.specs.Dnskey.{Ds}
-use Rattle.definitions.specs.Name.{Name, at_or_above, same, strictly_above}
+use Rattle.definitions.specs.Name.{Name, strictly_above}
 use Rattle.messages.specs.Message.{Asked}
 use Rattle.answer_judge_keys.specs.Judging.{JudgeInput}
 use Rattle.answer_judge_keys.specs.declared.verdict.Lasting.{Lasting}
@@ -12,12 +12,13 @@ use Rattle.resolution_evidence.specs.Counted.{no_counts, plus}
 use Rattle.resolution_evidence.specs.Counts.{Counts}
 use Rattle.resolution_evidence.specs.Given.{Given, IsOf}
 use Rattle.resolution_evidence.specs.Telling.{Telling}
-use Rattle.resolution_evidence.specs.Told.{StepSeen, TellsNothing, IsCutTelling, IsTelling, at_cut, told}
+use Rattle.resolution_evidence.specs.Told.{StepSeen, TellsNoneBelow, IsCutTelling, IsTelling, at_cut, told}
 use Rattle.resolution_evidence.specs.Walking.{GoesDown, IsNameStep, IsOnward, IsOwnStep, ds_at, renamed}
 use Rattle.resolution_walk.specs.Ended.{IsTurn, IsWay, onward_of}
-use Rattle.resolution_walk.specs.Judged.{AreJudged, NotJudged, ByAnswer, Between, AreJudgedDown, Above, Next, IsAnswerUntold, IsJudgedAt, Itself, Other, IsJudgedBelow, IsJudgedFor, IsLacking, IsThere, counts_in}
+use Rattle.resolution_walk.specs.Between.{AreAllUncut, DownToName, DownToMissing, AreUncut, AtZone, Itself, Next, IsAnswerUntold, IsBetween, IsNothing, IsReached, IsToldFor, IsUnanswered, LiesBetween, is_itself}
+use Rattle.resolution_walk.specs.Judged.{AreJudged, NotJudged, ByAnswer, Between, AreJudgedBetween, UpTo, AndNext, IsJudgedAt, IsJudgedFor, IsLast, IsToldCut, IsToldWay, IsUncut, IsUncutTold, counts_in, counts_of, is_nothing, is_uncut}
 use Rattle.resolution_walk.specs.Stopping.{EndsAt, IsCounted, IsLed, IsStop, IsStopped, IsTurnUntold, IsTurnedTo, Stops, Here, Below, TooDeep, StopsBehind, TooMany, Led, StopsBelow, NoneLeft, OneLess, StopsBelowIn, StopsIn, StopsWithin, TurnStops, WalkStops, WantsLacking, ending_within}
-use Rattle.resolution_walk.specs.Wanted.{IsBetween, is_lacking}
+use Rattle.resolution_walk.specs.Wanted.{is_lacking}
 use Rattle.resolution_walk.specs.declared.ending.End.{End}
 use Rattle.resolution_walk.specs.declared.ending.Ending.{Ending}
 use Rattle.resolution_walk.specs.declared.ending.Ending.TheVariants as ends
@@ -25,9 +26,12 @@ use Rattle.resolution_walk.specs.declared.ending.Taken.{Taken}
 use Rattle.resolution_walk.specs.declared.ending.Target.{Target}
 use Rattle.resolution_walk.specs.declared.ending.Turn.{Turn}
 use Rattle.resolution_walk.specs.declared.ending.Turn.TheVariants as turns
+use Rattle.resolution_walk.specs.declared.ending.Uncut.{Uncut}
+use Rattle.resolution_walk.specs.declared.ending.Uncut.TheVariants as uncut
 use Rattle.resolution_walk.specs.declared.ending.Walk.{Walk}
 use Rattle.resolution_walk.specs.declared.walk.Limits.{Limits}
-use Rattle.resolution_walk.proofs.Turning.{name_stop, own_stop, turned_nothing}
+use Rattle.resolution_walk.proofs.Cuts.{name_cut}
+use Rattle.resolution_walk.proofs.Turning.{name_stop, own_stop, untold_stop}
 
 suc_of : (n : ℕ) → 0 < n → suc (n - 1) ≡ n
 suc_of n some = omega arith
@@ -39,7 +43,7 @@ module _ (e : Given) (asked : Asked) (zone : Name) (ds : List Ds) where
   wants_own (turns.Ends (ends.Wants ws)) lacks k = record { sought = asked; is_sought = inl refl; some = lacks; are = k }
   wants_own _ lacks k = absurd k
 
-  wants_at : (q : Asked) (t : Turn) → IsBetween zone asked q → is_lacking e zone q ≡ true → WantsLacking e zone q t → TurnStops e asked zone ds t
+  wants_at : (q : Asked) (t : Turn) → IsBetween e asked zone ds q → is_lacking e zone q ≡ true → WantsLacking e zone q t → TurnStops e asked zone ds t
   wants_at q (turns.Ends (ends.Wants ws)) between lacks k = record { sought = q; is_sought = inr between; some = lacks; are = k }
   wants_at q _ between lacks k = absurd k
 
@@ -60,52 +64,57 @@ module _ (e : Given) (asked : Asked) (zone : Name) (ds : List Ds) where
   not_judged_in before (Ok t) lacks k = NotJudged lacks k
   not_judged_in before (Err x) lacks k = tt
 
-  pub wants_there : (q : Asked) (r : Result (Result Taken Counts) AllocError) → IsBetween zone asked q → is_lacking e zone q ≡ true
+  pub wants_there : (q : Asked) (r : Result (Result Taken Uncut) AllocError) → IsBetween e asked zone ds q → is_lacking e zone q ≡ true
       → IfOk r (λ x. MatchResult x (λ t. WantsLacking e zone q t.turn) (λ n. ⊥)) → IfOk r (λ x. IfOk x (IsStop e asked zone ds))
   wants_there q (Ok (Ok t)) between lacks k = wants_at q t.turn between lacks k
   wants_there q (Ok (Err n)) between lacks k = tt
   wants_there q (Err x) between lacks k = tt
 
-  pub stops_there : (q : Asked) (r : Result (Result Taken Counts) AllocError) → IfOk r (λ x. MatchResult x (λ t. WantsLacking e zone q t.turn) (λ n. ⊥)) → IfOk r (λ x. IfOk x (IsTurn e asked zone ds))
+  pub stops_there : (q : Asked) (r : Result (Result Taken Uncut) AllocError) → IfOk r (λ x. MatchResult x (λ t. WantsLacking e zone q t.turn) (λ n. ⊥)) → IfOk r (λ x. IfOk x (IsTurn e asked zone ds))
   stops_there q (Ok (Ok t)) k = leads_nowhere q t.turn t.lasting k
   stops_there q (Ok (Err n)) k = tt
   stops_there q (Err x) k = tt
 
-  pub lacking_there : (q : Asked) (before : Counts) (r : Result (Result Taken Counts) AllocError) → is_lacking e zone q ≡ true → IfOk r (λ x. counts_in x ≡ before)
-      → IfOk r (λ x. IsJudgedFor e zone ds q before (counts_in x))
-  lacking_there q before (Ok x) lacks k = IsLacking lacks k
-  lacking_there q before (Err x) lacks k = tt
+  pub lacking_there : (q : Asked) (before : Counts) (r : Result (Result Taken Uncut) AllocError) → IfOk r (λ x. MatchResult x (λ t. WantsLacking e zone q t.turn) (λ n. ⊥)) → IfOk r (λ x. counts_in x ≡ before)
+      → IfOk r (IsJudgedFor e zone ds q before)
+  lacking_there q before (Ok (Ok t)) wants k = inl k
+  lacking_there q before (Ok (Err u)) wants k = absurd wants
+  lacking_there q before (Err x) wants k = tt
 
   -- ---- by the answer to the question
 
   own_step : (h : JudgeInput) (t : Telling) → IsOf e zone ds asked h → IsTelling e.algorithms e.table h t → IsOwnStep e zone ds asked (told t.step) t.lasting t.counts
   own_step h t of is = record { judged = h; of = of; told_is = is }
 
-  pub own_stops_in : (h : JudgeInput) (t : Telling) (now : StepSeen) (r : Result Taken AllocError) → IsOf e zone ds asked h → IsTelling e.algorithms e.table h t → now ≡ told t.step
+  pub own_stops_in : (h : JudgeInput) (t : Telling) (now : StepSeen) (r : Result Taken AllocError) → IsOf e zone ds asked h → IsTelling e.algorithms e.table h t → IsToldWay (told t.step) now
       → IfOk r (λ x. IsTurnedTo zone ds asked now x.turn) → IfOk r (IsStop e asked zone ds)
-  own_stops_in h t now (Ok x) of is same k =
-      own_stop e asked zone ds (told t.step) t.lasting t.counts x.turn (own_step h t of is) (subst (λ (y : StepSeen). IsTurnedTo zone ds asked y x.turn) same k)
-  own_stops_in h t now (Err x) of is same k = tt
+  own_stops_in h t now (Ok x) of is way k =
+      let tells = ap is_nothing (sym way.0) ∙ way.1 in
+      own_stop e asked zone ds (told t.step) t.lasting t.counts x.turn tells (own_step h t of is) (subst (λ (y : StepSeen). IsTurnedTo zone ds asked y x.turn) way.0 k)
+  own_stops_in h t now (Err x) of is way k = tt
 
   pub own_counted_in : (h : JudgeInput) (t : Telling) (before sums : Counts) (r : Result Taken AllocError) → IsOf e zone ds asked h → IsTelling e.algorithms e.table h t → sums ≡ plus before t.counts
       → IfOk r (λ x. x.counts ≡ sums) → IfOk r (IsCounted e asked zone ds before)
   own_counted_in h t before sums (Ok x) of is sum k = ByAnswer (told t.step) t.lasting t.counts (own_step h t of is) (k ∙ sum)
   own_counted_in h t before sums (Err x) of is sum k = tt
 
-  pub untold_own : (h : JudgeInput) (t : Telling) (refusal : Option Refusal) → IsOf e zone ds asked h → IsTelling e.algorithms e.table h t → told t.step ≡ TellsNothing refusal → IsAnswerUntold e asked zone ds refusal t.counts
-  untold_own h t refusal of is same = record { lasting = t.lasting; step = subst (λ (y : StepSeen). IsOwnStep e zone ds asked y t.lasting t.counts) same (own_step h t of is) }
+  pub untold_own : (h : JudgeInput) (t : Telling) (refusal : Option Refusal) → IsOf e zone ds asked h → IsTelling e.algorithms e.table h t → IsNothing (told t.step) refusal → IsAnswerUntold e asked zone ds refusal t.counts
+  untold_own h t refusal of is nothing = record { said = told t.step; nothing = nothing; lasting = t.lasting; step = own_step h t of is }
 
-  pub untold_stops_in : (refusal : Option Refusal) (own : Counts) (r : Result Taken AllocError) → IsAnswerUntold e asked zone ds refusal own
+  pub unanswered : (refusal : Option Refusal) (own : Counts) → IsAnswerUntold e asked zone ds refusal own → IsUnanswered e asked zone ds
+  unanswered refusal own k = record { refusal = refusal; counts = own; untold = k }
+
+  pub untold_stops_in : (refusal : Option Refusal) (own : Counts) (r : Result Taken AllocError) → IsAnswerUntold e asked zone ds refusal own → IsLast e asked zone ds refusal
       → IfOk r (λ x. IsTurnUntold zone ds asked refusal x.turn) → IfOk r (IsStop e asked zone ds)
-  untold_stops_in refusal own (Ok x) k turns = own_stop e asked zone ds (TellsNothing refusal) k.lasting own x.turn k.step (turned_nothing zone ds asked refusal x.turn turns)
-  untold_stops_in refusal own (Err x) k turns = tt
+  untold_stops_in refusal own (Ok x) k last turns = untold_stop e asked zone ds refusal own x.turn k last turns
+  untold_stops_in refusal own (Err x) k last turns = tt
 
-  pub between_counted : (refusal : Option Refusal) (own before sums after : Counts) → IsAnswerUntold e asked zone ds refusal own → sums ≡ plus before own → IsJudgedBelow e asked zone ds sums after → AreJudged e asked zone ds before after
-  between_counted refusal own before sums after k sum below = Between refusal k.lasting own k.step (subst (λ (n : Counts). IsJudgedBelow e asked zone ds n after) sum below)
+  pub between_counted : (refusal : Option Refusal) (own before sums after : Counts) → IsAnswerUntold e asked zone ds refusal own → sums ≡ plus before own → AreJudgedBetween e asked zone ds sums after → AreJudged e asked zone ds before after
+  between_counted refusal own before sums after k sum below = Between refusal own k (subst (λ (n : Counts). AreJudgedBetween e asked zone ds n after) sum below)
 
-  pub untold_counted_in : (refusal : Option Refusal) (own before sums after : Counts) (r : Result Taken AllocError) → IsAnswerUntold e asked zone ds refusal own → sums ≡ plus before own → IsJudgedBelow e asked zone ds sums after
+  pub untold_counted_in : (refusal : Option Refusal) (own before sums after : Counts) (r : Result Taken AllocError) → IsAnswerUntold e asked zone ds refusal own → sums ≡ plus before own → AreJudgedBetween e asked zone ds sums after
       → IfOk r (λ x. x.counts ≡ after) → IfOk r (IsCounted e asked zone ds before)
-  untold_counted_in refusal own before sums after (Ok x) k sum below is = between_counted refusal own before sums x.counts k sum (subst (IsJudgedBelow e asked zone ds sums) (sym is) below)
+  untold_counted_in refusal own before sums after (Ok x) k sum below is = between_counted refusal own before sums x.counts k sum (subst (AreJudgedBetween e asked zone ds sums) (sym is) below)
   untold_counted_in refusal own before sums after (Err x) k sum below is = tt
 
   -- ---- by an answer for DS
@@ -113,56 +122,94 @@ module _ (e : Given) (asked : Asked) (zone : Name) (ds : List Ds) where
   name_step : (q : Asked) (h : JudgeInput) (t : Telling) → IsOf e zone ds q h → IsCutTelling e.algorithms e.table h t → IsNameStep e zone ds q (told t.step) t.lasting t.counts
   name_step q h t of is = record { judged = h; of = of; told_is = is }
 
-  pub name_stops_in : (q : Asked) (h : JudgeInput) (t : Telling) (now : StepSeen) (r : Result (Result Taken Counts) AllocError) → IsBetween zone asked q → IsOf e zone ds q h → IsCutTelling e.algorithms e.table h t
+  pub name_stops_in : (q : Asked) (h : JudgeInput) (t : Telling) (now : StepSeen) (r : Result (Result Taken Uncut) AllocError) → IsBetween e asked zone ds q → IsOf e zone ds q h → IsCutTelling e.algorithms e.table h t
       → now ≡ told t.step → now ≡ at_cut (told t.step) → IfOk r (λ x. MatchResult x (λ y. IsTurnedTo zone ds q now y.turn) (λ n. ⊥)) → IfOk r (λ x. IfOk x (IsStop e asked zone ds))
   name_stops_in q h t now (Ok (Ok x)) between of is same cut k = name_stop e asked zone ds q (told t.step) now t.lasting t.counts x.turn between (name_step q h t of is) same cut k
   name_stops_in q h t now (Ok (Err n)) between of is same cut k = tt
   name_stops_in q h t now (Err x) between of is same cut k = tt
 
-  pub name_counted : (q : Asked) (h : JudgeInput) (t : Telling) (before after : Counts) → IsOf e zone ds q h → IsCutTelling e.algorithms e.table h t → after ≡ plus before t.counts → IsJudgedFor e zone ds q before after
-  name_counted q h t before after of is sum = IsThere (told t.step) t.lasting t.counts (name_step q h t of is) sum
+  -- what is told of a delegation, as contracts see it
+  pub cut_at : (q : Asked) (h : JudgeInput) (t : Telling) (now : StepSeen) → IsOf e zone ds q h → IsCutTelling e.algorithms e.table h t → IsToldCut (told t.step) now → now ≡ at_cut (told t.step)
+  cut_at q h t now of is cut = cut.0 ∙ name_cut e zone ds q (told t.step) t.lasting t.counts (name_step q h t of is) (ap is_uncut (sym cut.0) ∙ cut.1)
 
-  pub name_counted_in : (q : Asked) (h : JudgeInput) (t : Telling) (before sums : Counts) (r : Result (Result Taken Counts) AllocError) → IsOf e zone ds q h → IsCutTelling e.algorithms e.table h t → sums ≡ plus before t.counts
-      → IfOk r (λ x. counts_in x ≡ sums) → IfOk r (λ x. IsJudgedFor e zone ds q before (counts_in x))
-  name_counted_in q h t before sums (Ok x) of is sum k = name_counted q h t before (counts_in x) of is (k ∙ sum)
-  name_counted_in q h t before sums (Err x) of is sum k = tt
+  told_for : (q : Asked) (h : JudgeInput) (t : Telling) (before after : Counts) → IsOf e zone ds q h → IsCutTelling e.algorithms e.table h t → after ≡ plus before t.counts → IsToldFor e zone ds q (told t.step) before after
+  told_for q h t before after of is sum = record { lasting = t.lasting; counts = t.counts; step = name_step q h t of is; sum = sum }
 
-  pub counted_at : (q : Asked) (n : Name) (before : Counts) (r : Result (Result Taken Counts) AllocError) → q ≡ ds_at asked n → IfOk r (λ x. IsJudgedFor e zone ds q before (counts_in x))
-      → IfOk r (λ x. IsJudgedFor e zone ds (ds_at asked n) before (counts_in x))
-  counted_at q n before r is k = subst (λ (p : Asked). IfOk r (λ x. IsJudgedFor e zone ds p before (counts_in x))) is k
+  pub name_judged_in : (q : Asked) (h : JudgeInput) (t : Telling) (now : StepSeen) (before sums : Counts) (r : Result (Result Taken Uncut) AllocError) → IsOf e zone ds q h → IsCutTelling e.algorithms e.table h t → sums ≡ plus before t.counts
+      → IfOk r (λ x. MatchResult x (λ y. IsTurnedTo zone ds q now y.turn) (λ n. ⊥)) → IfOk r (λ x. counts_in x ≡ sums) → IfOk r (IsJudgedFor e zone ds q before)
+  name_judged_in q h t now before sums (Ok (Ok x)) of is sum turns k = inr (told t.step, told_for q h t before x.counts of is (k ∙ sum))
+  name_judged_in q h t now before sums (Ok (Err u)) of is sum turns k = absurd turns
+  name_judged_in q h t now before sums (Err x) of is sum turns k = tt
 
-  pub other_at : (n : Name) (before : Counts) (r : Result (Result Taken Counts) AllocError) → IfOk r (λ x. IsJudgedFor e zone ds (ds_at asked n) before (counts_in x)) → IfOk r (λ x. IsJudgedAt e asked zone ds n before (counts_in x))
-  other_at n before (Ok x) k = Other k
+  pub uncut_judged : (q : Asked) (h : JudgeInput) (t : Telling) (before sums : Counts) (u : Uncut) → IsOf e zone ds q h → IsCutTelling e.algorithms e.table h t → sums ≡ plus before t.counts → IsUncutTold (told t.step) sums u
+      → IsJudgedFor e zone ds q before (Err u)
+  uncut_judged q h t before sums (uncut.SoFar n) of is sum k = subst (λ (y : StepSeen). IsToldFor e zone ds q y before n) k.1 (told_for q h t before n of is (k.0 ∙ sum))
+  uncut_judged q h t before sums (uncut.AtAll n) of is sum k = subst (λ (y : StepSeen). IsToldFor e zone ds q y before n) k.1 (told_for q h t before n of is (k.0 ∙ sum))
+
+  pub judged_at : (q : Asked) (n : Name) (before : Counts) (r : Result (Result Taken Uncut) AllocError) → q ≡ ds_at asked n → IfOk r (IsJudgedFor e zone ds q before) → IfOk r (IsJudgedFor e zone ds (ds_at asked n) before)
+  judged_at q n before r is k = subst (λ (p : Asked). IfOk r (IsJudgedFor e zone ds p before)) is k
+
+  pub other_at : (n : Name) (before : Counts) (r : Result (Result Taken Uncut) AllocError) → IfOk r (IsJudgedFor e zone ds (ds_at asked n) before) → IfOk r (IsJudgedAt e asked zone ds n before)
+  other_at n before (Ok x) k = inr k
   other_at n before (Err x) k = tt
 
-  pub itself_at : (n : Name) (before : Counts) → (same n asked.name && (asked.rtype == 43)) ≡ true → IsJudgedAt e asked zone ds n before before
-  itself_at n before is = Itself is refl
+  pub itself_at : (n : Name) (before : Counts) → is_itself asked n ≡ true → IsJudgedAt e asked zone ds n before (Err (uncut.SoFar before))
+  itself_at n before is = inl (is, refl)
 
   -- ---- down the names
 
-  pub none_down : (n : Name) (before : Counts) → strictly_above zone n ≡ false → AreJudgedDown e asked zone ds before n before
-  none_down n before is = Above is refl
+  pub none_down : (n : Name) (before : Counts) → strictly_above zone n ≡ false → AreUncut e asked zone ds before n before
+  none_down n before is = AtZone is refl
 
-  pub none_at_root : (n : Name) (before : Counts) → n ≡ [] → AreJudgedDown e asked zone ds before n before
+  pub none_at_root : (n : Name) (before : Counts) → n ≡ [] → AreUncut e asked zone ds before n before
   none_at_root n before is = none_down n before (ap (strictly_above zone) is)
 
-  pub below_of : (n : Name) (before after : Counts) → AreJudgedDown e asked zone ds before n after → IsJudgedBelow e asked zone ds before after
-  below_of n before after k = record { name = n; down = k }
+  pub judged_down : (n : Name) (before after : Counts) → AreUncut e asked zone ds before n after → AreJudgedBetween e asked zone ds before after
+  judged_down n before after k = UpTo k
 
-  one_down : (n parent : Name) (before between after : Counts) → strictly_above zone n ≡ true → at_or_above n asked.name ≡ true → parent ≡ drop 1 n → AreJudgedDown e asked zone ds before parent between
-      → IsJudgedAt e asked zone ds n between after → AreJudgedDown e asked zone ds before n after
-  one_down n parent before between after below above is k at = Next below above (subst (λ (m : Name). AreJudgedDown e asked zone ds before m between) is k) at
+  pub uncut_counted : (n : Name) (before : Counts) (u : Uncut) → IsUncut e asked zone ds before n u → AreJudgedBetween e asked zone ds before (counts_of u)
+  uncut_counted n before (uncut.SoFar after) k = UpTo k
+  uncut_counted n before (uncut.AtAll after) k = AndNext k.lies k.above TellsNoneBelow k.told
 
-  pub down_in : (n parent : Name) (before between : Counts) (r : Result (Result Taken Counts) AllocError) → strictly_above zone n ≡ true → at_or_above n asked.name ≡ true → parent ≡ drop 1 n
-      → AreJudgedDown e asked zone ds before parent between → IfOk r (λ x. IsJudgedAt e asked zone ds n between (counts_in x)) → IfOk r (λ x. IfErr x (AreJudgedDown e asked zone ds before n))
-  down_in n parent before between (Ok (Ok t)) below above is k at = tt
-  down_in n parent before between (Ok (Err after)) below above is k at = one_down n parent before between after below above is k at
-  down_in n parent before between (Err x) below above is k at = tt
+  -- no delegation is at any name between: so it is where the question's name is reached
+  all_uncut : (before : Counts) (u : Uncut) → IsUncut e asked zone ds before asked.name u → AreAllUncut e asked zone ds
+  all_uncut before (uncut.SoFar after) k = DownToName k
+  all_uncut before (uncut.AtAll after) k = DownToMissing k
 
-  pub below_in : (n parent : Name) (before between : Counts) (r : Result (Result Taken Counts) AllocError) → strictly_above zone n ≡ true → at_or_above n asked.name ≡ true → parent ≡ drop 1 n
-      → AreJudgedDown e asked zone ds before parent between → IfOk r (λ x. IsJudgedAt e asked zone ds n between (counts_in x)) → IfOk r (λ x. IsJudgedBelow e asked zone ds before (counts_in x))
-  below_in n parent before between (Ok x) below above is k at = below_of n before (counts_in x) (one_down n parent before between (counts_in x) below above is k at)
-  below_in n parent before between (Err x) below above is k at = tt
+  pub all_last : (refusal : Option Refusal) (before : Counts) (r : Result (Result Taken Uncut) AllocError) → IfOk r (λ x. IfErr x (IsUncut e asked zone ds before asked.name)) → IfOk r (λ x. IfErr x (λ u. IsLast e asked zone ds refusal))
+  all_last refusal before (Ok (Ok t)) k = tt
+  all_last refusal before (Ok (Err u)) k = inr (all_uncut before u k)
+  all_last refusal before (Err x) k = tt
+
+  module _ (n parent : Name) (before sums : Counts) (lies : LiesBetween zone asked n) (is : parent ≡ drop 1 n) (k : AreUncut e asked zone ds before parent sums) where
+    above : AreUncut e asked zone ds before (drop 1 n) sums
+    above = subst (λ (m : Name). AreUncut e asked zone ds before m sums) is k
+
+    pub reached : IsUnanswered e asked zone ds → IsReached e asked zone ds n
+    reached untold = record { lies = lies; untold = untold; before = before; after = sums; above = above }
+
+    one_uncut : (u : Uncut) → IsJudgedAt e asked zone ds n sums (Err u) → IsUncut e asked zone ds before n u
+    one_uncut (uncut.SoFar after) (inl itself) =
+        let same : after ≡ sums = (let both : Err {A = Taken} (uncut.SoFar after) ≡ Err (uncut.SoFar sums) = itself.1 in cc) in
+        Itself itself.0 (subst (AreUncut e asked zone ds before (drop 1 n)) (sym same) above)
+    one_uncut (uncut.SoFar after) (inr told) = Next lies above told
+    one_uncut (uncut.AtAll after) (inl itself) = absurd (let both : Err {A = Taken} (uncut.AtAll after) ≡ Err (uncut.SoFar sums) = itself.1 in cc)
+    one_uncut (uncut.AtAll after) (inr told) = record { name = n; lies = lies; between = sums; above = above; told = told }
+
+    one_counted : (t : Taken) → IsJudgedAt e asked zone ds n sums (Ok t) → AreJudgedBetween e asked zone ds before t.counts
+    one_counted t (inl itself) = absurd (let both : Ok {E = Uncut} t ≡ Err (uncut.SoFar sums) = itself.1 in cc)
+    one_counted t (inr (inl same)) = UpTo (subst (AreUncut e asked zone ds before (drop 1 n)) (sym same) above)
+    one_counted t (inr (inr (said, told))) = AndNext lies above said told
+
+    pub uncut_in : (r : Result (Result Taken Uncut) AllocError) → IfOk r (IsJudgedAt e asked zone ds n sums) → IfOk r (λ x. IfErr x (IsUncut e asked zone ds before n))
+    uncut_in (Ok (Ok t)) at = tt
+    uncut_in (Ok (Err u)) at = one_uncut u at
+    uncut_in (Err x) at = tt
+
+    pub judged_in : (r : Result (Result Taken Uncut) AllocError) → IfOk r (IsJudgedAt e asked zone ds n sums) → IfOk r (λ x. AreJudgedBetween e asked zone ds before (counts_in x))
+    judged_in (Ok (Ok t)) at = one_counted t at
+    judged_in (Ok (Err u)) at = uncut_counted n before u (one_uncut u at)
+    judged_in (Err x) at = tt
 
   -- ---- ends
 

@@ -1,8 +1,10 @@
 -- Where a zone's messages lead by what one of them tells.
-use Rattle.std.proofs.Common.{◌≡◌, List, Option, Result, Ok, Err, IfOk, refl, sym, ap, subst, ◌∙◌}
+use Rattle.std.proofs.Common.{◌≡◌, true, false, ◌&&◌, List, Option, Result, Ok, Err, IfOk, refl, sym, ap, subst, ◌∙◌}
 use Rattle.std.specs.declared.alloc.AllocError.{AllocError}
+use Rattle.std.proofs.lemmas.Bool.{false≢true}
 use Rattle.definitions.specs.Dnskey.{Ds}
 use Rattle.definitions.specs.Name.{Name}
+use Rattle.denial_laws.proofs.NameFacts.{names_same}
 use Rattle.messages.specs.Message.{Asked}
 use Rattle.resolution_tree.specs.Tree.{Secure, LeftOpen}
 use Rattle.answer_judge_rules.specs.Rules.{verdict_of}
@@ -10,12 +12,12 @@ use Rattle.answer_judge_keys.specs.declared.verdict.Lasting.{Lasting}
 use Rattle.answer_judge_keys.specs.declared.verdict.Refusal.{Refusal}
 use Rattle.resolution_evidence.specs.Counts.{Counts}
 use Rattle.resolution_evidence.specs.Given.{Given}
-use Rattle.resolution_evidence.specs.Told.{StepSeen, TellsVerdict, TellsLead, TellsDown, TellsUnsigned, TellsOpen, TellsNoCut, TellsNothing, AsksFor, at_cut}
-use Rattle.resolution_evidence.specs.Walking.{Onward, GoesDown, EndsIn, Stops, ByName, ByQuestion, IsNameStep, IsOnward, IsOwnStep, onward}
+use Rattle.resolution_evidence.specs.Told.{StepSeen, TellsVerdict, TellsLead, TellsDown, TellsUnsigned, TellsOpen, TellsNoCut, TellsNoneBelow, TellsNothing, AsksFor, at_cut}
+use Rattle.resolution_evidence.specs.Walking.{Onward, GoesDown, EndsIn, Stops, ByName, ByQuestion, IsNameStep, IsOnward, IsOwnStep, ds_at, onward}
 use Rattle.resolution_walk.specs.Ended.{IsWay, onward_of}
-use Rattle.resolution_walk.specs.Judged.{IsHeard, OfAnswer, OfName, IsNothing}
+use Rattle.resolution_walk.specs.Between.{IsAnswerUntold, IsBetween, IsNothing, is_itself}
+use Rattle.resolution_walk.specs.Judged.{IsHeard, OfAnswer, OfName, IsLast, is_nothing}
 use Rattle.resolution_walk.specs.Stopping.{IsTurnUntold, IsTurnedTo, TurnStops}
-use Rattle.resolution_walk.specs.Wanted.{IsBetween}
 use Rattle.resolution_walk.specs.declared.ending.Ending.TheVariants as ends
 use Rattle.resolution_walk.specs.declared.ending.Turn.{Turn}
 use Rattle.resolution_walk.specs.declared.ending.Turn.TheVariants as turns
@@ -23,12 +25,25 @@ use Rattle.resolution_walk.specs.declared.ending.Turn.TheVariants as turns
 nothing_onward : (zone : Name) (said : StepSeen) (r : Option Refusal) → IsNothing said r → Stops ≡ onward zone said
 nothing_onward zone (TellsNothing x) r k = refl
 nothing_onward zone TellsNoCut r k = refl
+nothing_onward zone TellsNoneBelow r k = refl
 nothing_onward zone (TellsVerdict v) r k = absurd k
 nothing_onward zone (TellsLead l) r k = absurd k
 nothing_onward zone (TellsDown c ds) r k = absurd k
 nothing_onward zone (TellsUnsigned c) r k = absurd k
 nothing_onward zone TellsOpen r k = absurd k
 nothing_onward zone (AsksFor asks) r k = absurd k
+
+-- what is something of the way is not nothing
+something : (said : StepSeen) (r : Option Refusal) → is_nothing said ≡ false → IsNothing said r → ⊥
+something (TellsNothing x) r tells k = false≢true (sym tells)
+something TellsNoCut r tells k = false≢true (sym tells)
+something TellsNoneBelow r tells k = false≢true (sym tells)
+something (TellsVerdict v) r tells k = k
+something (TellsLead l) r tells k = k
+something (TellsDown c ds) r tells k = k
+something (TellsUnsigned c) r tells k = k
+something TellsOpen r tells k = k
+something (AsksFor asks) r tells k = k
 
 module _ (zone : Name) (ds : List Ds) (sought : Asked) (said : StepSeen) where
   -- a turn leads where what is told leads
@@ -62,33 +77,55 @@ module _ (e : Given) (asked : Asked) (zone : Name) (ds : List Ds) where
   any_way Stops l x = tt
 
   -- a turn ends as what is heard says
-  pub turn_stops : (sought : Asked) (said : StepSeen) (l : Option Lasting) (t : Turn) → IsOnward e asked zone ds (onward_of t) l → IsHeard e asked zone ds sought said → IsTurnedTo zone ds sought said t
-      → TurnStops e asked zone ds t
-  turn_stops sought said l (turns.Down c below) on heard k = tt
-  turn_stops sought said l (turns.Ends (ends.Secure of v)) on heard k = record { lasting = l; way = on }
-  turn_stops sought said l (turns.Ends (ends.Leads lead)) on heard k = record { lasting = l; way = on }
-  turn_stops sought said l (turns.Ends (ends.Unsigned c)) on heard k = record { lasting = l; way = on }
-  turn_stops sought said l (turns.Ends (ends.LeftOpen of)) on heard k = record { lasting = l; way = on }
-  turn_stops sought said l (turns.Ends (ends.Untold of by name t r)) on heard k =
-      record { zone_is = k.0; ds_are = k.1; sought = sought; name_is = k.2; type_is = k.3; said = said; heard = heard; nothing = k.4 }
-  turn_stops sought said l (turns.Ends (ends.Asks asks)) on heard k = record { sought = sought; heard = subst (IsHeard e asked zone ds sought) k heard }
-  turn_stops sought said l (turns.Ends _) on heard k = absurd k
+  turn_stops : (sought : Asked) (said : StepSeen) (l : Option Lasting) (t : Turn) → IsOnward e asked zone ds (onward_of t) l → IsHeard e asked zone ds sought said
+      → ((r : Option Refusal) → IsNothing said r → sought ≡ asked → IsLast e asked zone ds r) → IsTurnedTo zone ds sought said t → TurnStops e asked zone ds t
+  turn_stops sought said l (turns.Down c below) on heard last k = tt
+  turn_stops sought said l (turns.Ends (ends.Secure of v)) on heard last k = record { lasting = l; way = on }
+  turn_stops sought said l (turns.Ends (ends.Leads lead)) on heard last k = record { lasting = l; way = on }
+  turn_stops sought said l (turns.Ends (ends.Unsigned c)) on heard last k = record { lasting = l; way = on }
+  turn_stops sought said l (turns.Ends (ends.LeftOpen of)) on heard last k = record { lasting = l; way = on }
+  turn_stops sought said l (turns.Ends (ends.Untold of by name t r)) on heard last k =
+      record { zone_is = k.0; ds_are = k.1; sought = sought; name_is = k.2; type_is = k.3; said = said; heard = heard; nothing = k.4; last = last r k.4 }
+  turn_stops sought said l (turns.Ends (ends.Asks asks)) on heard last k = record { sought = sought; heard = subst (IsHeard e asked zone ds sought) k heard }
+  turn_stops sought said l (turns.Ends _) on heard last k = absurd k
 
   -- by the answer to the question
   pub own_onward : (said : StepSeen) (l : Option Lasting) (n : Counts) (t : Turn) → IsOwnStep e zone ds asked said l n → IsTurnedTo zone ds asked said t → IsOnward e asked zone ds (onward_of t) l
   own_onward said l n t step k = ByQuestion said n step (turned_onward zone ds asked said t k)
 
-  pub own_stop : (said : StepSeen) (l : Option Lasting) (n : Counts) (t : Turn) → IsOwnStep e zone ds asked said l n → IsTurnedTo zone ds asked said t → TurnStops e asked zone ds t
-  own_stop said l n t step k = turn_stops asked said l t (own_onward said l n t step k) (OfAnswer l n refl step) k
+  pub own_stop : (said : StepSeen) (l : Option Lasting) (n : Counts) (t : Turn) → is_nothing said ≡ false → IsOwnStep e zone ds asked said l n → IsTurnedTo zone ds asked said t → TurnStops e asked zone ds t
+  own_stop said l n t tells step k =
+      turn_stops asked said l t (own_onward said l n t step k) (OfAnswer l n refl step) (λ r nothing same. absurd (something said r tells nothing)) k
 
-  -- by an answer for DS at a name between
-  module _ (q : Asked) (said now : StepSeen) (l : Option Lasting) (n : Counts) (t : Turn) (between : IsBetween zone asked q) (step : IsNameStep e zone ds q said l n)
+  -- by the answer to the question that tells nothing, where it is the last
+  pub untold_stop : (refusal : Option Refusal) (own : Counts) (t : Turn) → IsAnswerUntold e asked zone ds refusal own → IsLast e asked zone ds refusal → IsTurnUntold zone ds asked refusal t → TurnStops e asked zone ds t
+  untold_stop refusal own (turns.Ends (ends.Untold of by name t r)) k last turn = record {
+    zone_is = turn.0;
+    ds_are = turn.1;
+    sought = asked;
+    name_is = turn.2;
+    type_is = turn.3;
+    said = k.said;
+    heard = OfAnswer k.lasting own refl k.step;
+    nothing = subst (IsNothing k.said) (sym turn.4) k.nothing;
+    last = λ same. subst (IsLast e asked zone ds) (sym turn.4) last;
+  }
+  untold_stop refusal own (turns.Ends _) k last turn = absurd turn
+  untold_stop refusal own (turns.Down c below) k last turn = absurd turn
+
+  -- by an answer for DS at a name between, which is another question
+  not_itself : (q : Asked) → IsBetween e asked zone ds q → q ≡ asked → ⊥
+  not_itself q between same =
+      let itself : is_itself (ds_at asked between.name) between.name ≡ true = ap (λ b. b && true) (names_same between.name between.name refl) in
+      false≢true (sym between.other ∙ ap (λ (x : Asked). is_itself x between.name) (sym same ∙ between.is) ∙ itself)
+
+  module _ (q : Asked) (said now : StepSeen) (l : Option Lasting) (n : Counts) (t : Turn) (between : IsBetween e asked zone ds q) (step : IsNameStep e zone ds q said l n)
       (same : now ≡ said) (cut : now ≡ at_cut said) (turned : IsTurnedTo zone ds q now t) where
     pub name_onward : IsOnward e asked zone ds (onward_of t) l
     name_onward =
-        ByName between.name said n between.below between.above between.other (subst (λ x. IsNameStep e zone ds x said l n) between.is step) (turned_onward zone ds q now t turned ∙ ap (onward zone) cut)
+        ByName between.name said n between.reached.lies.0 between.reached.lies.1 between.other (subst (λ x. IsNameStep e zone ds x said l n) between.is step) (turned_onward zone ds q now t turned ∙ ap (onward zone) cut)
 
     pub name_stop : TurnStops e asked zone ds t
     name_stop =
         let heard : IsHeard e asked zone ds q now = OfName l n between (subst (λ (x : StepSeen). IsNameStep e zone ds q x l n) (sym same) step) (cut ∙ ap at_cut (sym same)) in
-        turn_stops q now l t name_onward heard turned
+        turn_stops q now l t name_onward heard (λ r nothing itself. absurd (not_itself q between itself)) turned

@@ -1,63 +1,59 @@
--- Which judgements a walk makes of a zone's messages, and how often was verified and hashed for them.
-use Rattle.std.specs.Prelude.{◌≡◌, ℕ, true, false, ◌&&◌, ◌==◌, List, drop, Option, None, Result, Ok, Err}
+-- Which judgements a walk makes of a zone's messages, how often was verified and hashed for them, and what tells nothing.
+use Rattle.std.specs.Prelude.{◌≡◌, ◌⊎◌, ℕ, Bool, true, false, List, drop, Option, Some, Result, Ok, Err}
 use Rattle.definitions.specs.Dnskey.{Ds}
-use Rattle.definitions.specs.Name.{Name, same, at_or_above, strictly_above}
+use Rattle.definitions.specs.Name.{Name}
 use Rattle.messages.specs.Message.{Asked}
 use Rattle.answer_judge_keys.specs.declared.verdict.Lasting.{Lasting}
 use Rattle.answer_judge_keys.specs.declared.verdict.Refusal.{Refusal}
+use Rattle.answer_judge_keys.specs.declared.verdict.Refusal.TheVariants as r
 use Rattle.resolution_evidence.specs.Counted.{plus}
 use Rattle.resolution_evidence.specs.Counts.{Counts}
 use Rattle.resolution_evidence.specs.Given.{Given}
-use Rattle.resolution_evidence.specs.Told.{StepSeen, TellsNoCut, TellsNothing, at_cut}
+use Rattle.resolution_evidence.specs.Told.{StepSeen, TellsNoCut, TellsNoneBelow, TellsNothing, at_cut}
 use Rattle.resolution_evidence.specs.Walking.{IsNameStep, IsOwnStep, ds_at}
-use Rattle.resolution_walk.specs.Wanted.{IsBetween, is_lacking}
+use Rattle.resolution_walk.specs.Between.{AreAllUncut, AreUncut, AreUncutBelow, IsAnswerUntold, IsBetween, IsNothing, IsToldFor, LiesBetween, is_itself}
+use Rattle.resolution_walk.specs.Wanted.{is_lacking}
 use Rattle.resolution_walk.specs.declared.ending.Taken.{Taken}
+use Rattle.resolution_walk.specs.declared.ending.Uncut.{Uncut}
+use Rattle.resolution_walk.specs.declared.ending.Uncut.TheVariants as uncut
 
 -- ---- counts, those before and those after
 
--- of a zone's answer for DS, if it is there
-pub data IsJudgedFor (e : Given) (zone : Name) (ds : List Ds) (sought : Asked) (before after : Counts) : Type 0 where
-  IsLacking : is_lacking e zone sought ≡ true → after ≡ before → IsJudgedFor e zone ds sought before after
-  IsThere : (said : StepSeen) (lasting : Option Lasting) (counts : Counts) → IsNameStep e zone ds sought said lasting counts → after ≡ plus before counts → IsJudgedFor e zone ds sought before after
+-- Of the answers for DS at the names between, the topmost first: those that tell of no delegation; and of the next one, whatever it
+-- tells.
+pub data AreJudgedBetween (e : Given) (asked : Asked) (zone : Name) (ds : List Ds) (before after : Counts) : Type 0 where
+  UpTo : {n : Name} → AreUncut e asked zone ds before n after → AreJudgedBetween e asked zone ds before after
+  AndNext : {n : Name} {between : Counts} → LiesBetween zone asked n → AreUncut e asked zone ds before (drop 1 n) between
+      → (said : StepSeen) → IsToldFor e zone ds (ds_at asked n) said between after → AreJudgedBetween e asked zone ds before after
 
--- at a name, unless DS there is the question itself
-pub data IsJudgedAt (e : Given) (asked : Asked) (zone : Name) (ds : List Ds) (n : Name) (before after : Counts) : Type 0 where
-  Itself : (same n asked.name && (asked.rtype == 43)) ≡ true → after ≡ before → IsJudgedAt e asked zone ds n before after
-  Other : IsJudgedFor e zone ds (ds_at asked n) before after → IsJudgedAt e asked zone ds n before after
-
--- at each name between a zone and a question's name, from the topmost one down to a name
-pub data AreJudgedDown (e : Given) (asked : Asked) (zone : Name) (ds : List Ds) (before : Counts) : Name → Counts → Type 0 where
-  Above : {n : Name} {after : Counts} → strictly_above zone n ≡ false → after ≡ before → AreJudgedDown e asked zone ds before n after
-  Next : {n : Name} {between after : Counts} → strictly_above zone n ≡ true → at_or_above n asked.name ≡ true → AreJudgedDown e asked zone ds before (drop 1 n) between
-      → IsJudgedAt e asked zone ds n between after → AreJudgedDown e asked zone ds before n after
-
-pub record IsJudgedBelow (e : Given) (asked : Asked) (zone : Name) (ds : List Ds) (before after : Counts) : Type 0 where
-  pub name : Name
-  pub down : AreJudgedDown e asked zone ds before name after
-
--- Of a zone's answer to a question, if its messages are there; or of that and behind it at the names between.
+-- Of a zone's answer to a question, if its messages are there; or of that, where it tells nothing, and behind it at the names between.
 pub data AreJudged (e : Given) (asked : Asked) (zone : Name) (ds : List Ds) (before after : Counts) : Type 0 where
   NotJudged : is_lacking e zone asked ≡ true → after ≡ before → AreJudged e asked zone ds before after
   ByAnswer : (said : StepSeen) (lasting : Option Lasting) (counts : Counts) → IsOwnStep e zone ds asked said lasting counts → after ≡ plus before counts → AreJudged e asked zone ds before after
-  Between : (refusal : Option Refusal) (lasting : Option Lasting) (counts : Counts) → IsOwnStep e zone ds asked (TellsNothing refusal) lasting counts
-      → IsJudgedBelow e asked zone ds (plus before counts) after → AreJudged e asked zone ds before after
+  Between : (refusal : Option Refusal) (counts : Counts) → IsAnswerUntold e asked zone ds refusal counts → AreJudgedBetween e asked zone ds (plus before counts) after
+      → AreJudged e asked zone ds before after
 
 -- ---- what tells nothing
 
 -- What a zone tells on the way: by its answer to the question, or of a delegation by its answer for DS at a name between.
 pub data IsHeard (e : Given) (asked : Asked) (zone : Name) (ds : List Ds) (sought : Asked) (said : StepSeen) : Type 0 where
   OfAnswer : (lasting : Option Lasting) (counts : Counts) → sought ≡ asked → IsOwnStep e zone ds asked said lasting counts → IsHeard e asked zone ds sought said
-  OfName : (lasting : Option Lasting) (counts : Counts) → IsBetween zone asked sought → IsNameStep e zone ds sought said lasting counts
+  OfName : (lasting : Option Lasting) (counts : Counts) → IsBetween e asked zone ds sought → IsNameStep e zone ds sought said lasting counts
       → said ≡ at_cut said → IsHeard e asked zone ds sought said
 
--- it is nothing of the way, and this is why it is refused, if it is
-abbrev pub IsNothing : StepSeen → Option Refusal → Type 0
-IsNothing (TellsNothing r) refusal = refusal ≡ r
-IsNothing TellsNoCut refusal = refusal ≡ None
-IsNothing _ refusal = ⊥
+-- the zone's keys are refused, by which each of its messages is judged
+abbrev pub are_keys_refused : Option Refusal → Bool
+are_keys_refused (Some r.BadDnskeyMessage) = true
+are_keys_refused (Some r.EqualTags) = true
+are_keys_refused (Some r.NoTrustedKey) = true
+are_keys_refused _ = false
+
+-- The answer to the question is the last one: no answer of the zone tells anything, or no delegation is at any name between.
+abbrev pub IsLast : Given → Asked → Name → List Ds → Option Refusal → Type 0
+IsLast e asked zone ds refusal = (are_keys_refused refusal ≡ true) ⊎ AreAllUncut e asked zone ds
 
 -- An end where an answer of a zone tells nothing: of this zone, judged by these DS records; to a question for this name and type; and
--- why it is refused, if it is.
+-- why it is refused, if it is. That is the question itself only behind the names between.
 pub record IsUntold (e : Given) (asked : Asked) (zone : Name) (ds : List Ds) (of : Name) (by : List Ds) (name : Name) (t : ℕ) (refusal : Option Refusal) : Type 0 where
   pub zone_is : of ≡ zone
   pub ds_are : by ≡ ds
@@ -67,6 +63,7 @@ pub record IsUntold (e : Given) (asked : Asked) (zone : Name) (ds : List Ds) (of
   pub said : StepSeen
   pub heard : IsHeard e asked zone ds sought said
   pub nothing : IsNothing said refusal
+  pub last : sought ≡ asked → IsLast e asked zone ds refusal
 
 -- what a zone tells by one of these answers
 pub record IsHeardThere (e : Given) (asked : Asked) (zone : Name) (ds : List Ds) (said : StepSeen) : Type 0 where
@@ -75,12 +72,51 @@ pub record IsHeardThere (e : Given) (asked : Asked) (zone : Name) (ds : List Ds)
 
 -- ---- as they are kept
 
--- counts behind a turn, or where there is none
-abbrev pub counts_in : Result Taken Counts → Counts
-counts_in (Ok t) = t.counts
-counts_in (Err counts) = counts
+abbrev pub counts_of : Uncut → Counts
+counts_of (uncut.SoFar counts) = counts
+counts_of (uncut.AtAll counts) = counts
 
--- an answer that tells nothing, and why it is refused, if it is
-pub record IsAnswerUntold (e : Given) (asked : Asked) (zone : Name) (ds : List Ds) (refusal : Option Refusal) (counts : Counts) : Type 0 where
-  pub lasting : Option Lasting
-  pub step : IsOwnStep e zone ds asked (TellsNothing refusal) lasting counts
+-- counts behind a turn, or where there is none
+abbrev pub counts_in : Result Taken Uncut → Counts
+counts_in (Ok t) = t.counts
+counts_in (Err u) = counts_of u
+
+-- no delegation is at the names between down to this one, or at any
+abbrev pub IsUncut : Given → Asked → Name → List Ds → Counts → Name → Uncut → Type 0
+IsUncut e asked zone ds before n (uncut.SoFar after) = AreUncut e asked zone ds before n after
+IsUncut e asked zone ds before n (uncut.AtAll after) = AreUncutBelow e asked zone ds before after
+
+-- of a zone's answer for DS, if it is there; and what it tells, where there is no turn
+abbrev pub IsJudgedFor : Given → Name → List Ds → Asked → Counts → Result Taken Uncut → Type 0
+IsJudgedFor e zone ds sought before (Ok t) = (t.counts ≡ before) ⊎ ((said : StepSeen) × IsToldFor e zone ds sought said before t.counts)
+IsJudgedFor e zone ds sought before (Err (uncut.SoFar after)) = IsToldFor e zone ds sought TellsNoCut before after
+IsJudgedFor e zone ds sought before (Err (uncut.AtAll after)) = IsToldFor e zone ds sought TellsNoneBelow before after
+
+-- at a name, unless DS there is the question itself
+abbrev pub IsJudgedAt : Given → Asked → Name → List Ds → Name → Counts → Result Taken Uncut → Type 0
+IsJudgedAt e asked zone ds n before r = ((is_itself asked n ≡ true) × (r ≡ Err (uncut.SoFar before))) ⊎ IsJudgedFor e zone ds (ds_at asked n) before r
+
+-- whether it is nothing of the way; and whether it is that no delegation is there
+abbrev pub is_nothing : StepSeen → Bool
+is_nothing (TellsNothing r) = true
+is_nothing TellsNoCut = true
+is_nothing TellsNoneBelow = true
+is_nothing _ = false
+
+abbrev pub is_uncut : StepSeen → Bool
+is_uncut TellsNoCut = true
+is_uncut TellsNoneBelow = true
+is_uncut _ = false
+
+-- what is told, if it is something of the way
+abbrev pub IsToldWay : StepSeen → StepSeen → Type 0
+IsToldWay said s = (s ≡ said) × (is_nothing s ≡ false)
+
+-- what is told, if it is of a delegation
+abbrev pub IsToldCut : StepSeen → StepSeen → Type 0
+IsToldCut said s = (s ≡ said) × (is_uncut s ≡ false)
+
+-- that no delegation is there, with these counts
+abbrev pub IsUncutTold : StepSeen → Counts → Uncut → Type 0
+IsUncutTold said counts (uncut.SoFar n) = (n ≡ counts) × (said ≡ TellsNoCut)
+IsUncutTold said counts (uncut.AtAll n) = (n ≡ counts) × (said ≡ TellsNoneBelow)

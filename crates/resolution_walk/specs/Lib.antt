@@ -1,4 +1,5 @@
 pub mod Ended
+pub mod Between
 pub mod Wanted
 pub mod Judged
 pub mod Stopping

@@ -15,7 +15,8 @@ use Rattle.resolution_evidence.specs.Seen.{lead_seen}
 use Rattle.resolution_evidence.specs.Told.{StepSeen, TellsVerdict, TellsLead, TellsDown, TellsUnsigned, TellsOpen, AsksFor}
 use Rattle.resolution_evidence.specs.Walking.{GoesDown, EndsIn, IsOnward, Tells, Follows, is_asked_of, renamed}
 use Rattle.resolution_walk.specs.Ended.{leads_to, said_of}
-use Rattle.resolution_walk.specs.Judged.{AreJudged, IsHeardThere, IsNothing, IsUntold}
+use Rattle.resolution_walk.specs.Between.{IsNothing}
+use Rattle.resolution_walk.specs.Judged.{AreJudged, IsHeardThere, IsUntold}
 use Rattle.resolution_walk.specs.Wanted.{AreWantedOf, lacking}
 use Rattle.resolution_walk.specs.declared.ending.End.{End}
 use Rattle.resolution_walk.specs.declared.ending.Ending.{Ending}
@@ -41,7 +42,7 @@ EndsAt e asked zone ds (ends.Unsigned c) = IsSaidIn e asked zone ds (Unsigned c)
 EndsAt e asked zone ds (ends.LeftOpen of) = IsSaidIn e asked zone ds (LeftOpen of)
 EndsAt e asked zone ds (ends.Untold of by name t refusal) = IsUntold e asked zone ds of by.items name t refusal
 EndsAt e asked zone ds (ends.Asks asks) = IsHeardThere e asked zone ds (AsksFor asks.items)
-EndsAt e asked zone ds (ends.Wants ws) = AreWantedOf e asked zone ws.items
+EndsAt e asked zone ds (ends.Wants ws) = AreWantedOf e asked zone ds ws.items
 EndsAt e asked zone ds _ = ⊥
 
 -- A way stops in a zone that evidence leads down to, with so many delegations left to go down; or where it leads down and none is

@@ -1,9 +1,10 @@
 -- Which messages a walk wants of a zone, and what a zone is asked.
-use Rattle.std.specs.Prelude.{◌≡◌, ◌⊎◌, ℕ, ◌<◌, length, Bool, true, false, ◌&&◌, ◌||◌, ◌==◌, List, [], ◌∷◌, ◌++◌, drop, is_none}
-use Rattle.definitions.specs.Name.{Name, same, at_or_above, strictly_above}
+use Rattle.std.specs.Prelude.{◌≡◌, ◌⊎◌, ℕ, ◌<◌, length, Bool, true, false, ◌||◌, List, [], ◌∷◌, ◌++◌, drop, is_none}
+use Rattle.definitions.specs.Dnskey.{Ds}
+use Rattle.definitions.specs.Name.{Name, at_or_above}
 use Rattle.messages.specs.Message.{Asked}
 use Rattle.resolution_evidence.specs.Given.{Given, message_of}
-use Rattle.resolution_evidence.specs.Walking.{ds_at}
+use Rattle.resolution_walk.specs.Between.{IsBetween}
 use Rattle.resolution_walk.specs.declared.ending.Wanted.{Wanted}
 
 -- no message of the zone answers the question for a name and a type
@@ -30,21 +31,13 @@ pub record IsParent (n parent : Name) : Type 0 where
   pub shorter : length parent < length n
   pub above : (q : Name) → at_or_above n q ≡ true → at_or_above parent q ≡ true
 
--- a question for DS at a name between a zone and a question's name, which is another question
-pub record IsBetween (zone : Name) (asked sought : Asked) : Type 0 where
-  pub name : Name
-  pub is : sought ≡ ds_at asked name
-  pub below : strictly_above zone name ≡ true
-  pub above : at_or_above name asked.name ≡ true
-  pub other : (same name asked.name && (asked.rtype == 43)) ≡ false
-
 -- what a zone is asked on the way: the question, or DS at a name between
-abbrev pub IsSought : Name → Asked → Asked → Type 0
-IsSought zone asked sought = (sought ≡ asked) ⊎ IsBetween zone asked sought
+abbrev pub IsSought : Given → Asked → Name → List Ds → Asked → Type 0
+IsSought e asked zone ds sought = (sought ≡ asked) ⊎ IsBetween e asked zone ds sought
 
 -- Exactly these messages of a zone are wanted, one at least.
-pub record AreWantedOf (e : Given) (asked : Asked) (zone : Name) (ws : List Wanted) : Type 0 where
+pub record AreWantedOf (e : Given) (asked : Asked) (zone : Name) (ds : List Ds) (ws : List Wanted) : Type 0 where
   pub sought : Asked
-  pub is_sought : IsSought zone asked sought
+  pub is_sought : IsSought e asked zone ds sought
   pub some : is_lacking e zone sought ≡ true
   pub are : ws ≡ lacking e zone sought

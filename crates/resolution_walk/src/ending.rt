@@ -1,4 +1,7 @@
 //! Where a walk ends.
+ghost use Rattle.std.specs.Prelude.{◌≡◌};
+ghost use Rattle.resolution_walk.specs.Judged.{counts_of};
+
 use denial_data::Ds;
 use messages::names::Name;
 use names_rdata::rtype::Rtype;
@@ -59,6 +62,26 @@ pub(crate) enum Turn {
         ds: Vec<Ds<Vec<u8>>>,
     },
     Ends(Ending),
+}
+
+/// No delegation is at the names between a zone and a question's name, as far as they were looked
+/// at, with how often was verified and hashed so far.
+#[derive(Clone, Copy, Debug, PartialEq, Eq)]
+pub(crate) enum Uncut {
+    /// One may be at a name further down.
+    SoFar(Counts),
+    /// None is further down, since a name does not exist.
+    AtAll(Counts),
+}
+
+impl Uncut {
+    pub(crate) fn counts(self) -> Counts
+        ensures { result ≡ counts_of self }
+    {
+        match self {
+            Uncut::SoFar(counts) | Uncut::AtAll(counts) => counts,
+        }
+    }
 }
 
 /// Where a zone's messages lead, how long that lasts, and how often was verified and hashed so far.

@@ -1,18 +1,18 @@
 //! DS at the names between a zone and a question's name, one by one.
-ghost use Rattle.std.specs.Prelude.{◌≡◌, ◌&&◌, ◌==◌, [], IfErr, IfOk, IfSome, MatchOption};
-ghost use Rattle.std.specs.Prelude.{MatchResult, false, true};
-ghost use Rattle.definitions.specs.Name.{at_or_above, same, strictly_above};
+ghost use Rattle.std.specs.Prelude.{◌≡◌, [], IfErr, IfOk, MatchOption, MatchResult, false, true};
+ghost use Rattle.definitions.specs.Name.{at_or_above};
 ghost use Rattle.messages.specs.Questions.{asked_of};
-ghost use Rattle.resolution_evidence.specs.Told.{at_cut, told};
+ghost use Rattle.resolution_evidence.specs.Told.{told};
 ghost use Rattle.resolution_evidence.specs.Given.{IsOf};
 ghost use Rattle.resolution_evidence.specs.Walking.{ds_at};
+ghost use Rattle.resolution_walk.specs.Between.{IsBetween, IsReached, IsUnanswered, is_itself};
 ghost use Rattle.resolution_walk.specs.Ended.{IsTurn};
-ghost use Rattle.resolution_walk.specs.Judged.{AreJudgedDown, IsJudgedAt, IsJudgedBelow};
-ghost use Rattle.resolution_walk.specs.Judged.{IsJudgedFor, counts_in};
+ghost use Rattle.resolution_walk.specs.Judged.{AreJudgedBetween, IsJudgedAt, IsJudgedFor};
+ghost use Rattle.resolution_walk.specs.Judged.{IsToldCut, IsUncut, IsUncutTold, counts_in};
 ghost use Rattle.resolution_walk.specs.Stopping.{IsStop, IsTurnedTo, WantsLacking};
-ghost use Rattle.resolution_walk.specs.Wanted.{IsBetween, IsParent};
+ghost use Rattle.resolution_walk.specs.Wanted.{IsParent};
 
-use crate::ending::Taken;
+use crate::ending::{Taken, Uncut};
 use crate::evidence::Evidence;
 use crate::place::{case_of, name_step, taken, wanting};
 use denial_data::Ds;
@@ -23,7 +23,8 @@ use resolution_evidence::{Case, Counts, Lasting, Step};
 use std::alloc::{AllocError, Global};
 
 /// Where answers for DS lead, at the names below the zone down to a name, the topmost first; the
-/// counts so far alone where no delegation is at any of them.
+/// counts so far alone where no delegation is at any of them. The search ends at a name that does
+/// not exist, since no delegation is below it.
 ///
 /// A server that holds parent and child answers from the child and sends no referral: so these
 /// questions alone show a delegation, and that an unsigned child is insecure.
@@ -35,29 +36,31 @@ pub(crate) fn at_names(
     question: &Question,
     name: &Name<Vec<u8>>,
     counts: Counts,
-) -> Result<Result<Taken, Counts>, AllocError>
-    requires { at_or_above name.now question.now.name ≡ true }
+) -> Result<Result<Taken, Uncut>, AllocError>
+    requires above { at_or_above name.now question.now.name ≡ true }
+    requires untold { IsUnanswered evidence.now (asked_of question.now) zone.now ds.now }
     ensures leads { let asked = asked_of question.now in
         IfOk result (λ r. IfOk r (IsTurn evidence.now asked zone.now ds.now)) }
     ensures stops { let asked = asked_of question.now in
         IfOk result (λ r. IfOk r (IsStop evidence.now asked zone.now ds.now)) }
-    ensures counted { let below = IsJudgedBelow evidence.now (asked_of question.now) in
-        IfOk result (λ r. below zone.now ds.now counts (counts_in r)) }
-    ensures down { let down = AreJudgedDown evidence.now (asked_of question.now) in
-        IfOk result (λ r. IfErr r (down zone.now ds.now counts name.now)) }
+    ensures counted { let judged = AreJudgedBetween evidence.now (asked_of question.now) in
+        IfOk result (λ r. judged zone.now ds.now counts (counts_in r)) }
+    ensures uncut { let uncut = IsUncut evidence.now (asked_of question.now) in
+        IfOk result (λ r. IfErr r (uncut zone.now ds.now counts name.now)) }
 {
     if !is_above(zone, name) {
-        return Ok(Err(counts));
+        return Ok(Err(Uncut::SoFar(counts)));
     }
     let above = parent_of(alloc, name)?;
     let parent = match above {
         Some(parent) => parent,
-        None => return Ok(Err(counts)),
+        None => return Ok(Err(Uncut::SoFar(counts))),
     };
     let way = at_names(alloc, evidence, zone, ds, question, &parent, counts)?;
     match way {
         Ok(taken) => Ok(Ok(taken)),
-        Err(sums) => at_name(alloc, evidence, zone, ds, question, name, sums),
+        Err(Uncut::AtAll(sums)) => Ok(Err(Uncut::AtAll(sums))),
+        Err(Uncut::SoFar(sums)) => at_name(alloc, evidence, zone, ds, question, name, sums),
     }
 }
 
@@ -88,18 +91,18 @@ fn at_name(
     question: &Question,
     name: &Name<Vec<u8>>,
     counts: Counts,
-) -> Result<Result<Taken, Counts>, AllocError>
-    requires above { at_or_above name.now question.now.name ≡ true }
-    requires below { strictly_above zone.now name.now ≡ true }
+) -> Result<Result<Taken, Uncut>, AllocError>
+    requires { let asked = asked_of question.now in
+        IsReached evidence.now asked zone.now ds.now name.now }
     ensures leads { let asked = asked_of question.now in
         IfOk result (λ r. IfOk r (IsTurn evidence.now asked zone.now ds.now)) }
     ensures stops { let asked = asked_of question.now in
         IfOk result (λ r. IfOk r (IsStop evidence.now asked zone.now ds.now)) }
-    ensures counted { let at = IsJudgedAt evidence.now (asked_of question.now) zone.now in
-        IfOk result (λ r. at ds.now name.now counts (counts_in r)) }
+    ensures judged { let asked = asked_of question.now in
+        IfOk result (IsJudgedAt evidence.now asked zone.now ds.now name.now counts) }
 {
     if is_itself(question, name) {
-        Ok(Err(counts))
+        Ok(Err(Uncut::SoFar(counts)))
     } else {
         at_other(alloc, evidence, zone, ds, question, name, counts)
     }
@@ -107,8 +110,7 @@ fn at_name(
 
 /// Whether a question is one for DS at a name.
 fn is_itself(question: &Question, name: &Name<Vec<u8>>) -> bool
-    ensures { let asked = asked_of question.now in
-        result ≡ (same name.now asked.name && (asked.rtype == 43)) }
+    ensures { result ≡ is_itself (asked_of question.now) name.now }
 {
     name.name_eq(&question.name) && question.rtype == Rtype::DS
 }
@@ -122,17 +124,16 @@ fn at_other(
     question: &Question,
     name: &Name<Vec<u8>>,
     counts: Counts,
-) -> Result<Result<Taken, Counts>, AllocError>
-    requires above { at_or_above name.now question.now.name ≡ true }
-    requires below { strictly_above zone.now name.now ≡ true }
-    requires other { let asked = asked_of question.now in
-        (same name.now asked.name && (asked.rtype == 43)) ≡ false }
+) -> Result<Result<Taken, Uncut>, AllocError>
+    requires reached { let asked = asked_of question.now in
+        IsReached evidence.now asked zone.now ds.now name.now }
+    requires other { is_itself (asked_of question.now) name.now ≡ false }
     ensures leads { let asked = asked_of question.now in
         IfOk result (λ r. IfOk r (IsTurn evidence.now asked zone.now ds.now)) }
     ensures stops { let asked = asked_of question.now in
         IfOk result (λ r. IfOk r (IsStop evidence.now asked zone.now ds.now)) }
-    ensures counted { let sought = ds_at (asked_of question.now) name.now in
-        IfOk result (λ r. IsJudgedFor evidence.now zone.now ds.now sought counts (counts_in r)) }
+    ensures judged { let sought = ds_at (asked_of question.now) name.now in
+        IfOk result (IsJudgedFor evidence.now zone.now ds.now sought counts) }
 {
     let asked = ds_question(alloc, question, name)?;
     at_asked(alloc, evidence, zone, ds, question, &asked, counts)
@@ -164,14 +165,15 @@ fn at_asked(
     question: &Question,
     asked: &Question,
     counts: Counts,
-) -> Result<Result<Taken, Counts>, AllocError>
-    requires { IsBetween zone.now (asked_of question.now) (asked_of asked.now) }
+) -> Result<Result<Taken, Uncut>, AllocError>
+    requires { let asks = asked_of question.now in let sought = asked_of asked.now in
+        IsBetween evidence.now asks zone.now ds.now sought }
     ensures leads { let asked = asked_of question.now in
         IfOk result (λ r. IfOk r (IsTurn evidence.now asked zone.now ds.now)) }
     ensures stops { let asked = asked_of question.now in
         IfOk result (λ r. IfOk r (IsStop evidence.now asked zone.now ds.now)) }
-    ensures counted { let sought = asked_of asked.now in
-        IfOk result (λ r. IsJudgedFor evidence.now zone.now ds.now sought counts (counts_in r)) }
+    ensures judged { let sought = asked_of asked.now in
+        IfOk result (IsJudgedFor evidence.now zone.now ds.now sought counts) }
 {
     match case_of(evidence, zone, ds, asked) {
         Some(case) => by_cut(alloc, evidence, zone, ds, question, asked, &case, counts),
@@ -186,7 +188,7 @@ fn wanting_there(
     zone: &Name<Vec<u8>>,
     asked: &Question,
     counts: Counts,
-) -> Result<Result<Taken, Counts>, AllocError>
+) -> Result<Result<Taken, Uncut>, AllocError>
     ensures wants { let wants = WantsLacking evidence.now zone.now (asked_of asked.now) in
         IfOk result (λ r. MatchResult r (λ t. wants t.turn) (λ n. ⊥)) }
     ensures counted { IfOk result (λ r. counts_in r ≡ counts) }
@@ -206,33 +208,35 @@ fn by_cut(
     asked: &Question,
     case: &Case,
     counts: Counts,
-) -> Result<Result<Taken, Counts>, AllocError>
-    requires between { IsBetween zone.now (asked_of question.now) (asked_of asked.now) }
+) -> Result<Result<Taken, Uncut>, AllocError>
+    requires between { let asks = asked_of question.now in let sought = asked_of asked.now in
+        IsBetween evidence.now asks zone.now ds.now sought }
     requires of { IsOf evidence.now zone.now ds.now (asked_of asked.now) case.now }
     ensures leads { let asked = asked_of question.now in
         IfOk result (λ r. IfOk r (IsTurn evidence.now asked zone.now ds.now)) }
     ensures stops { let asked = asked_of question.now in
         IfOk result (λ r. IfOk r (IsStop evidence.now asked zone.now ds.now)) }
-    ensures counted { let sought = asked_of asked.now in
-        IfOk result (λ r. IsJudgedFor evidence.now zone.now ds.now sought counts (counts_in r)) }
+    ensures judged { let sought = asked_of asked.now in
+        IfOk result (IsJudgedFor evidence.now zone.now ds.now sought counts) }
 {
     let telling = name_step(alloc, evidence, case)?;
     let lasting = telling.lasting;
     let sums = counts.plus(telling.counts);
-    match at_cut(telling.step) {
-        Some(step) => taken_there(alloc, zone, ds, asked, step, lasting, sums),
-        None => Ok(Err(sums)),
+    match told_cut(telling.step, sums) {
+        Ok(step) => taken_there(alloc, zone, ds, asked, step, lasting, sums),
+        Err(uncut) => Ok(Err(uncut)),
     }
 }
 
-/// What is told of a delegation at the name; none where there is none.
-fn at_cut(step: Step) -> Option<Step>
-    ensures kept { IfSome result (λ s. told s ≡ told step) }
-    ensures cut { IfSome result (λ s. told s ≡ at_cut (told step)) }
+/// What is told of a delegation at the name; or that none is there, with the counts so far.
+fn told_cut(step: Step, counts: Counts) -> Result<Step, Uncut>
+    ensures { let said = told step in
+        MatchResult result (λ s. IsToldCut said (told s)) (IsUncutTold said counts) }
 {
     match step {
-        Step::Answer(_) | Step::Leads(_) | Step::NoCut => None,
-        step => Some(step),
+        Step::NoCut => Err(Uncut::SoFar(counts)),
+        Step::NoneBelow => Err(Uncut::AtAll(counts)),
+        step => Ok(step),
     }
 }
 
@@ -245,7 +249,7 @@ fn taken_there(
     step: Step,
     lasting: Option<Lasting>,
     counts: Counts,
-) -> Result<Result<Taken, Counts>, AllocError>
+) -> Result<Result<Taken, Uncut>, AllocError>
     ensures turns { let to = IsTurnedTo zone.now ds.now (asked_of asked.now) in
         IfOk result (λ r. MatchResult r (λ t. to (told step) t.turn) (λ n. ⊥)) }
     ensures lasts { IfOk result (λ r. IfOk r (λ t. t.lasting ≡ lasting)) }

@@ -1,13 +1,15 @@
 //! Where the messages of a zone lead.
-ghost use Rattle.std.specs.Prelude.{◌≡◌, IfOk, MatchResult};
+ghost use Rattle.std.specs.Prelude.{◌≡◌, IfErr, IfOk, MatchResult};
 ghost use Rattle.messages.specs.Questions.{asked_of};
 ghost use Rattle.resolution_evidence.specs.Given.{IsOf};
-ghost use Rattle.resolution_evidence.specs.Told.{TellsNothing, told};
+ghost use Rattle.resolution_evidence.specs.Told.{told};
+ghost use Rattle.resolution_walk.specs.Between.{IsAnswerUntold, IsNothing, IsUnanswered};
 ghost use Rattle.resolution_walk.specs.Ended.{IsTurn};
-ghost use Rattle.resolution_walk.specs.Judged.{IsAnswerUntold, IsJudgedBelow, counts_in};
+ghost use Rattle.resolution_walk.specs.Judged.{AreJudgedBetween, IsLast, IsToldWay};
+ghost use Rattle.resolution_walk.specs.Judged.{are_keys_refused, counts_in};
 ghost use Rattle.resolution_walk.specs.Stopping.{IsCounted, IsStop, IsTurnUntold};
 
-use crate::ending::Taken;
+use crate::ending::{Taken, Uncut};
 use crate::evidence::Evidence;
 use crate::names_between::at_names;
 use crate::place::{case_of, own_step, taken, untold, wanting};
@@ -68,12 +70,14 @@ fn by_answer(
     }
 }
 
-/// What is told, or why nothing is.
+/// What is told of the way, or why nothing is.
 fn told_way(step: Step) -> Result<Step, Option<Refusal>>
-    ensures { MatchResult result (λ s. told s ≡ told step) (λ r. told step ≡ TellsNothing r) }
+    ensures { let said = told step in
+        MatchResult result (λ s. IsToldWay said (told s)) (IsNothing said) }
 {
     match step {
         Step::Untold(refusal) => Err(refusal),
+        Step::NoCut | Step::NoneBelow => Err(None),
         step => Ok(step),
     }
 }
@@ -102,7 +106,7 @@ fn between(
     let way = down_between(alloc, evidence, zone, ds, question, &refusal, sums)?;
     match way {
         Ok(taken) => Ok(taken),
-        Err(counts) => untold_there(alloc, zone, ds, question, refusal, counts),
+        Err(uncut) => untold_there(alloc, zone, ds, question, refusal, uncut.counts()),
     }
 }
 
@@ -137,16 +141,19 @@ fn down_between(
     question: &Question,
     refusal: &Option<Refusal>,
     counts: Counts,
-) -> Result<Result<Taken, Counts>, AllocError>
+) -> Result<Result<Taken, Uncut>, AllocError>
+    requires { IsUnanswered evidence.now (asked_of question.now) zone.now ds.now }
     ensures leads { let asked = asked_of question.now in
         IfOk result (λ r. IfOk r (IsTurn evidence.now asked zone.now ds.now)) }
     ensures stops { let asked = asked_of question.now in
         IfOk result (λ r. IfOk r (IsStop evidence.now asked zone.now ds.now)) }
-    ensures counted { let below = IsJudgedBelow evidence.now (asked_of question.now) in
-        IfOk result (λ r. below zone.now ds.now counts (counts_in r)) }
+    ensures counted { let judged = AreJudgedBetween evidence.now (asked_of question.now) in
+        IfOk result (λ r. judged zone.now ds.now counts (counts_in r)) }
+    ensures last { let last = IsLast evidence.now (asked_of question.now) zone.now ds.now in
+        IfOk result (λ r. IfErr r (λ u. last refusal.now)) }
 {
     if are_keys_refused(refusal) {
-        Ok(Err(counts))
+        Ok(Err(Uncut::SoFar(counts)))
     } else {
         at_names(alloc, evidence, zone, ds, question, &question.name, counts)
     }
@@ -154,7 +161,9 @@ fn down_between(
 
 /// Whether a message was refused for the zone's keys, which each of the zone's messages is judged
 /// by.
-fn are_keys_refused(refusal: &Option<Refusal>) -> bool {
+fn are_keys_refused(refusal: &Option<Refusal>) -> bool
+    ensures { result ≡ are_keys_refused refusal.now }
+{
     match refusal {
         Some(Refusal::BadDnskeyMessage | Refusal::EqualTags | Refusal::NoTrustedKey) => true,
         _ => false,

@@ -38,11 +38,13 @@ pub struct Limits {
 /// wanted.
 ///
 /// From the anchor on, a zone's own answer leads down by the DS records of a referral, or where it
-/// tells nothing of the way, its answers for DS at the names between do, one by one. Each zone is
-/// judged by the DS set that the zone above has for it, and each name from the anchor on again. The
-/// messages that are wanted are exactly those that lack of the zone that the evidence leads down
-/// to: of its keys and its answer. For one name a message is judged once, so that the judgements
-/// grow with the messages and not with their square.
+/// tells nothing of the way, its answers for DS at the names between do, one by one, down to one
+/// that does not exist. An answer to the question that tells nothing is the end only where no
+/// delegation is at any of these, or the zone's keys are refused. Each zone is judged by the DS set
+/// that the zone above has for it, and each name from the anchor on again. The messages that are
+/// wanted are exactly those that lack of the zone that the evidence leads down to: of its keys and
+/// its answer. For one name a message is judged once, so that the judgements grow with the messages
+/// and not with their square.
 ///
 /// A limit is where a walk stops that goes on: at one more delegation for a name, one more alias,
 /// or where a message is wanted beside as many as are allowed.

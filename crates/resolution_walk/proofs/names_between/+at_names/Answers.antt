@@ -2,11 +2,12 @@ use Rattle.std.proofs.Common.{Option, Result, subst, sym, ◌∙◌}
 use Rattle.std.specs.Prelude.{◌≡◌, [], IfErr, MatchOption}
 use Rattle.definitions.specs.Name.{Name}
 use Rattle.messages.specs.Questions.{asked_of}
-use Rattle.resolution_evidence.specs.Counts.{Counts}
-use Rattle.resolution_walk.specs.Judged.{AreJudgedDown, IsJudgedBelow, counts_in}
+use Rattle.resolution_walk.specs.Between.{AreUncut, AreUncutBelow}
+use Rattle.resolution_walk.specs.Judged.{AreJudgedBetween, IsUncut, counts_in}
 use Rattle.resolution_walk.specs.Wanted.{IsParent}
 use Rattle.resolution_walk.specs.declared.ending.Taken.{Taken}
-use Rattle.resolution_walk.proofs.Stopping.{below_in, below_of, down_in, none_at_root, none_down}
+use Rattle.resolution_walk.specs.declared.ending.Uncut.{Uncut}
+use Rattle.resolution_walk.proofs.Stopping.{judged_down, judged_in, none_at_root, none_down, reached, uncut_counted, uncut_in}
 use Rattle.resolution_walk.proofs.names_between.+at_names.Goals as goal
 
 pub returns-then-not-is_above : goal.returns-then-not-is_above
@@ -17,7 +18,7 @@ returns-then-not-is_above t c =
     let ds = c.args.ds.now in
     let n = c.args.name.now in
     let down = none_down e asked zone ds n c.args.counts (sym c.is_above.ensures ∙ c.if-not-is_above.true) in
-    record { leads = tt; stops = tt; counted = below_of e asked zone ds n c.args.counts c.args.counts down; down = down }
+    record { leads = tt; stops = tt; counted = judged_down e asked zone ds n c.args.counts c.args.counts down; uncut = down }
 
 pub returns-in-None : goal.returns-in-None
 returns-in-None t c =
@@ -28,7 +29,7 @@ returns-in-None t c =
     let n = c.args.name.now in
     let root = subst (λ (o : Option Name). MatchOption o (n ≡ []) (IsParent n)) c.in-None.is c.in_ok-above.ensures in
     let down = none_at_root e asked zone ds n c.args.counts root in
-    record { leads = tt; stops = tt; counted = below_of e asked zone ds n c.args.counts c.args.counts down; down = down }
+    record { leads = tt; stops = tt; counted = judged_down e asked zone ds n c.args.counts c.args.counts down; uncut = down }
 
 pub returns-in-Ok-clause-counted : goal.returns-in-Ok-clause-counted
 returns-in-Ok-clause-counted t c =
@@ -36,7 +37,34 @@ returns-in-Ok-clause-counted t c =
     let asked = asked_of c.args.question.now in
     let zone = c.args.zone.now in
     let ds = c.args.ds.now in
-    subst (λ (x : Result Taken Counts). IsJudgedBelow e asked zone ds c.args.counts (counts_in x)) c.in-Ok.is c.in_ok-way.ensures.counted
+    subst (λ (x : Result Taken Uncut). AreJudgedBetween e asked zone ds c.args.counts (counts_in x)) c.in-Ok.is c.in_ok-way.ensures.counted
+
+pub returns-in-AtAll : goal.returns-in-AtAll
+returns-in-AtAll t c =
+    let e = c.args.evidence.now in
+    let asked = asked_of c.args.question.now in
+    let zone = c.args.zone.now in
+    let ds = c.args.ds.now in
+    let n = c.args.name.now in
+    let before = c.args.counts in
+    let uncut : AreUncutBelow e asked zone ds before c.in-AtAll.sums = subst (λ (x : Result Taken Uncut). IfErr x (IsUncut e asked zone ds before c.in-Some.parent)) c.in-AtAll.is c.in_ok-way.ensures.uncut in
+    let counted = subst (λ (x : Result Taken Uncut). AreJudgedBetween e asked zone ds before (counts_in x)) c.in-AtAll.is c.in_ok-way.ensures.counted in
+    record { leads = tt; stops = tt; counted = counted; uncut = uncut }
+
+pub at_name-requires : goal.at_name-requires
+at_name-requires t c =
+    let e = c.args.evidence.now in
+    let asked = asked_of c.args.question.now in
+    let zone = c.args.zone.now in
+    let ds = c.args.ds.now in
+    let n = c.args.name.now in
+    let parent = c.in-Some.parent in
+    let before = c.args.counts in
+    let sums = c.in-SoFar.sums in
+    let of : IsParent n parent = subst (λ (o : Option Name). MatchOption o (n ≡ []) (IsParent n)) c.in-Some.is c.in_ok-above.ensures in
+    let down : AreUncut e asked zone ds before parent sums = subst (λ (x : Result Taken Uncut). IfErr x (IsUncut e asked zone ds before parent)) c.in-SoFar.is c.in_ok-way.ensures.uncut in
+    let below = sym c.is_above.ensures ∙ c.if-not-is_above.false in
+    reached e asked zone ds n parent before sums (below, c.requires.above) of.is down c.requires.untold
 
 pub returns : goal.returns
 returns t c =
@@ -47,14 +75,14 @@ returns t c =
     let n = c.args.name.now in
     let parent = c.in-Some.parent in
     let before = c.args.counts in
-    let sums = c.in-Err.sums in
+    let sums = c.in-SoFar.sums in
     let r = c.at_name.result in
     let of : IsParent n parent = subst (λ (o : Option Name). MatchOption o (n ≡ []) (IsParent n)) c.in-Some.is c.in_ok-above.ensures in
-    let down : AreJudgedDown e asked zone ds before parent sums = subst (λ (x : Result Taken Counts). IfErr x (AreJudgedDown e asked zone ds before parent)) c.in-Err.is c.in_ok-way.ensures.down in
-    let below = sym c.is_above.ensures ∙ c.if-not-is_above.false in
+    let down : AreUncut e asked zone ds before parent sums = subst (λ (x : Result Taken Uncut). IfErr x (IsUncut e asked zone ds before parent)) c.in-SoFar.is c.in_ok-way.ensures.uncut in
+    let lies = (sym c.is_above.ensures ∙ c.if-not-is_above.false, c.requires.above) in
     record {
       leads = c.at_name.ensures.leads;
       stops = c.at_name.ensures.stops;
-      counted = below_in e asked zone ds n parent before sums r below c.requires of.is down c.at_name.ensures.counted;
-      down = down_in e asked zone ds n parent before sums r below c.requires of.is down c.at_name.ensures.counted;
+      counted = judged_in e asked zone ds n parent before sums lies of.is down r c.at_name.ensures.judged;
+      uncut = uncut_in e asked zone ds n parent before sums lies of.is down r c.at_name.ensures.judged;
     }

@@ -13,5 +13,5 @@ returns-in-None c =
     record {
       leads = stops_there e asked zone ds sought r c.wanting_there.ensures.wants;
       stops = wants_there e asked zone ds sought r c.requires c.in-None.ensures.none c.wanting_there.ensures.wants;
-      counted = lacking_there e asked zone ds sought c.args.counts r c.in-None.ensures.none c.wanting_there.ensures.counted;
+      judged = lacking_there e asked zone ds sought c.args.counts r c.wanting_there.ensures.wants c.wanting_there.ensures.counted;
     }

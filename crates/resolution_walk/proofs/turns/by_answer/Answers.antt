@@ -15,7 +15,7 @@ returns-in-Ok c =
     let now = told c.in-Ok.step in
     let r = c.taken.result in
     record {
-      leads = turned_own e asked zone ds h t now r c.requires c.in_ok-telling.ensures c.in-Ok.ensures c.taken.ensures.turns c.taken.ensures.lasts;
+      leads = turned_own e asked zone ds h t now r c.requires c.in_ok-telling.ensures c.in-Ok.ensures.0 c.taken.ensures.turns c.taken.ensures.lasts;
       stops = own_stops_in e asked zone ds h t now r c.requires c.in_ok-telling.ensures c.in-Ok.ensures c.taken.ensures.turns;
       counted = own_counted_in e asked zone ds h t c.args.counts c.plus-sums.result r c.requires c.in_ok-telling.ensures c.plus-sums.ensures c.taken.ensures.counted;
     }

@@ -1,0 +1,90 @@
+-- The names between a zone and a question's name: the zone is asked for DS at them one by one, the topmost first.
+use Rattle.std.specs.Prelude.{◌≡◌, ℕ, Bool, true, false, ◌&&◌, ◌==◌, List, drop, Option, None}
+use Rattle.definitions.specs.Dnskey.{Ds}
+use Rattle.definitions.specs.Name.{Name, same, at_or_above, strictly_above}
+use Rattle.messages.specs.Message.{Asked}
+use Rattle.answer_judge_keys.specs.declared.verdict.Lasting.{Lasting}
+use Rattle.answer_judge_keys.specs.declared.verdict.Refusal.{Refusal}
+use Rattle.resolution_evidence.specs.Counted.{plus}
+use Rattle.resolution_evidence.specs.Counts.{Counts}
+use Rattle.resolution_evidence.specs.Given.{Given}
+use Rattle.resolution_evidence.specs.Told.{StepSeen, TellsNoCut, TellsNoneBelow, TellsNothing}
+use Rattle.resolution_evidence.specs.Walking.{IsNameStep, IsOwnStep, ds_at}
+
+-- ---- what tells nothing
+
+-- it is nothing of the way, and this is why it is refused, if it is
+abbrev pub IsNothing : StepSeen → Option Refusal → Type 0
+IsNothing (TellsNothing r) refusal = refusal ≡ r
+IsNothing TellsNoCut refusal = refusal ≡ None
+IsNothing TellsNoneBelow refusal = refusal ≡ None
+IsNothing _ refusal = ⊥
+
+-- a zone's answer to the question tells nothing of the way, and why it is refused, if it is
+pub record IsAnswerUntold (e : Given) (asked : Asked) (zone : Name) (ds : List Ds) (refusal : Option Refusal) (counts : Counts) : Type 0 where
+  pub said : StepSeen
+  pub nothing : IsNothing said refusal
+  pub lasting : Option Lasting
+  pub step : IsOwnStep e zone ds asked said lasting counts
+
+pub record IsUnanswered (e : Given) (asked : Asked) (zone : Name) (ds : List Ds) : Type 0 where
+  pub refusal : Option Refusal
+  pub counts : Counts
+  pub untold : IsAnswerUntold e asked zone ds refusal counts
+
+-- ---- DS at the names between
+
+-- a name between: below the zone, and the question's name or above it
+abbrev pub LiesBetween : Name → Asked → Name → Type 0
+LiesBetween zone asked n = (strictly_above zone n ≡ true) × (at_or_above n asked.name ≡ true)
+
+-- DS at the name is the question itself
+abbrev pub is_itself : Asked → Name → Bool
+is_itself asked n = same n asked.name && (asked.rtype == 43)
+
+-- a zone's answer for DS tells this of a delegation, with the counts before its judgement and after
+pub record IsToldFor (e : Given) (zone : Name) (ds : List Ds) (sought : Asked) (said : StepSeen) (before after : Counts) : Type 0 where
+  pub lasting : Option Lasting
+  pub counts : Counts
+  pub step : IsNameStep e zone ds sought said lasting counts
+  pub sum : after ≡ plus before counts
+
+-- No delegation is at the names between, from the topmost one down to this one: at each the zone's answer for DS tells so, unless
+-- that is the question itself.
+pub data AreUncut (e : Given) (asked : Asked) (zone : Name) (ds : List Ds) (before : Counts) : Name → Counts → Type 0 where
+  AtZone : {n : Name} {after : Counts} → strictly_above zone n ≡ false → after ≡ before → AreUncut e asked zone ds before n after
+  Itself : {n : Name} {after : Counts} → is_itself asked n ≡ true → AreUncut e asked zone ds before (drop 1 n) after → AreUncut e asked zone ds before n after
+  Next : {n : Name} {between after : Counts} → LiesBetween zone asked n → AreUncut e asked zone ds before (drop 1 n) between
+      → IsToldFor e zone ds (ds_at asked n) TellsNoCut between after → AreUncut e asked zone ds before n after
+
+-- the same down to one that has none below it either
+pub record AreUncutBelow (e : Given) (asked : Asked) (zone : Name) (ds : List Ds) (before after : Counts) : Type 0 where
+  pub name : Name
+  pub lies : LiesBetween zone asked name
+  pub between : Counts
+  pub above : AreUncut e asked zone ds before (drop 1 name) between
+  pub told : IsToldFor e zone ds (ds_at asked name) TellsNoneBelow between after
+
+-- No delegation is at any name between: the zone's answers for DS tell so, from the topmost name down to the question's, or to one
+-- that has none below it.
+pub data AreAllUncut (e : Given) (asked : Asked) (zone : Name) (ds : List Ds) : Type 0 where
+  DownToName : {before after : Counts} → AreUncut e asked zone ds before asked.name after → AreAllUncut e asked zone ds
+  DownToMissing : {before after : Counts} → AreUncutBelow e asked zone ds before after → AreAllUncut e asked zone ds
+
+-- ---- which are asked for
+
+-- The zone is asked for DS at a name between, or that is the question itself: the answer to the question tells nothing of the way,
+-- and no delegation is at the names above.
+pub record IsReached (e : Given) (asked : Asked) (zone : Name) (ds : List Ds) (n : Name) : Type 0 where
+  pub lies : LiesBetween zone asked n
+  pub untold : IsUnanswered e asked zone ds
+  pub before : Counts
+  pub after : Counts
+  pub above : AreUncut e asked zone ds before (drop 1 n) after
+
+-- a question for DS at such a name, which is another question
+pub record IsBetween (e : Given) (asked : Asked) (zone : Name) (ds : List Ds) (sought : Asked) : Type 0 where
+  pub name : Name
+  pub is : sought ≡ ds_at asked name
+  pub other : is_itself asked name ≡ false
+  pub reached : IsReached e asked zone ds name
