@@ -260,3 +260,15 @@ def replay(*questions):
 
 
 BEHIND = (*LIMITED, *OCTETS, *replay(*REPLAYED[:1]))
+# An answer about something else tells nothing of a name, so that DS is asked for at the names between: down to one that does not
+# exist, and no further; past one that exists without records, until an answer is not there. `{octets:ZONE NAME TYPE}` stands for
+# those of another message: the root's is a referral to the same zone. These lines are the last, since they hand in more messages.
+BETWEEN = (
+    ("# An answer about something else, and DS at the names between: none is asked for below a name that does not exist.", None),
+    ("message . a.b.none.test 1 {octets:. none.test 1}", None),
+    ("message test a.b.none.test 1 {octets:test www.test 1}", None),
+    ("resolve a.b.none.test 1", f"bogus test a.b.none.test 1 NotProven; {count_of('none.test') + 1} messages"),
+    ("message . a.mail.deep.test 1 {octets:. none.test 1}", None),
+    ("message test a.mail.deep.test 1 {octets:test www.test 1}", None),
+    ("resolve a.mail.deep.test 1", f"wants test a.mail.deep.test 43; {count_of('none.test') + 2} messages"),
+)
