@@ -190,14 +190,14 @@ module _ (e : Given) (asked : Asked) (zone : Name) (ds : List Ds) where
 
     one_uncut : (u : Uncut) → IsJudgedAt e asked zone ds n sums (Err u) → IsUncut e asked zone ds before n u
     one_uncut (uncut.SoFar after) (inl itself) =
-        let same : after ≡ sums = (let both : Err {A = Taken} (uncut.SoFar after) ≡ Err (uncut.SoFar sums) = itself.1 in cc) in
+        let same : after ≡ sums = (let both : Err (uncut.SoFar after) ≡ Err (uncut.SoFar sums) = itself.1 in cc) in
         Itself itself.0 (subst (AreUncut e asked zone ds before (drop 1 n)) (sym same) above)
     one_uncut (uncut.SoFar after) (inr told) = Next lies above told
-    one_uncut (uncut.AtAll after) (inl itself) = absurd (let both : Err {A = Taken} (uncut.AtAll after) ≡ Err (uncut.SoFar sums) = itself.1 in cc)
+    one_uncut (uncut.AtAll after) (inl itself) = let both : Err (uncut.AtAll after) ≡ Err (uncut.SoFar sums) = itself.1 in absurd cc
     one_uncut (uncut.AtAll after) (inr told) = record { name = n; lies = lies; between = sums; above = above; told = told }
 
     one_counted : (t : Taken) → IsJudgedAt e asked zone ds n sums (Ok t) → AreJudgedBetween e asked zone ds before t.counts
-    one_counted t (inl itself) = absurd (let both : Ok {E = Uncut} t ≡ Err (uncut.SoFar sums) = itself.1 in cc)
+    one_counted t (inl itself) = let both : Ok t ≡ Err (uncut.SoFar sums) = itself.1 in absurd cc
     one_counted t (inr (inl same)) = UpTo (subst (AreUncut e asked zone ds before (drop 1 n)) (sym same) above)
     one_counted t (inr (inr (said, told))) = AndNext lies above said told
 
