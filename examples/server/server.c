@@ -439,7 +439,7 @@ static void open_folder(struct served *served, const struct options *options) {
     served->keys.folder = served->key_folder;
     served->backdate = (uint32_t)options->backdate;
     served->step = (uint32_t)options->step;
-    served->floor = served->answered = (uint64_t)time(NULL) - served->backdate;
+    served->floor = served->answered = clock_moment(served);
     served->out = malloc(OUT_ROOM);
     served->made = malloc(OUT_ROOM);
     served->cache.places = calloc(CACHE_PLACES, sizeof *served->cache.places);

@@ -26,15 +26,21 @@ struct served {
     uint8_t *out, *made;
 };
 
+/* The moment that the clock tells, 0 where it was not set yet: a machine may start at 1970. */
+static uint64_t clock_moment(const struct served *served) {
+    time_t now = time(NULL);
+    return now > (time_t)served->backdate ? (uint64_t)now - served->backdate : 0;
+}
+
 /* The moment of lines that are applied now. */
 static uint64_t line_moment(const struct served *served) {
-    uint64_t now = (uint64_t)time(NULL) - served->backdate;
+    uint64_t now = clock_moment(served);
     return now > served->floor ? now : served->floor;
 }
 
 /* The moment of answers that are given now. */
 static uint64_t answer_moment(struct served *served) {
-    uint64_t now = (uint64_t)time(NULL) - served->backdate, moment = now - now % served->step;
+    uint64_t now = clock_moment(served), moment = now - now % served->step;
     served->floor = moment > served->floor ? moment : served->floor;
     served->answered = served->floor > served->answered ? served->floor : served->answered;
     return served->floor;
