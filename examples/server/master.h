@@ -8,6 +8,7 @@
 
 #include <arpa/inet.h>
 #include <ctype.h>
+#include <inttypes.h>
 #include <stdbool.h>
 #include <stdint.h>
 #include <stdio.h>
@@ -18,7 +19,7 @@ enum { MASTER_FIELDS = 24, MASTER_TEXT = 1024 };
 
 struct master {
     char origin[256], owner[256];
-    unsigned long ttl; /* of an entry that has none: what $TTL says, or without it the last one before (RFC 1035, 5.1; RFC 2308, 4) */
+    uint64_t ttl; /* of an entry that has none: what $TTL says, or without it the last one before (RFC 1035, 5.1; RFC 2308, 4) */
     bool has_default;  /* $TTL stood in front */
     const char *fields[MASTER_FIELDS];
     size_t count;
@@ -47,14 +48,14 @@ static bool put_octets(struct master *master, const void *octets, size_t len) {
 }
 
 /* A number of at most so many octets, in digits alone. */
-static bool read_number(const char *text, size_t width, unsigned long *number) {
+static bool read_number(const char *text, size_t width, uint64_t *number) {
     char *end;
-    *number = strtoul(text, &end, 10);
+    *number = strtoull(text, &end, 10);
     return isdigit((unsigned char)text[0]) && *end == 0 && strlen(text) <= 10 && *number >> (8 * width) == 0;
 }
 
 static bool put_number(struct master *master, const char *text, size_t width) {
-    unsigned long number;
+    uint64_t number;
     if (!read_number(text, width, &number)) {
         return false;
     }
@@ -96,7 +97,7 @@ static bool put_texts(struct master *master, size_t from) {
 
 /* Data as octets: \# LENGTH DIGITS.. */
 static bool put_digits(struct master *master, size_t from) {
-    unsigned long wanted;
+    uint64_t wanted;
     for (size_t i = from + 2; i < master->count; i++) {
         for (const char *digits = master->fields[i]; *digits != 0; digits += 2) {
             if (!isxdigit((unsigned char)digits[0]) || !isxdigit((unsigned char)digits[1])) {
@@ -118,7 +119,7 @@ static unsigned put_data(struct master *master, size_t from) {
     size_t count = master->count - from - 1;
     master->len = 0;
     if (count >= 2 && strcmp(data[0], "\\#") == 0 && strncmp(type, "TYPE", 4) == 0) {
-        unsigned long number;
+        uint64_t number;
         return read_number(type + 4, 2, &number) && put_digits(master, from + 1) ? (unsigned)number : 0;
     } else if (strcmp(type, "A") == 0 && count == 1) {
         return put_address(master, AF_INET, data[0]) ? 1 : 0;
@@ -173,7 +174,7 @@ static bool cut_fields(struct master *master, char *line) {
 /* Writes the journal's line for an entry. */
 static bool write_entry(struct master *master, bool has_owner, FILE *out) {
     size_t at = 0;
-    unsigned long ttl = master->ttl;
+    uint64_t ttl = master->ttl;
     if (has_owner && !full_name(master, master->fields[at++], master->owner)) {
         return false;
     }
@@ -191,7 +192,7 @@ static bool write_entry(struct master *master, bool has_owner, FILE *out) {
         return false;
     }
     master->ttl = master->has_default ? master->ttl : ttl;
-    fprintf(out, "rr %s %lu 1 %u %s", master->owner, ttl, type, master->len == 0 ? "-" : "");
+    fprintf(out, "rr %s %" PRIu64 " 1 %u %s", master->owner, ttl, type, master->len == 0 ? "-" : "");
     for (size_t i = 0; i < master->len; i++) {
         fprintf(out, "%02x", master->data[i]);
     }

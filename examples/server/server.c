@@ -40,7 +40,7 @@ struct server {
 
 struct options {
     const char *address, *port, *chain, *folder, *file;
-    unsigned long backdate, step, rate;
+    uint64_t backdate, step, rate;
     bool is_auto, is_shared;
 };
 
