@@ -199,22 +199,32 @@ static bool write_entry(struct master *master, bool has_owner, FILE *out) {
     return fputc('\n', out) != EOF;
 }
 
+/* Reads a line: 1, 0 where there are no more, or -1 where it is too long or has an octet 0. */
+static int next_line(FILE *file, char line[MASTER_TEXT]) {
+    size_t len = 0;
+    int octet;
+    while ((octet = getc(file)) != EOF && octet != '\n') {
+        if (octet == 0 || len == MASTER_TEXT - 2) {
+            return -1;
+        }
+        line[len++] = (char)octet;
+    }
+    line[len] = 0;
+    return octet == '\n' || len > 0;
+}
+
 /*
  * Writes the `rr` lines of a master file, and gives 0, or the number of the line that is not known. `apex` gets the first origin. Where
  * the file cannot be read to its end, its error is set.
  */
 static size_t write_lines(FILE *file, char apex[256], FILE *out) {
     struct master master = {.origin = ".", .ttl = 3600};
-    char line[MASTER_TEXT];
+    char line[MASTER_TEXT] = "";
     apex[0] = 0;
-    for (size_t number = 1; fgets(line, sizeof line, file) != NULL; number++) {
-        size_t len = strlen(line);
-        /* A line without its end is the file's last one, or too long, or has an octet 0. */
-        if (!feof(file) && (len == 0 || line[len - 1] != '\n')) {
-            return number;
-        }
+    int is_line;
+    for (size_t number = 1; (is_line = next_line(file, line)) != 0; number++) {
         bool has_owner = !isspace((unsigned char)line[0]);
-        if (!cut_fields(&master, line)) {
+        if (is_line < 0 || !cut_fields(&master, line)) {
             return number;
         } else if (master.count == 0) {
             continue;
