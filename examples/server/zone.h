@@ -46,16 +46,17 @@ static uint64_t answer_moment(struct served *served) {
     return served->floor;
 }
 
-/* The moment of a journal's last line: its last word, if it is a call on keys or a replacement. */
+/* The last moment of a journal's calls on keys and replacements: the last word of each. Other lines have none. */
 static uint64_t last_moment(const uint8_t *journal, size_t len) {
-    const char *line = (const char *)journal, *word = NULL;
-    size_t at = len > 0 ? len - 1 : 0;
-    while (at > 0 && journal[at - 1] != '\n') {
-        at--;
-        word = word == NULL && line[at] == ' ' ? line + at + 1 : word;
+    uint64_t last = 0;
+    const char *line = (const char *)journal, *behind = line + len, *end;
+    for (; line < behind && (end = memchr(line, '\n', (size_t)(behind - line))) != NULL; line = end + 1) {
+        bool is_call = *line != '#' && strncmp(line, "rr ", 3) != 0 && strncmp(line, "zone ", 5) != 0;
+        const char *word = is_call ? memrchr(line, ' ', (size_t)(end - line)) : NULL;
+        uint64_t moment = word != NULL ? strtoull(word + 1, NULL, 10) : 0;
+        last = moment > last ? moment : last;
     }
-    bool is_call = len > 0 && strncmp(line + at, "rr ", 3) != 0 && strncmp(line + at, "zone ", 5) != 0;
-    return is_call && word != NULL ? strtoull(word, NULL, 10) : 0;
+    return last;
 }
 
 /* Opens the zone from its journal. Behind a crash a line that is not finished is cut off, or a replacement. */
