@@ -59,9 +59,16 @@ static uint64_t last_moment(const uint8_t *journal, size_t len) {
     return last;
 }
 
-/* Opens the zone from its journal. Behind a crash a line that is not finished is cut off, or a replacement. */
+/*
+ * Opens the zone from its journal. Behind a crash a line that is not finished is cut off, or a replacement. What a crash left there
+ * may not be on disk yet, and is to be before anything is answered by it.
+ */
 static bool open_served(struct served *served) {
     char text[TEXT_ROOM];
+    if (fsync(served->journal.fd) != 0) {
+        perror("journal");
+        return false;
+    }
     for (int tries = 0; tries < 2; tries++) {
         struct zermuita_zone_report report = {.size = sizeof report};
         uint8_t *octets = read_journal(&served->journal);
