@@ -59,8 +59,9 @@ static bool open_journal(struct journal *journal, const char *path) {
 
 /* Begins a journal with these lines: all of them are there, or none. */
 static bool begin_journal(struct journal *journal, const char *folder, const char *path, const char *lines, size_t len) {
-    char next[512];
+    char next[520];
     int written = snprintf(next, sizeof next, "%s.new", path);
+    errno = ENAMETOOLONG;
     int fd = written > 0 && (size_t)written < sizeof next ? open(next, O_WRONLY | O_CREAT | O_TRUNC | O_CLOEXEC, 0600) : -1;
     bool is_written = fd >= 0 && write_all(fd, lines, len);
     if (fd >= 0) {

@@ -379,6 +379,9 @@ static void close_all(struct server *server) {
 /* Reads all keys of the folder, since the zone may sign with any. */
 static void read_keys(struct keys *keys) {
     DIR *folder = opendir(keys->folder);
+    if (folder == NULL) {
+        perror(keys->folder);
+    }
     for (struct dirent *entry; folder != NULL && (entry = readdir(folder)) != NULL;) {
         char *end = strrchr(entry->d_name, '.');
         if (end != NULL && strcmp(end, ".pem") == 0) {

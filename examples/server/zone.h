@@ -96,6 +96,7 @@ static bool open_served(struct served *served) {
             return true;
         }
     }
+    fputs("journal: cut at its last whole replacement, it has half of one again\n", stderr);
     return false;
 }
 
