@@ -17,11 +17,15 @@
 #include <poll.h>
 #include <signal.h>
 #include <stddef.h>
+#include <sys/resource.h>
 #include <sys/socket.h>
 #include <sys/un.h>
 #include "ctl.h"
 
-enum { CONNECTIONS = 64, OF_NETWORK = 16, SEND_ROOM = 1 << 16, QUERY_SECONDS = 10, DATAGRAMS = 64, FIRST = 3, DAY = 86400 };
+enum {
+    CONNECTIONS = 64, OF_NETWORK = 16, SEND_ROOM = 1 << 16, QUERY_SECONDS = 10, DATAGRAMS = 64, FIRST = 3, DAY = 86400,
+    DESCRIPTORS = FIRST + CONNECTIONS + 32,
+};
 
 /* A TCP connection: octets of a query behind its length, then those of its response. */
 struct connection {
@@ -467,6 +471,17 @@ static void open_folder(struct served *served, const struct options *options) {
     }
 }
 
+/* Whether there are descriptors for all connections: where one is missing, a connection that waits would be tried again and again. */
+static bool has_descriptors(void) {
+    struct rlimit limit;
+    if (getrlimit(RLIMIT_NOFILE, &limit) != 0) {
+        return false;
+    }
+    limit.rlim_cur = limit.rlim_cur < DESCRIPTORS ? DESCRIPTORS : limit.rlim_cur;
+    errno = EMFILE;
+    return limit.rlim_cur <= limit.rlim_max && setrlimit(RLIMIT_NOFILE, &limit) == 0;
+}
+
 int main(int argc, char **argv) {
     struct options options;
     if (argc > 3 && strcmp(argv[1], "--ctl") == 0) {
@@ -487,6 +502,9 @@ int main(int argc, char **argv) {
     signal(SIGPIPE, SIG_IGN);
     signal(SIGXFSZ, SIG_IGN);
     server->is_auto = options.is_auto;
+    if (!has_descriptors()) {
+        fail("descriptors");
+    }
     open_folder(&server->served, &options);
     server->polled[0] = (struct pollfd){.fd = bound(SOCK_DGRAM, &options), .events = POLLIN};
     server->polled[1] = (struct pollfd){.fd = bound(SOCK_STREAM, &options), .events = POLLIN};
