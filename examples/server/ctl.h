@@ -19,7 +19,7 @@ static void say_status(struct served *served, FILE *said) {
         char names[TEXT_ROOM];
         struct zermuita_due due = {.size = sizeof due};
         uint32_t reply = zermuita_zone_due(&served->zone, roll, (uint8_t *)names, sizeof names, &due);
-        if (reply != ZERMUITA_ZONE_DONE || due.phase == ZERMUITA_NO_ROLL) {
+        if (reply != ZERMUITA_ZONE_DONE || due.phase == ZERMUITA_NO_ROLL || due.len > sizeof names) {
             continue;
         }
         fprintf(said, "%s: %s is next", rolls[roll], phases[due.phase]);
