@@ -22,7 +22,9 @@ struct cache {
 /* SHA-256 of an entry's key and octets. */
 static bool digest_of(const struct zermuita_sign *sign, uint8_t digest[32]) {
     EVP_MD_CTX *context = EVP_MD_CTX_new();
+    size_t len = sign->dnskey.len; /* first, so that no other key and octets make the same row */
     bool is_made = context != NULL && EVP_DigestInit_ex(context, EVP_sha256(), NULL) == 1
+        && EVP_DigestUpdate(context, &len, sizeof len) == 1
         && EVP_DigestUpdate(context, sign->dnskey.data, sign->dnskey.len) == 1
         && EVP_DigestUpdate(context, sign->octets.data, sign->octets.len) == 1 && EVP_DigestFinal_ex(context, digest, NULL) == 1;
     EVP_MD_CTX_free(context);
