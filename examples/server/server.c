@@ -332,23 +332,31 @@ static void serve(struct server *server) {
     }
 }
 
+/* Writes a command's words as a line. A file is told from here, not from where the server was started. */
+static bool write_command(int argc, char **argv, char line[COMMAND_ROOM]) {
+    char *file = argc == 2 && strcmp(argv[0], "reload") == 0 ? realpath(argv[1], NULL) : NULL;
+    size_t len = 0;
+    for (int i = 0; i < argc && len < COMMAND_ROOM; i++) {
+        const char *word = i == 1 && file != NULL ? file : argv[i];
+        len += (size_t)snprintf(line + len, COMMAND_ROOM - len, "%s%s", word, i + 1 < argc ? " " : "\n");
+    }
+    free(file);
+    return len < COMMAND_ROOM && strchr(line, '\n') == line + len - 1;
+}
+
 /* Sends a command to a server that runs, and prints what it says. */
 static int send_command(int argc, char **argv) {
     struct sockaddr_un at = socket_in(argv[0]);
     int fd = socket(AF_UNIX, SOCK_STREAM | SOCK_CLOEXEC, 0);
-    char *file = argc == 3 && strcmp(argv[1], "reload") == 0 ? realpath(argv[2], NULL) : NULL;
+    char line[COMMAND_ROOM], said[4096];
     signal(SIGPIPE, SIG_IGN);
-    if (connect(fd, (struct sockaddr *)&at, sizeof at) != 0) {
+    if (!write_command(argc - 1, argv + 1, line)) {
+        fprintf(stderr, "%s: no command, since it is longer than %d octets or has a line feed\n", argv[1], COMMAND_ROOM - 2);
+        return EXIT_FAILURE;
+    }
+    if (connect(fd, (struct sockaddr *)&at, sizeof at) != 0 || dprintf(fd, "%s", line) < 0) {
         fail(at.sun_path);
     }
-    for (int i = 1; i < argc; i++) {
-        /* A file is told from here, not from where the server was started. */
-        if (dprintf(fd, "%s%s", i == 2 && file != NULL ? file : argv[i], i + 1 < argc ? " " : "\n") < 0) {
-            fail(at.sun_path);
-        }
-    }
-    free(file);
-    char said[4096];
     bool is_done = false, is_begun = false;
     for (ssize_t count; (count = read(fd, said, sizeof said)) > 0; is_begun = true) {
         size_t from = is_begun ? 0 : 1;
