@@ -3,7 +3,6 @@
 #define CTL_H
 
 #include "zone.h"
-#include <inttypes.h>
 
 enum { COMMAND_ROOM = 2048 };
 
@@ -12,6 +11,39 @@ static const char *const rolls[] = {
 };
 
 static const char *const phases[] = {"", "report1", "wait1", "report2", "wait2", "done"};
+
+/* What was counted since the start, as text. */
+static void say_counts(struct served *served, FILE *said) {
+    const struct counts *counts = &served->counts;
+    fprintf(said, "journal: %zu octets; signatures: %" PRIu64 " made, %" PRIu64 " found again; over the rate: %" PRIu64
+            " told to use TCP, %" PRIu64 " dropped\n", served->journal.len, served->cache.made, served->cache.found,
+            served->limits.said_tcp, served->limits.dropped);
+    fprintf(said, "requests: %" PRIu64 " by UDP, %" PRIu64 " by TCP; responses: ", counts->udp, counts->tcp);
+    for (size_t i = 0; i < CODES; i++) {
+        if (counts->codes[i] > 0) {
+            fprintf(said, "%s %" PRIu64 ", ", code_names[i], counts->codes[i]);
+        }
+    }
+    fprintf(said, "%" PRIu64 " truncated; connections refused: %" PRIu64 "\n", counts->truncated, counts->refused);
+}
+
+/* The same, for the log. */
+static void log_counts(const struct served *served) {
+    const struct counts *counts = &served->counts;
+    struct member members[CODES + 9] = {
+        as_number("udp", counts->udp), as_number("tcp", counts->tcp), as_number("truncated", counts->truncated),
+        as_number("told_tcp", served->limits.said_tcp), as_number("dropped", served->limits.dropped),
+        as_number("refused_connections", counts->refused), as_number("signatures_made", served->cache.made),
+        as_number("signatures_kept", served->cache.found), as_number("journal", served->journal.len),
+    };
+    size_t count = 9;
+    for (size_t i = 0; i < CODES; i++) {
+        if (counts->codes[i] > 0) {
+            members[count++] = as_number(code_names[i], counts->codes[i]);
+        }
+    }
+    log_members("counts", members, count);
+}
 
 /* What is due of each roll that runs. */
 static void say_status(struct served *served, FILE *said) {
@@ -33,13 +65,26 @@ static void say_status(struct served *served, FILE *said) {
         }
         fprintf(said, "%s%.*s\n", due.len > 0 ? "; " : "", (int)due.len, names);
     }
-    fprintf(said, "journal: %zu octets; signatures: %" PRIu64 " made, %" PRIu64 " found again; over the rate: %" PRIu64
-            " told to use TCP, %" PRIu64 " dropped\n", served->journal.len, served->cache.made, served->cache.found,
-            served->limits.said_tcp, served->limits.dropped);
+    say_counts(served, said);
+    log_counts(served);
 }
 
-/* Makes the waits that are over. */
-static void end_waits(struct served *served) {
+/* Makes a wait that is over. */
+static bool end_wait(struct served *served, const char *words) {
+    char *text = NULL;
+    size_t len = 0;
+    FILE *said = open_memstream(&text, &len);
+    bool is_done = said != NULL && accept_line(served, words, said);
+    if (said != NULL && fclose(said) == 0) {
+        log_said("wait", words, is_done, text, line_moment(served));
+    }
+    free(text);
+    return is_done;
+}
+
+/* Makes the waits that are over. False where one of them is not made. */
+static bool end_waits(struct served *served) {
+    bool are_done = true;
     for (uint32_t roll = ZERMUITA_KSK_ROLL; roll <= ZERMUITA_ALGORITHM_ROLL; roll++) {
         char names[TEXT_ROOM], words[64];
         struct zermuita_due due = {.size = sizeof due};
@@ -47,9 +92,10 @@ static void end_waits(struct served *served) {
         bool is_wait = due.phase == ZERMUITA_EXPIRY_1 || due.phase == ZERMUITA_EXPIRY_2;
         if (reply == ZERMUITA_ZONE_DONE && is_wait && due.from <= line_moment(served)) {
             snprintf(words, sizeof words, "%s %s", phases[due.phase], rolls[roll]);
-            accept_line(served, words, stderr);
+            are_done = end_wait(served, words) && are_done;
         }
     }
+    return are_done;
 }
 
 /* Says the records of a set, as master files have them. */

@@ -3,7 +3,7 @@
  * a socket says. docs/use/SERVER.md is about it.
  *
  * usage: server [--address=A] [--port=N] [--share] [--backdate=SECONDS] [--step=SECONDS] [--rate=N] [--chain=WORDS] [--auto]
- *               FOLDER [MASTER-FILE]
+ *               [--log=FILE] [--every=SECONDS] FOLDER [MASTER-FILE]
  *        server --ctl FOLDER COMMAND..
  *
  * FOLDER has keys/NAME.pem, and gets the journal and the socket. A journal that is new begins with the records of MASTER-FILE.
@@ -40,11 +40,12 @@ struct server {
     struct connection *connections[CONNECTIONS];
     struct pollfd polled[FIRST + CONNECTIONS]; /* datagrams, the listener, commands, connections */
     bool is_auto, is_stopping;
+    time_t every, count_at, look_at, refused_at; /* seconds: between counts in the log, their next one, the next look at waits */
 };
 
 struct options {
-    const char *address, *port, *chain, *folder, *file;
-    uint64_t backdate, step, rate;
+    const char *address, *port, *chain, *folder, *file, *log;
+    uint64_t backdate, step, rate, every;
     bool is_auto, is_shared;
 };
 
@@ -56,7 +57,7 @@ static void on_signal(int number) {
 }
 
 static void fail(const char *what) {
-    perror(what);
+    log_failure(what, strerror(errno));
     exit(EXIT_FAILURE);
 }
 
@@ -82,7 +83,8 @@ static bool tells_address(int fd, const struct sockaddr *at) {
 static int bound(int type, const struct options *options) {
     struct addrinfo wanted = {.ai_flags = AI_NUMERICHOST | AI_NUMERICSERV | AI_PASSIVE, .ai_socktype = type}, *at = NULL;
     if (getaddrinfo(options->address, options->port, &wanted, &at) != 0) {
-        fprintf(stderr, "%s: no address, or no port %s\n", options->address, options->port);
+        LOG("failure", as_text("what", "address"), as_text("why", "no address, or no port"), as_text("address", options->address),
+            as_text("port", options->port));
         exit(EXIT_FAILURE);
     }
     int fd = socket(at->ai_family, type | SOCK_NONBLOCK | SOCK_CLOEXEC, 0), yes = 1;
@@ -97,18 +99,19 @@ static int bound(int type, const struct options *options) {
     return fd;
 }
 
-static struct sockaddr_un socket_in(const char *folder) {
-    struct sockaddr_un at = {.sun_family = AF_UNIX};
-    int len = snprintf(at.sun_path, sizeof at.sun_path, "%s/ctl", folder);
-    if (len < 0 || (size_t)len >= sizeof at.sun_path) {
-        errno = ENAMETOOLONG;
-        fail(folder);
-    }
-    return at;
+/* The place of the socket for commands; false where its name is too long. */
+static bool socket_in(const char *folder, struct sockaddr_un *at) {
+    *at = (struct sockaddr_un){.sun_family = AF_UNIX};
+    int len = snprintf(at->sun_path, sizeof at->sun_path, "%s/ctl", folder);
+    errno = ENAMETOOLONG;
+    return len > 0 && (size_t)len < sizeof at->sun_path;
 }
 
 static int bound_in(const char *folder) {
-    struct sockaddr_un at = socket_in(folder);
+    struct sockaddr_un at;
+    if (!socket_in(folder, &at)) {
+        fail(folder);
+    }
     int fd = socket(AF_UNIX, SOCK_STREAM | SOCK_CLOEXEC, 0);
     unlink(at.sun_path);
     mode_t mask = umask(077);
@@ -168,6 +171,17 @@ static void close_connection(struct server *server, size_t at) {
     server->connections[at] = NULL;
 }
 
+/* Counts a connection that is closed for a limit, and logs it, one in a second at most. */
+static void refuse_connection(struct server *server, const struct sockaddr_storage *from, socklen_t from_len, const char *why) {
+    char name[NI_MAXHOST] = "";
+    uint64_t count = ++server->served.counts.refused;
+    if (seconds() != server->refused_at) {
+        server->refused_at = seconds();
+        getnameinfo((const struct sockaddr *)from, from_len, name, sizeof name, NULL, 0, NI_NUMERICHOST);
+        LOG("failure", as_text("what", "connection"), as_text("why", why), as_text("from", name), as_number("refused", count));
+    }
+}
+
 /* Takes a connection, if there is a place and its network does not have too many. */
 static void accept_connection(struct server *server) {
     struct sockaddr_storage from = {0};
@@ -185,6 +199,8 @@ static void accept_connection(struct server *server) {
     }
     struct connection *made = place < CONNECTIONS && same < OF_NETWORK ? calloc(1, sizeof *made) : NULL;
     if (made == NULL || setsockopt(fd, SOL_SOCKET, SO_SNDBUF, &room, sizeof room) != 0) {
+        refuse_connection(server, &from, from_len, place == CONNECTIONS ? "there are too many" : same >= OF_NETWORK
+            ? "its network has too many" : strerror(errno));
         free(made);
         close(fd);
         return;
@@ -302,6 +318,7 @@ static void answer_command(struct server *server) {
             text[0] = is_done ? '+' : '-';
             send(fd, text, len, MSG_NOSIGNAL);
         }
+        log_said("command", line, is_done, text != NULL && len > 0 ? text + 1 : (char[]){""}, line_moment(&server->served));
     }
     free(text);
     if (fd >= 0) {
@@ -309,16 +326,25 @@ static void answer_command(struct server *server) {
     }
 }
 
+/* Does what is due by the clock: waits, each second or, behind one that failed, a minute later, and counts in the log. */
+static void look_at_clock(struct server *server) {
+    time_t now = seconds();
+    if (server->is_auto && now >= server->look_at) {
+        server->look_at = now + (end_waits(&server->served) ? 1 : 60);
+    }
+    if (server->every > 0 && now >= server->count_at) {
+        server->count_at = now + server->every;
+        log_counts(&server->served);
+    }
+}
+
 static void serve(struct server *server) {
-    time_t looked = 0;
+    server->count_at = seconds() + server->every;
     while (!server->is_stopping && !is_told_to_stop) {
         if (poll(server->polled, FIRST + CONNECTIONS, 1000) < 0) {
             continue;
         }
-        if (server->is_auto && looked != time(NULL)) {
-            looked = time(NULL);
-            end_waits(&server->served);
-        }
+        look_at_clock(server);
         if (server->polled[0].revents != 0) {
             answer_datagrams(server);
         }
@@ -346,7 +372,7 @@ static bool write_command(int argc, char **argv, char line[COMMAND_ROOM]) {
 
 /* Sends a command to a server that runs, and prints what it says. */
 static int send_command(int argc, char **argv) {
-    struct sockaddr_un at = socket_in(argv[0]);
+    struct sockaddr_un at;
     int fd = socket(AF_UNIX, SOCK_STREAM | SOCK_CLOEXEC, 0);
     char line[COMMAND_ROOM], said[4096];
     signal(SIGPIPE, SIG_IGN);
@@ -354,8 +380,9 @@ static int send_command(int argc, char **argv) {
         fprintf(stderr, "%s: no command, since it is longer than %d octets or has a line feed\n", argv[1], COMMAND_ROOM - 2);
         return EXIT_FAILURE;
     }
-    if (connect(fd, (struct sockaddr *)&at, sizeof at) != 0 || dprintf(fd, "%s", line) < 0) {
-        fail(at.sun_path);
+    if (!socket_in(argv[0], &at) || connect(fd, (struct sockaddr *)&at, sizeof at) != 0 || dprintf(fd, "%s", line) < 0) {
+        perror(argv[0]);
+        return EXIT_FAILURE;
     }
     bool is_done = false, is_begun = false;
     for (ssize_t count; (count = read(fd, said, sizeof said)) > 0; is_begun = true) {
@@ -392,14 +419,15 @@ static void close_all(struct server *server) {
 static void read_keys(struct keys *keys) {
     DIR *folder = opendir(keys->folder);
     if (folder == NULL) {
-        perror(keys->folder);
+        log_failure(keys->folder, strerror(errno));
     }
     for (struct dirent *entry; folder != NULL && (entry = readdir(folder)) != NULL;) {
         char *end = strrchr(entry->d_name, '.');
         if (end != NULL && strcmp(end, ".pem") == 0) {
             *end = 0;
             if (key_named(keys, entry->d_name) == NULL) {
-                fprintf(stderr, "%s/%s.pem: not a key that this server signs with\n", keys->folder, entry->d_name);
+                LOG("failure", as_text("what", "key"), as_text("why", "not readable, not a key that this server signs with, or too many"),
+                    as_text("folder", keys->folder), as_text("key", entry->d_name));
             }
         }
     }
@@ -417,7 +445,7 @@ static bool is_option(const char *word, const char *name, const char **said) {
 }
 
 static bool read_options(struct options *options, int argc, char **argv) {
-    const char *backdate = "3600", *step = "60", *rate = "200";
+    const char *backdate = "3600", *step = "60", *rate = "200", *every = "3600";
     int at = 1;
     *options = (struct options){.address = "127.0.0.1", .port = "5353", .chain = "nsec 0 604800"};
     for (; at < argc && argv[at][0] == '-'; at++) {
@@ -428,15 +456,37 @@ static bool read_options(struct options *options, int argc, char **argv) {
             options->is_shared = true;
         } else if (!is_option(word, "--address=", &options->address) && !is_option(word, "--port=", &options->port)
                    && !is_option(word, "--chain=", &options->chain) && !is_option(word, "--backdate=", &backdate)
-                   && !is_option(word, "--step=", &step) && !is_option(word, "--rate=", &rate)) {
+                   && !is_option(word, "--step=", &step) && !is_option(word, "--rate=", &rate)
+                   && !is_option(word, "--log=", &options->log) && !is_option(word, "--every=", &every)) {
             return false;
         }
     }
     options->folder = at < argc ? argv[at] : NULL;
     options->file = at + 1 < argc ? argv[at + 1] : NULL;
     return options->folder != NULL && at + 2 >= argc && read_number(backdate, 4, &options->backdate)
-        && read_number(step, 4, &options->step) && read_number(rate, 4, &options->rate) && options->step > 0
+        && read_number(step, 4, &options->step) && read_number(rate, 4, &options->rate)
+        && read_number(every, 4, &options->every) && options->step > 0
         && options->step <= DAY && options->backdate <= DAY;
+}
+
+/* Begins the journal of a folder that is new. */
+static void begin_folder(struct served *served, const struct options *options) {
+    char *text = NULL;
+    size_t len = 0;
+    FILE *said = open_memstream(&text, &len);
+    if (said == NULL) {
+        fail("memory");
+    }
+    if (options->file == NULL) {
+        fputs("a new journal begins with a master file\n", said);
+    }
+    bool is_begun = options->file != NULL && begin_served(served, options->file, options->chain, said);
+    fclose(said);
+    if (!is_begun) {
+        log_failure(served->path, text);
+        exit(EXIT_FAILURE);
+    }
+    free(text);
 }
 
 /* Opens the zone of a folder, whose journal begins with a master file if it is new. */
@@ -463,20 +513,27 @@ static void open_folder(struct served *served, const struct options *options) {
         fail(served->path);
     }
     bool is_new = served->journal.len == 0;
-    if (is_new && options->file == NULL) {
-        fprintf(stderr, "%s: a new journal begins with a master file\n", served->path);
-        exit(EXIT_FAILURE);
-    }
-    if (is_new && !begin_served(served, options->file, options->chain)) {
-        exit(EXIT_FAILURE);
+    if (is_new) {
+        begin_folder(served, options);
     }
     read_keys(&served->keys);
     if (!open_served(served)) {
         if (is_new && unlink(served->path) == 0) {
-            fprintf(stderr, "%s: it makes no zone with the chain %s, and the new journal is gone again\n", options->file, options->chain);
+            LOG("failure", as_text("what", options->file), as_text("why", "it makes no zone: the new journal is gone again"),
+                as_text("chain", options->chain));
         }
         exit(EXIT_FAILURE);
     }
+}
+
+/* Says that the server answers, to its log and on standard output. */
+static void say_start(const struct server *server, const struct options *options) {
+    const struct served *served = &server->served;
+    LOG("start", as_text("address", options->address), as_text("port", options->port), as_text("zone", served->apex),
+        as_text("folder", options->folder), as_truth("auto", options->is_auto), as_truth("share", options->is_shared),
+        as_number("journal", served->journal.len), as_number("moment", served->floor));
+    printf("it answers on %s, port %s\n", options->address, options->port);
+    fflush(stdout);
 }
 
 /* Whether there are descriptors for all connections: where one is missing, a connection that waits would be tried again and again. */
@@ -497,8 +554,12 @@ int main(int argc, char **argv) {
     }
     if (!read_options(&options, argc, argv)) {
         fputs("usage: server [--address=A] [--port=N] [--share] [--backdate=SECONDS] [--step=SECONDS] [--rate=N] [--chain=WORDS]\n"
-              "              [--auto] FOLDER [MASTER-FILE]\n"
+              "              [--auto] [--log=FILE] [--every=SECONDS] FOLDER [MASTER-FILE]\n"
               "       server --ctl FOLDER COMMAND..\n", stderr);
+        return EXIT_FAILURE;
+    }
+    if (options.log != NULL && !open_log(options.log)) {
+        perror(options.log);
         return EXIT_FAILURE;
     }
     struct server *server = calloc(1, sizeof *server);
@@ -510,6 +571,7 @@ int main(int argc, char **argv) {
     signal(SIGPIPE, SIG_IGN);
     signal(SIGXFSZ, SIG_IGN);
     server->is_auto = options.is_auto;
+    server->every = (time_t)options.every;
     if (!has_descriptors()) {
         fail("descriptors");
     }
@@ -520,9 +582,10 @@ int main(int argc, char **argv) {
     for (size_t i = 0; i < CONNECTIONS; i++) {
         server->polled[FIRST + i].fd = -1;
     }
-    printf("it answers on %s, port %s\n", options.address, options.port);
-    fflush(stdout);
+    say_start(server, &options);
     serve(server);
+    log_counts(&server->served);
+    LOG("stop", as_text("why", server->is_stopping ? "command" : "signal"), as_number("moment", line_moment(&server->served)));
     close_all(server);
     return EXIT_SUCCESS;
 }

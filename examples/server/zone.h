@@ -3,8 +3,10 @@
 #define ZONE_H
 
 #include "cache.h"
+#include "counts.h"
 #include "journal.h"
 #include "limits.h"
+#include "log.h"
 #include "master.h"
 #include <time.h>
 
@@ -16,7 +18,9 @@ struct served {
     struct keys keys;
     struct cache cache;
     struct limits limits;
+    struct counts counts;
     const char *folder;
+    char apex[MASTER_TEXT]; /* the zone's name, as the journal has it */
     char path[512], key_folder[512]; /* of the journal, and of the keys */
     uint32_t backdate; /* everything is of the moment so many seconds before the clock */
     uint32_t step;     /* answers are of moments that are multiples of it, so that signatures serve again */
@@ -59,6 +63,25 @@ static uint64_t last_moment(const uint8_t *journal, size_t len) {
     return last;
 }
 
+/* The zone's name, which stands behind the word `zone` in a journal's first line. */
+static void read_apex(struct served *served, const char *journal) {
+    const char *line = journal;
+    while (*line == '#' || *line == '\n') {
+        line += strcspn(line, "\n");
+        line += *line == '\n';
+    }
+    line += strncmp(line, "zone ", 5) == 0 ? 5 : 0;
+    snprintf(served->apex, sizeof served->apex, "%.*s", (int)strcspn(line, " \n"), line);
+}
+
+/* Says why a journal is refused. */
+static void log_refused(uint32_t reply, const struct zermuita_zone_report *report, const char text[TEXT_ROOM]) {
+    char why[TEXT_ROOM + 128];
+    int told = report->len <= TEXT_ROOM ? (int)report->len : 0;
+    snprintf(why, sizeof why, "line %zu: %s: %.*s", report->line, zermuita_zone_strerror(reply), told, text);
+    log_failure("journal", why);
+}
+
 /*
  * Opens the zone from its journal. Behind a crash a line that is not finished is cut off, or a replacement. What a crash left there
  * may not be on disk yet, and is to be before anything is answered by it.
@@ -66,37 +89,40 @@ static uint64_t last_moment(const uint8_t *journal, size_t len) {
 static bool open_served(struct served *served) {
     char text[TEXT_ROOM];
     if (fsync(served->journal.fd) != 0) {
-        perror("journal");
+        log_failure("journal", strerror(errno));
         return false;
     }
     for (int tries = 0; tries < 2; tries++) {
         struct zermuita_zone_report report = {.size = sizeof report};
         uint8_t *octets = read_journal(&served->journal);
         if (octets == NULL) {
-            perror("journal");
+            log_failure("journal", strerror(errno));
             return false;
         }
         zermuita_zone_close(&served->zone);
         uint32_t reply = zermuita_zone_open(&served->zone, octets, served->journal.len, (uint8_t *)text, sizeof text, &report);
         if (reply != ZERMUITA_ZONE_DONE) {
-            int told = report.len <= sizeof text ? (int)report.len : 0;
-            fprintf(stderr, "journal, line %zu: %s: %.*s\n", report.line, zermuita_zone_strerror(reply), told, text);
+            log_refused(reply, &report, text);
             free(octets);
             return false;
         }
         bool is_settled = report.settled == report.whole;
         uint64_t last = last_moment(octets, report.settled);
         served->floor = last > served->floor ? last : served->floor;
+        read_apex(served, (const char *)octets);
         free(octets);
-        if (report.settled < served->journal.len && !cut_journal(&served->journal, report.settled)) {
-            perror("journal");
-            return false;
+        if (report.settled < served->journal.len) {
+            LOG("cut", as_number("octets", served->journal.len - report.settled), as_number("left", report.settled));
+            if (!cut_journal(&served->journal, report.settled)) {
+                log_failure("journal", strerror(errno));
+                return false;
+            }
         }
         if (is_settled) {
             return true;
         }
     }
-    fputs("journal: cut at its last whole replacement, it has half of one again\n", stderr);
+    log_failure("journal", "cut at its last whole replacement, it has half of one again");
     return false;
 }
 
@@ -113,11 +139,24 @@ static bool apply_line(struct served *served, const char *line, FILE *said) {
     return reply == ZERMUITA_ZONE_DONE || reply == ZERMUITA_ZONE_UNTOLD;
 }
 
+/* Logs lines that were written behind the journal. */
+static void log_lines(const char *lines, size_t len) {
+    for (const char *line = lines, *end; line < lines + len && (end = strchr(line, '\n')) != NULL; line = end + 1) {
+        char *copy = strndup(line, (size_t)(end - line));
+        if (copy != NULL) {
+            LOG("journal", as_text("line", copy));
+        }
+        free(copy);
+    }
+}
+
 /* Writes lines that were applied behind the journal. Where the disk does not take them, the zone is as the journal has it. */
 static bool keep_lines(struct served *served, const char *lines, size_t len, FILE *said) {
     if (append_lines(&served->journal, lines, len)) {
+        log_lines(lines, len);
         return true;
     }
+    log_failure("journal", strerror(errno));
     fprintf(said, "the journal was not written: %s\n", strerror(errno));
     if (!open_served(served)) {
         exit(EXIT_FAILURE);
@@ -230,16 +269,19 @@ static bool replace_records(struct served *served, const char *path, FILE *said)
 }
 
 /* Begins the journal with the records of a master file. Where that fails it is said why. */
-static bool begin_served(struct served *served, const char *path, const char *chain) {
+static bool begin_served(struct served *served, const char *path, const char *chain, FILE *said) {
     char apex[256] = "", *all = NULL;
     size_t len = 0;
-    char *lines = lines_of(path, apex, "", stderr);
+    char *lines = lines_of(path, apex, "", said);
     FILE *out = lines == NULL ? NULL : open_memstream(&all, &len);
     bool is_whole = out != NULL && fprintf(out, "zone %s %s\n%s", apex, chain, lines) > 0;
     is_whole = out != NULL && fclose(out) == 0 && is_whole;
     bool is_begun = is_whole && begin_journal(&served->journal, served->folder, served->path, all, len);
     if (lines != NULL && !is_begun) {
-        perror(served->path);
+        fprintf(said, "%s: %s\n", served->path, strerror(errno));
+    }
+    if (is_begun) {
+        log_lines(all, len);
     }
     free(all);
     free(lines);
@@ -254,7 +296,8 @@ static bool make_all(struct served *served, uint64_t moment, size_t len) {
         if (!answer_sign(&served->cache, &served->keys, moment, &sign)) {
             if (served->unsigned_at != moment) {
                 served->unsigned_at = moment;
-                fprintf(stderr, "no signature of algorithm %u: is its key missing from %s?\n", sign.algorithm, served->keys.folder);
+                LOG("failure", as_text("what", "signature"), as_text("why", "no key of the folder makes it"),
+                    as_text("folder", served->keys.folder), as_number("algorithm", sign.algorithm));
             }
             return false;
         }
@@ -297,7 +340,7 @@ static size_t write_header(uint8_t *out, const uint8_t *query, size_t len, uint8
 }
 
 /* Answers a query. Gives how many octets of `out` the response has, or 0. */
-static size_t respond(struct served *served, const uint8_t *query, size_t len, bool is_stream) {
+static size_t answer_query(struct served *served, const uint8_t *query, size_t len, bool is_stream) {
     uint64_t moment = answer_moment(served);
     struct zermuita_zone_report report = {.size = sizeof report};
     struct zermuita_request request = {
@@ -313,6 +356,13 @@ static size_t respond(struct served *served, const uint8_t *query, size_t len, b
         return report.len;
     }
     return reply == ZERMUITA_ZONE_NO_RESPONSE ? 0 : write_header(served->out, query, len, 0, 2);
+}
+
+/* The same, counted. */
+static size_t respond(struct served *served, const uint8_t *query, size_t len, bool is_stream) {
+    size_t count = answer_query(served, query, len, is_stream);
+    count_response(&served->counts, is_stream, served->out, count);
+    return count;
 }
 
 #endif
