@@ -345,6 +345,7 @@ static void serve(struct server *server) {
             continue;
         }
         look_at_clock(server);
+        begin_answers(&server->served);
         if (server->polled[0].revents != 0) {
             answer_datagrams(server);
         }
@@ -504,7 +505,6 @@ static void open_folder(struct served *served, const struct options *options) {
     served->keys.folder = served->key_folder;
     served->backdate = (uint32_t)options->backdate;
     served->step = (uint32_t)options->step;
-    served->floor = served->answered = clock_moment(served);
     served->out = malloc(OUT_ROOM);
     served->made = malloc(OUT_ROOM);
     served->cache.places = calloc(CACHE_PLACES, sizeof *served->cache.places);
@@ -512,6 +512,12 @@ static void open_folder(struct served *served, const struct options *options) {
         || !begin_limits(&served->limits, (uint32_t)options->rate) || !open_journal(&served->journal, served->path)) {
         fail(served->path);
     }
+    served->answered_fd = open_answered(options->folder);
+    if (served->answered_fd < 0 || !read_answered(served->answered_fd, &served->answered)) {
+        fail("answered");
+    }
+    uint64_t now = clock_moment(served);
+    served->floor = now > served->answered ? now : served->answered;
     bool is_new = served->journal.len == 0;
     if (is_new) {
         begin_folder(served, options);
@@ -523,6 +529,11 @@ static void open_folder(struct served *served, const struct options *options) {
                 as_text("chain", options->chain));
         }
         exit(EXIT_FAILURE);
+    }
+    /* The moment at which a server starts counts as one of an answer: a folder may have come here without its file. */
+    served->answered = served->floor;
+    if (!note_answered(served->answered_fd, served->answered)) {
+        fail("answered");
     }
 }
 

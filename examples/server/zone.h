@@ -2,6 +2,7 @@
 #ifndef ZONE_H
 #define ZONE_H
 
+#include "answered.h"
 #include "cache.h"
 #include "counts.h"
 #include "journal.h"
@@ -25,8 +26,10 @@ struct served {
     uint32_t backdate; /* everything is of the moment so many seconds before the clock */
     uint32_t step;     /* answers are of moments that are multiples of it, so that signatures serve again */
     uint64_t floor;    /* no moment is before this one */
-    uint64_t answered; /* the last moment of an answer */
-    uint64_t unsigned_at; /* the last moment of which a signature could not be made */
+    uint64_t answered; /* the last moment of an answer, as the file has it */
+    int answered_fd;
+    bool may_answer;
+    uint64_t unsigned_at, unnoted_at; /* the last moments of which a signature could not be made, and which could not be noted */
     uint8_t *out, *made;
 };
 
@@ -42,12 +45,22 @@ static uint64_t line_moment(const struct served *served) {
     return now > served->floor ? now : served->floor;
 }
 
-/* The moment of answers that are given now. */
-static uint64_t answer_moment(struct served *served) {
+/*
+ * Takes the moment of the answers that are given up to the next call. Where it cannot be noted, they are of the last one that was, or
+ * none is given if a line is behind that.
+ */
+static void begin_answers(struct served *served) {
     uint64_t now = clock_moment(served), moment = now - now % served->step;
-    served->floor = moment > served->floor ? moment : served->floor;
-    served->answered = served->floor > served->answered ? served->floor : served->answered;
-    return served->floor;
+    moment = moment > served->floor ? moment : served->floor;
+    if (moment > served->answered) {
+        if (note_answered(served->answered_fd, moment)) {
+            served->floor = served->answered = moment;
+        } else if (moment != served->unnoted_at) {
+            served->unnoted_at = moment;
+            log_failure("answered", strerror(errno));
+        }
+    }
+    served->may_answer = served->answered >= served->floor;
 }
 
 /* The last moment of a journal's calls on keys and replacements: the last word of each. Other lines have none. */
@@ -341,12 +354,15 @@ static size_t write_header(uint8_t *out, const uint8_t *query, size_t len, uint8
 
 /* Answers a query. Gives how many octets of `out` the response has, or 0. */
 static size_t answer_query(struct served *served, const uint8_t *query, size_t len, bool is_stream) {
-    uint64_t moment = answer_moment(served);
+    uint64_t moment = served->answered;
     struct zermuita_zone_report report = {.size = sizeof report};
     struct zermuita_request request = {
         .size = sizeof request, .request = {query, len}, .now = moment + served->backdate, .backdate = served->backdate,
         .stream = is_stream, .limit = UDP_SIZE, .udp_size = UDP_SIZE,
     };
+    if (!served->may_answer) {
+        return write_header(served->out, query, len, 0, 2);
+    }
     uint32_t reply = zermuita_zone_respond(&served->zone, &request, served->out, OUT_ROOM, &report);
     if (reply == ZERMUITA_ZONE_SIGN && make_all(served, moment, report.len)) {
         request.made = (struct zermuita_octets){served->made, report.len};

@@ -219,6 +219,7 @@ static bool answers(struct served *served, const struct query *query, bool is_st
     uint8_t *exact = malloc(query->len > 0 ? query->len : 1); /* so that the sanitizer sees each octet that is read behind it */
     assert(exact != NULL);
     memcpy(exact, query->octets, query->len);
+    begin_answers(served);
     size_t len = respond(served, exact, query->len, is_stream);
     counts[len == 0 ? 16 : served->out[3] & 15]++;
     bool is_right = len == 0 ? query->len < 12 || (query->octets[2] & 0x80) != 0
