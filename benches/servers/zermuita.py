@@ -11,7 +11,7 @@ from served import build  # noqa: E402
 
 
 class Zermuita:
-    """As many servers as there are to be threads, each in a folder of its own, which share a port."""
+    """As many servers as there are to be threads, which share a folder and a port."""
 
     NAME, PORT = "examples/server", 5401
     program = None
@@ -29,25 +29,27 @@ class Zermuita:
         return self.NAME
 
     def __enter__(self):
-        self.count = getattr(Zermuita, "count", 0)
+        Zermuita.count = getattr(Zermuita, "count", 0) + 1
+        folder = self.room / f"server-{Zermuita.count}"
+        (folder / "keys").mkdir(parents=True)
+        (folder / "keys/first.pem").symlink_to(self.room / "key.pem")
         try:
-            for _ in range(self.threads):
-                Zermuita.count = self.count = self.count + 1
-                self.start(self.room / f"server-{self.count}")
+            self.start(folder)
+            roll = "report1 algorithm-roll 0", "wait1 algorithm-roll", "report2 algorithm-roll 0", "wait2 algorithm-roll"
+            for command in ("key csk first", "start algorithm-roll - first", *roll, "done algorithm-roll"):
+                subprocess.run([self.program, "--ctl", folder, *command.split()], check=True, capture_output=True)
+            for _ in range(1, self.threads):
+                self.start(folder)
         except BaseException:
             self.__exit__()
             raise
         return self
 
     def start(self, folder):
-        (folder / "keys").mkdir(parents=True)
-        (folder / "keys/first.pem").symlink_to(self.room / "key.pem")
-        words = [self.program, f"--port={self.PORT}", "--share", "--rate=0", f"--chain={self.chain}", folder, self.room / "zone"]
+        options = "--share", "--rate=0", f"--port={self.PORT}", f"--chain={self.chain}", f"--log={folder}/log"
+        words = [self.program, *options, folder, self.room / "zone"]
         self.processes.append(subprocess.Popen([*map(str, words)], stdout=subprocess.PIPE))
         self.processes[-1].stdout.readline()
-        roll = "report1 algorithm-roll 0", "wait1 algorithm-roll", "report2 algorithm-roll 0", "wait2 algorithm-roll", "done algorithm-roll"
-        for command in ("key csk first", "start algorithm-roll - first", *roll):
-            subprocess.run([self.program, "--ctl", folder, *command.split()], check=True, capture_output=True)
 
     def before_warm(self):
         """Signatures are dropped with their minute: waits for one that lasts."""

@@ -2,7 +2,7 @@
 #ifndef CTL_H
 #define CTL_H
 
-#include "zone.h"
+#include "turns.h"
 
 enum { COMMAND_ROOM = 2048 };
 

@@ -39,10 +39,10 @@ static bool keep_names(const char *folder) {
     return is_kept;
 }
 
-/* Takes a folder for this process, until it ends: two servers would write one journal. */
-static bool take_folder(const char *folder) {
+/* Takes a folder for this process, until it ends: alone, or beside others that share it, too. */
+static bool take_folder(const char *folder, bool is_shared) {
     int fd = open(folder, O_RDONLY | O_DIRECTORY | O_CLOEXEC);
-    return fd >= 0 && flock(fd, LOCK_EX | LOCK_NB) == 0;
+    return fd >= 0 && flock(fd, (is_shared ? LOCK_SH : LOCK_EX) | LOCK_NB) == 0;
 }
 
 /* Opens a journal. `len` is 0 where there is none. */
@@ -71,11 +71,11 @@ static bool begin_journal(struct journal *journal, const char *folder, const cha
     return is_written && rename(next, path) == 0 && keep_names(folder) && open_journal(journal, path);
 }
 
-/* The whole journal, in memory of its own, and an octet 0 behind it. */
-static uint8_t *read_journal(const struct journal *journal) {
-    uint8_t *octets = calloc(1, journal->len + 1);
-    for (size_t at = 0; octets != NULL && at < journal->len;) {
-        ssize_t count = pread(journal->fd, octets + at, journal->len - at, (off_t)at);
+/* So many octets of the journal behind those in front, in memory of their own, and an octet 0 behind them. */
+static uint8_t *read_journal(const struct journal *journal, size_t front, size_t len) {
+    uint8_t *octets = calloc(1, len + 1);
+    for (size_t at = 0; octets != NULL && at < len;) {
+        ssize_t count = pread(journal->fd, octets + at, len - at, (off_t)(front + at));
         if (count <= 0) {
             errno = count < 0 ? errno : EIO; /* it has become shorter */
             free(octets);

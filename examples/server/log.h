@@ -114,6 +114,12 @@ static void log_failure(const char *what, const char *why) {
     LOG("failure", as_text("what", what), as_text("why", why));
 }
 
+/* Ends the server for what failed. */
+static void fail(const char *what) {
+    log_failure(what, strerror(errno));
+    exit(EXIT_FAILURE);
+}
+
 /* Logs a line, whether it was done, and what was said of it. */
 static void log_said(const char *event, const char *line, bool is_done, char *said, uint64_t moment) {
     size_t len = strlen(said);

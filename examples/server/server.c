@@ -56,11 +56,6 @@ static void on_signal(int number) {
     is_told_to_stop = 1;
 }
 
-static void fail(const char *what) {
-    log_failure(what, strerror(errno));
-    exit(EXIT_FAILURE);
-}
-
 /* Seconds by a clock that nobody sets. */
 static time_t seconds(void) {
     struct timespec now;
@@ -107,19 +102,40 @@ static bool socket_in(const char *folder, struct sockaddr_un *at) {
     return len > 0 && (size_t)len < sizeof at->sun_path;
 }
 
+/* A socket for commands; -1 where it cannot be made. */
 static int bound_in(const char *folder) {
     struct sockaddr_un at;
-    if (!socket_in(folder, &at)) {
-        fail(folder);
+    int fd = socket_in(folder, &at) ? socket(AF_UNIX, SOCK_STREAM | SOCK_CLOEXEC, 0) : -1;
+    if (fd < 0) {
+        return -1;
     }
-    int fd = socket(AF_UNIX, SOCK_STREAM | SOCK_CLOEXEC, 0);
     unlink(at.sun_path);
     mode_t mask = umask(077);
-    if (bind(fd, (struct sockaddr *)&at, sizeof at) != 0 || listen(fd, 8) != 0) {
-        fail(at.sun_path);
-    }
+    bool is_bound = bind(fd, (struct sockaddr *)&at, sizeof at) == 0 && listen(fd, 8) == 0;
     umask(mask);
+    if (!is_bound) {
+        int why = errno;
+        close(fd);
+        errno = why;
+        return -1;
+    }
     return fd;
+}
+
+/* Takes commands, if no other server of the folder does. False where there is no socket for them. */
+static bool take_commands(struct server *server) {
+    struct served *served = &server->served;
+    if (server->polled[2].fd >= 0 || !lock_place(served->answered_fd, COMMANDS, F_WRLCK, false)) {
+        return true;
+    }
+    server->polled[2] = (struct pollfd){.fd = bound_in(served->folder), .events = POLLIN};
+    if (server->polled[2].fd < 0) {
+        log_failure("ctl", strerror(errno));
+        lock_place(served->answered_fd, COMMANDS, F_UNLCK, false);
+        return false;
+    }
+    LOG("commands", as_text("folder", served->folder));
+    return true;
 }
 
 /* Lets the way back be any, where it is said which address a datagram came to and thus its reply comes from. */
@@ -274,8 +290,26 @@ static void answer_connections(struct server *server) {
         if (connection == NULL) {
             continue;
         }
-        bool goes_on = polled->revents == 0 || go_on(server, connection, polled);
-        if (!goes_on || seconds() >= connection->until) {
+        if (polled->revents != 0 && !go_on(server, connection, polled)) {
+            close_connection(server, i);
+        }
+    }
+}
+
+/* Answers what has come. */
+static void answer(struct server *server) {
+    begin_answers(&server->served);
+    if (server->polled[0].revents != 0) {
+        answer_datagrams(server);
+    }
+    answer_connections(server);
+    end_turn(&server->served);
+}
+
+/* Closes the connections whose time is over. */
+static void close_late(struct server *server) {
+    for (size_t i = 0; i < CONNECTIONS; i++) {
+        if (server->connections[i] != NULL && seconds() >= server->connections[i]->until) {
             close_connection(server, i);
         }
     }
@@ -313,7 +347,9 @@ static void answer_command(struct server *server) {
     FILE *said = fd >= 0 && read_command(fd, line, sizeof line) ? open_memstream(&text, &len) : NULL;
     if (said != NULL) {
         fputc('-', said);
+        begin_turn(&server->served, F_WRLCK);
         bool is_done = do_command(&server->served, line, said, &server->is_stopping);
+        end_turn(&server->served);
         if (fclose(said) == 0 && setsockopt(fd, SOL_SOCKET, SO_SNDTIMEO, &second, sizeof second) == 0) {
             text[0] = is_done ? '+' : '-';
             send(fd, text, len, MSG_NOSIGNAL);
@@ -326,11 +362,23 @@ static void answer_command(struct server *server) {
     }
 }
 
-/* Does what is due by the clock: waits, each second or, behind one that failed, a minute later, and counts in the log. */
+/* Does what is due each second, or behind a wait or a socket that failed a minute later. */
+static bool look_around(struct server *server) {
+    struct served *served = &server->served;
+    bool is_done = take_commands(server);
+    if (server->polled[2].fd >= 0 && (server->is_auto || served->journal.is_torn)) {
+        begin_turn(served, F_WRLCK);
+        is_done = (!server->is_auto || end_waits(served)) && is_done;
+        end_turn(served);
+    }
+    return is_done;
+}
+
+/* Does what is due by the clock. */
 static void look_at_clock(struct server *server) {
     time_t now = seconds();
-    if (server->is_auto && now >= server->look_at) {
-        server->look_at = now + (end_waits(&server->served) ? 1 : 60);
+    if (now >= server->look_at) {
+        server->look_at = now + (look_around(server) ? 1 : 60);
     }
     if (server->every > 0 && now >= server->count_at) {
         server->count_at = now + server->every;
@@ -341,21 +389,18 @@ static void look_at_clock(struct server *server) {
 static void serve(struct server *server) {
     server->count_at = seconds() + server->every;
     while (!server->is_stopping && !is_told_to_stop) {
-        if (poll(server->polled, FIRST + CONNECTIONS, 1000) < 0) {
-            continue;
+        int count = poll(server->polled, FIRST + CONNECTIONS, 1000);
+        if (count > 0) {
+            answer(server);
+            if (server->polled[1].revents != 0) {
+                accept_connection(server);
+            }
+            if (server->polled[2].revents != 0) {
+                answer_command(server);
+            }
         }
+        close_late(server);
         look_at_clock(server);
-        begin_answers(&server->served);
-        if (server->polled[0].revents != 0) {
-            answer_datagrams(server);
-        }
-        answer_connections(server);
-        if (server->polled[1].revents != 0) {
-            accept_connection(server);
-        }
-        if (server->polled[2].revents != 0) {
-            answer_command(server);
-        }
     }
 }
 
@@ -427,8 +472,7 @@ static void read_keys(struct keys *keys) {
         if (end != NULL && strcmp(end, ".pem") == 0) {
             *end = 0;
             if (key_named(keys, entry->d_name) == NULL) {
-                LOG("failure", as_text("what", "key"), as_text("why", "not readable, not a key that this server signs with, or too many"),
-                    as_text("folder", keys->folder), as_text("key", entry->d_name));
+                log_unread(keys, entry->d_name);
             }
         }
     }
@@ -498,9 +542,11 @@ static void open_folder(struct served *served, const struct options *options) {
         errno = ENAMETOOLONG;
         fail(options->folder);
     }
-    if (!take_folder(options->folder)) {
-        fail(options->folder);
+    if (!take_folder(options->folder, options->is_shared)) {
+        log_failure(options->folder, errno == EWOULDBLOCK ? "another server has it" : strerror(errno));
+        exit(EXIT_FAILURE);
     }
+    served->is_shared = options->is_shared;
     served->folder = options->folder;
     served->keys.folder = served->key_folder;
     served->backdate = (uint32_t)options->backdate;
@@ -508,16 +554,14 @@ static void open_folder(struct served *served, const struct options *options) {
     served->out = malloc(OUT_ROOM);
     served->made = malloc(OUT_ROOM);
     served->cache.places = calloc(CACHE_PLACES, sizeof *served->cache.places);
+    served->answered_fd = open_answered(options->folder);
+    if (served->answered_fd < 0 || (served->is_shared && !take_turn(served->answered_fd, F_WRLCK)) || !read_note(served)) {
+        fail("answered");
+    }
     if (served->out == NULL || served->made == NULL || served->cache.places == NULL
         || !begin_limits(&served->limits, (uint32_t)options->rate) || !open_journal(&served->journal, served->path)) {
         fail(served->path);
     }
-    served->answered_fd = open_answered(options->folder);
-    if (served->answered_fd < 0 || !read_answered(served->answered_fd, &served->answered)) {
-        fail("answered");
-    }
-    uint64_t now = clock_moment(served);
-    served->floor = now > served->answered ? now : served->answered;
     bool is_new = served->journal.len == 0;
     if (is_new) {
         begin_folder(served, options);
@@ -530,11 +574,11 @@ static void open_folder(struct served *served, const struct options *options) {
         }
         exit(EXIT_FAILURE);
     }
-    /* The moment at which a server starts counts as one of an answer: a folder may have come here without its file. */
-    served->answered = served->floor;
-    if (!note_answered(served->answered_fd, served->answered)) {
+    /* Where no moment is noted, that of the start counts as one of an answer: a folder may have come here without its file. */
+    if (served->answered == 0 && !write_note(served, line_moment(served))) {
         fail("answered");
     }
+    end_turn(served);
 }
 
 /* Says that the server answers, to its log and on standard output. */
@@ -589,7 +633,10 @@ int main(int argc, char **argv) {
     open_folder(&server->served, &options);
     server->polled[0] = (struct pollfd){.fd = bound(SOCK_DGRAM, &options), .events = POLLIN};
     server->polled[1] = (struct pollfd){.fd = bound(SOCK_STREAM, &options), .events = POLLIN};
-    server->polled[2] = (struct pollfd){.fd = bound_in(options.folder), .events = POLLIN};
+    server->polled[2].fd = -1;
+    if (!take_commands(server)) {
+        return EXIT_FAILURE;
+    }
     for (size_t i = 0; i < CONNECTIONS; i++) {
         server->polled[FIRST + i].fd = -1;
     }

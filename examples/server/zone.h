@@ -28,7 +28,7 @@ struct served {
     uint64_t floor;    /* no moment is before this one */
     uint64_t answered; /* the last moment of an answer, as the file has it */
     int answered_fd;
-    bool may_answer;
+    bool may_answer, is_shared;
     uint64_t unsigned_at, unnoted_at; /* the last moments of which a signature could not be made, and which could not be noted */
     uint8_t *out, *made;
 };
@@ -43,24 +43,6 @@ static uint64_t clock_moment(const struct served *served) {
 static uint64_t line_moment(const struct served *served) {
     uint64_t now = clock_moment(served);
     return now > served->floor ? now : served->floor;
-}
-
-/*
- * Takes the moment of the answers that are given up to the next call. Where it cannot be noted, they are of the last one that was, or
- * none is given if a line is behind that.
- */
-static void begin_answers(struct served *served) {
-    uint64_t now = clock_moment(served), moment = now - now % served->step;
-    moment = moment > served->floor ? moment : served->floor;
-    if (moment > served->answered) {
-        if (note_answered(served->answered_fd, moment)) {
-            served->floor = served->answered = moment;
-        } else if (moment != served->unnoted_at) {
-            served->unnoted_at = moment;
-            log_failure("answered", strerror(errno));
-        }
-    }
-    served->may_answer = served->answered >= served->floor;
 }
 
 /* The last moment of a journal's calls on keys and replacements: the last word of each. Other lines have none. */
@@ -107,7 +89,7 @@ static bool open_served(struct served *served) {
     }
     for (int tries = 0; tries < 2; tries++) {
         struct zermuita_zone_report report = {.size = sizeof report};
-        uint8_t *octets = read_journal(&served->journal);
+        uint8_t *octets = read_journal(&served->journal, 0, served->journal.len);
         if (octets == NULL) {
             log_failure("journal", strerror(errno));
             return false;
@@ -139,14 +121,14 @@ static bool open_served(struct served *served) {
     return false;
 }
 
-/* Applies a line. What is said of it is written to `said`. */
+/* Applies a line. What is said of it is written to `said`, if that is not null. */
 static bool apply_line(struct served *served, const char *line, FILE *said) {
     char text[TEXT_ROOM];
     struct zermuita_zone_report report = {.size = sizeof report};
     uint32_t reply = zermuita_zone_apply(&served->zone, (const uint8_t *)line, strlen(line), (uint8_t *)text, sizeof text, &report);
-    if (reply == ZERMUITA_ZONE_DONE || reply == ZERMUITA_ZONE_REFUSED) {
+    if (said != NULL && (reply == ZERMUITA_ZONE_DONE || reply == ZERMUITA_ZONE_REFUSED)) {
         fprintf(said, "%.*s%s", report.len <= sizeof text ? (int)report.len : 0, text, report.len > 0 ? "\n" : "");
-    } else {
+    } else if (said != NULL) {
         fprintf(said, "%s\n", zermuita_zone_strerror(reply));
     }
     return reply == ZERMUITA_ZONE_DONE || reply == ZERMUITA_ZONE_UNTOLD;
@@ -193,6 +175,12 @@ static bool accept_line(struct served *served, const char *words, FILE *said) {
     line[len - 1] = '\n';
     served->floor = moment;
     return keep_lines(served, line, (size_t)len, said);
+}
+
+/* Logs that no key was read of a name's file. */
+static void log_unread(const struct keys *keys, const char *name) {
+    LOG("failure", as_text("what", "key"), as_text("why", "not readable, not a key that this server signs with, or too many"),
+        as_text("folder", keys->folder), as_text("key", name));
 }
 
 /* Sees to it that a key's file is on disk, if it is in a file system that has one. */

@@ -228,6 +228,7 @@ static bool answers(struct served *served, const struct query *query, bool is_st
         memcpy(before, served->out, len);
         is_right = respond(served, exact, query->len, is_stream) == len && memcmp(before, served->out, len) == 0;
     }
+    end_turn(served);
     free(exact);
     if (!is_right) {
         show("query", query->octets, query->len);
