@@ -1,3 +1,4 @@
+pub mod Choosing
 pub mod Making
 pub use Rattle.answer_publisher.proofs.WritesAnswer
 pub use Rattle.answer_publisher.proofs.WritesData

@@ -19,8 +19,9 @@ use Rattle.server_signatures.proofs.Signing.{own_entries}
 use Rattle.server_answers.specs.Messages.{Makes}
 use Rattle.server_answers.specs.Answering.{AnswersQueried}
 use Rattle.server_answers.specs.MadeOf.{IsMadeOf, ReadsWhole}
-use Rattle.server_answers.specs.Requests.{IsOrWasNoted}
+use Rattle.server_answers.specs.Moments.{IsOrWasNoted}
 use Rattle.server_answers.specs.Responding.{AnswersHeld, IsMessage, Serving, is_for_keys}
+use Rattle.server_answers.specs.Subset.{AnswersSubset, asks_all}
 use Rattle.server_answers.specs.Unheld.{AnswersUnheld, IsMadeUnheld, IsRefusal, has_answers, is_unheld, reserved}
 use Rattle.server_answers.specs.declared.requests.Response.{Response}
 use Rattle.server_answers.specs.declared.requests.Response.TheVariants as response
@@ -52,7 +53,7 @@ keys_by_table s asked old (Err f) is refused = (refused, refl)
 ok_of : (r : Result Message MessageError) (read : Message) → r ≡ Ok read → IsOk r
 ok_of r read e = subst IsOk (sym e) refl
 
-is_read : (s : Serving) (asked : Asked) (keys dnssec_ok : Bool) (m : List ℕ) → IsMessage s asked keys dnssec_ok m → IsOk (message pointer_limit m)
+pub is_read : (s : Serving) (asked : Asked) (keys dnssec_ok : Bool) (m : List ℕ) → IsMessage s asked keys dnssec_ok m → IsOk (message pointer_limit m)
 is_read s asked true true m h = let spells = (h (sign_by s.table) (verify_by s.table) (own_entries s.table)).1 in ok_of (message pointer_limit m) spells.read spells.reads
 is_read s asked true false m h = ok_of (message pointer_limit m) h.1.read h.1.reads
 is_read s asked false true m h = let spells = (h.0 (sign_by s.table) (verify_by s.table) (own_entries s.table)).1 in ok_of (message pointer_limit m) spells.read spells.reads
@@ -111,8 +112,9 @@ module _ (s : Serving) (q : Queried) (old new : Option ℕ) where
 
 -- ---- by what is asked for
 
-abbrev by_type : Serving → Queried → Option ℕ → Option ℕ → Response → Bool → Type 0
-by_type s q old new r b = MatchBool b (AnswersUnheld s q old new r) (AnswersHeld s q old new r)
+abbrev by_type : Serving → Queried → Option ℕ → Option ℕ → Response → Bool → Bool → Type 0
+by_type s q old new r unheld all = MatchBool unheld (AnswersUnheld s q old new r) (MatchBool all (AnswersSubset s q old new r) (AnswersHeld s q old new r))
 
-pub answered_so : (s : Serving) (q : Queried) (old new : Option ℕ) (r : Response) (b : Bool) → is_unheld s.world.zone.apex q.asked ≡ b → by_type s q old new r b → AnswersQueried s q old new r
-answered_so s q old new r b is k = subst (by_type s q old new r) (sym is) k
+pub answered_so : (s : Serving) (q : Queried) (old new : Option ℕ) (r : Response) (unheld all : Bool) → is_unheld s.world.zone.apex q.asked ≡ unheld → asks_all q.asked ≡ all → by_type s q old new r unheld all → AnswersQueried s q old new r
+answered_so s q old new r unheld all is is_all k =
+    subst (λ (b : Bool). by_type s q old new r b (asks_all q.asked)) (sym is) (subst (by_type s q old new r unheld) (sym is_all) k)

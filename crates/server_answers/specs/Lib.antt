@@ -1,11 +1,13 @@
 pub mod Answering
 pub mod Blank
 pub mod Glued
+pub mod Listed
 pub mod MadeOf
 pub mod Messages
 pub mod Moments
 pub mod Requests
 pub mod Responding
+pub mod Subset
 pub mod Unheld
 pub use Rattle.answer_publisher.specs.World
 pub use Rattle.answer_publisher.specs.Inputs

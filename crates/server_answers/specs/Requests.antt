@@ -1,7 +1,6 @@
 -- What a server answers to a request.
-use Rattle.std.specs.Prelude.{◌≡◌, ◌⊎◌, ℕ, List, Option, Result, Ok, Err, Some, None}
+use Rattle.std.specs.Prelude.{◌≡◌, ℕ, List, Option, Result, Ok, Err, Some, None}
 use Rattle.definitions.specs.Limits.{pointer_limit}
-use Rattle.answer_publisher.specs.Replacing.{noted}
 use Rattle.server_queries.specs.Queries.{Queried, RefusedRequest, query_at}
 use Rattle.server_queries.specs.Replies.{error_octets}
 use Rattle.server_responses.specs.Limits.{size_limit}
@@ -10,10 +9,6 @@ use Rattle.server_answers.specs.Answering.{AnswersQueried}
 use Rattle.server_answers.specs.Responding.{Serving}
 use Rattle.server_answers.specs.declared.requests.Response.{Response}
 use Rattle.server_answers.specs.declared.requests.Response.TheVariants.{Nothing, Reply, Sign}
-
--- the greatest second of an answer stayed, or an answer of a moment was noted
-abbrev pub IsOrWasNoted : ℕ → Option ℕ → Option ℕ → Type 0
-IsOrWasNoted at old new = (new ≡ old) ⊎ (new ≡ noted old at)
 
 -- what answers a refusal: nothing, or a reply
 abbrev pub IsReplyTo : ℕ → Option RefusedRequest → Response → Type 0

@@ -4,9 +4,11 @@
 #![tactic(auto)]
 
 mod blank;
+mod listed;
 mod message;
 pub mod moment;
 pub mod requests;
+mod subset;
 mod unheld;
 
 pub use crate::moment::{DEFAULT_BACKDATE, backdated};

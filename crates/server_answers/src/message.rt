@@ -1,10 +1,12 @@
 //! The message of which a response is made.
-ghost use Rattle.std.specs.Prelude.{◌≡◌, [], false, true};
-ghost use Rattle.answer_publisher.specs.World.{world_of};
+ghost use Rattle.std.specs.Prelude.{◌≡◌, [], false, true, IfErr, IfOk, OnErr, OnOk};
+ghost use Rattle.answer_publisher.specs.Replacing.{noted};
+ghost use Rattle.answer_publisher.specs.World.{RefusesQuestion, world_of};
 ghost use Rattle.messages.specs.Message.{Asked};
 ghost use Rattle.messages.specs.Questions.{asked_of};
 ghost use Rattle.server_answers.specs.Messages.{Makes};
-ghost use Rattle.server_answers.specs.Responding.{is_for_keys, serving};
+ghost use Rattle.server_answers.specs.Responding.{is_for_keys, serving, unsigned};
+ghost use Rattle.server_answers.specs.Subset.{IsBare};
 
 use crate::blank::BlankScheme;
 use answer_publisher::fault::AnswerFault;
@@ -41,7 +43,7 @@ pub(crate) fn message_for<S: Scheme, H: Nsec3Hasher>(
 }
 
 /// The answer to a question for the zone's records.
-fn zone_message<S: Scheme, H: Nsec3Hasher>(
+pub(crate) fn zone_message<S: Scheme, H: Nsec3Hasher>(
     publisher: &mut Publisher<'_, S, H>,
     table: &[MadeSignature<'_>],
     question: &Question,
@@ -61,6 +63,27 @@ fn zone_message<S: Scheme, H: Nsec3Hasher>(
         Ok(message) => Ok(Signed::Message(message)),
         Err(fault) => Err(fault),
     }
+}
+
+/// The answer to a question for the zone's records, with signatures that have no octets.
+pub(crate) fn bare_message<S: Scheme, H: Nsec3Hasher>(
+    publisher: &mut Publisher<'_, S, H>,
+    question: &Question,
+    at: &UnixTime,
+) -> Result<Vec<u8>, AnswerFault>
+    ensures bare { let p = publisher.old in
+        let w = world_of S.signature_of S.verifies S.digest_of H.hash_of p in
+        IfOk result (λ m. IsBare w p.keys at.now (asked_of question.now) m.items) }
+    ensures fault { let p = publisher.old in
+        let w = world_of S.signature_of S.verifies S.digest_of H.hash_of p in
+        let asked = asked_of question.now in
+        IfErr result (RefusesQuestion (unsigned w) p.keys at.now asked) }
+    ensures noted { let latest = noted publisher.old.latest at.now in
+        OnOk result (publisher.new.latest ≡ latest) }
+    ensures refused { OnErr result (publisher.new.latest ≡ publisher.old.latest) }
+    ensures rest { publisher.new ≡ record publisher.old { latest = publisher.new.latest } }
+{
+    publisher.answer_with(&BlankScheme, question, at)
 }
 
 /// The answer to a question for the keys.

@@ -6,14 +6,15 @@ ghost use Rattle.messages.specs.Message.{message};
 ghost use Rattle.messages.specs.Questions.{asked_of};
 ghost use Rattle.server_answers.specs.Glued.{AnswersGlued};
 ghost use Rattle.server_answers.specs.MadeOf.{IsMadeOf, ReadsWhole};
-ghost use Rattle.server_answers.specs.Moments.{backdated};
-ghost use Rattle.server_answers.specs.Requests.{IsOrWasNoted, Responds};
+ghost use Rattle.server_answers.specs.Moments.{IsOrWasNoted, backdated};
+ghost use Rattle.server_answers.specs.Requests.{Responds};
 ghost use Rattle.server_answers.specs.Answering.{AnswersQueried};
 ghost use Rattle.server_answers.specs.Responding.{AnswersHeld, serving};
 ghost use Rattle.server_queries.specs.Views.{queried_of};
 
 use crate::message::message_for;
 use crate::moment::backdated;
+use crate::subset::{answer_subset, asks_all};
 use crate::unheld::{answer_unheld, is_unheld};
 use answer_publisher::fault::AnswerFault;
 use answer_publisher::publishing::Publisher;
@@ -63,10 +64,10 @@ pub(crate) const REFUSED: u16 = 5;
 /// when its signatures begin, and the second that the publisher notes. A request that is no query
 /// is answered as [`read_query`] says. Questions for CNAME, DNAME and NSEC3 records, and but at the
 /// apex for DNSKEY and NSEC3PARAM records, are answered as the zone answers for a type that it does
-/// not hold. Any other question that the publisher does not answer is REFUSED; SERVFAIL says that no
-/// message holds the answer, or that a name has no hash. Without DO nothing is signed. A referral
-/// has its glue among the addresses of the zone (RFC 9471). Where memory is refused, the second may
-/// have been noted.
+/// not hold; questions for ANY and RRSIG with one RRset of the name. Any other question that the
+/// publisher does not answer is REFUSED; SERVFAIL says that no message holds the answer, or that a
+/// name has no hash. Without DO nothing is signed, but for RRSIG. A referral has its glue among the
+/// addresses of the zone (RFC 9471). Where memory is refused, the second may have been noted.
 pub fn respond<S: Scheme, H: Nsec3Hasher>(
     alloc: Global,
     publisher: &mut Publisher<'_, S, H>,
@@ -102,8 +103,8 @@ pub fn respond<S: Scheme, H: Nsec3Hasher>(
     }
 }
 
-/// Answers a query at a moment, by what the zone holds, or by what it says of a type that it does
-/// not hold.
+/// Answers a query at a moment: by what the zone holds, by what it says of a type that it does not
+/// hold, or by one RRset where all are asked for.
 fn answer_query<S: Scheme, H: Nsec3Hasher>(
     alloc: Global,
     publisher: &mut Publisher<'_, S, H>,
@@ -126,6 +127,11 @@ fn answer_query<S: Scheme, H: Nsec3Hasher>(
     let question = question_of(alloc, query)?;
     if is_unheld(publisher.apex(), &question) {
         return answer_unheld(
+            alloc, publisher, addresses, table, query, question, at, limit, udp_size,
+        );
+    }
+    if asks_all(&question) {
+        return answer_subset(
             alloc, publisher, addresses, table, query, question, at, limit, udp_size,
         );
     }

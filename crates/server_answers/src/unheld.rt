@@ -3,7 +3,7 @@ ghost use Rattle.std.specs.Prelude.{◌≡◌, IfOk, OnErr, slice_index};
 ghost use Rattle.answer_publisher.specs.World.{world_of};
 ghost use Rattle.messages.specs.Questions.{asked_of};
 ghost use Rattle.server_answers.specs.MadeOf.{ReadsWhole};
-ghost use Rattle.server_answers.specs.Requests.{IsOrWasNoted};
+ghost use Rattle.server_answers.specs.Moments.{IsOrWasNoted};
 ghost use Rattle.server_answers.specs.Responding.{serving};
 ghost use Rattle.server_answers.specs.Unheld.{AnswersUnheld, IsMadeUnheld, has_answers, is_held, is_unheld, reserved};
 ghost use Rattle.server_queries.specs.Views.{queried_of};
@@ -25,7 +25,7 @@ use server_signatures::{MadeSignature, Signed};
 use std::alloc::{AllocError, Global};
 
 /// A type that is reserved, so that no zone should hold a record of it (RFC 6895, 3.1).
-const RESERVED: u16 = 65535;
+pub(crate) const RESERVED: u16 = 65535;
 
 /// Whether a question is for a type of which an accepted zone holds no record at its name: CNAME,
 /// DNAME and NSEC3, DNSKEY but at the apex, and NSEC3PARAM but at the apex. NSEC3 records are
@@ -113,14 +113,14 @@ fn is_held(made: &Result<Signed, AnswerFault>) -> bool
 }
 
 /// Whether a message counts records in its answer section (RFC 1035, 4.1.1).
-fn has_answers(message: &[u8]) -> bool
+pub(crate) fn has_answers(message: &[u8]) -> bool
     ensures { result ≡ has_answers message.now }
 {
     octet_at(message, 6) > 0 || octet_at(message, 7) > 0
 }
 
 /// The octet at a place, 0 where it is not there.
-fn octet_at(octets: &[u8], at: usize) -> u8
+pub(crate) fn octet_at(octets: &[u8], at: usize) -> u8
     ensures { result ≡ slice_index octets.now at }
 {
     if at < octets.len() { octets[at] } else { 0 }

@@ -1,9 +1,9 @@
--- A judge says of a response to a question for a type that no zone holds what it says of the message for the reserved type.
-use Rattle.std.proofs.Common.{◌≡◌, ℕ, ◌≤◌, ◌<◌, Bool, true, false, ◌||◌, List, [], ◌++◌, length, map, Ok, eqb, refl, sym, subst, ap, ◌∙◌, ⊎_elim, arith, lit<}
+-- A judge says of a response to a question for a type that no zone holds, or for all types, what it says of the message for the type in its place.
+use Rattle.std.proofs.Common.{◌≡◌, ℕ, ◌≤◌, ◌<◌, Bool, true, false, ◌||◌, List, [], ◌∷◌, ◌++◌, length, map, Ok, eqb, refl, sym, subst, ap, ◌∙◌, ⊎_elim, arith, lit<}
 use Rattle.std.specs.List.{AllByRecursion}
 use Rattle.std.proofs.lemmas.Bool.{eqb-true}
 use Rattle.definitions.specs.Limits.{pointer_limit}
-use Rattle.messages.specs.HandedRr.{HandedRr}
+use Rattle.messages.specs.HandedRr.{HandedRr, among}
 use Rattle.messages.specs.Message.{Asked, Message, Spelled, message}
 use Rattle.messages.specs.Written.{Written}
 use Rattle.messages.specs.WrittenLaws.{IsQuestion}
@@ -14,6 +14,7 @@ use Rattle.answer_judge_facts.specs.Judged.{judged}
 use Rattle.server_answers.specs.Composed.{joined}
 use Rattle.server_answers.specs.Glue.{IsAddress, glue}
 use Rattle.server_answers.specs.Responding.{IsMessage, Serving}
+use Rattle.server_answers.specs.Subset.{IsSubset, for_type, wants_signatures}
 use Rattle.server_answers.specs.Unheld.{IsDenied, reserved}
 use Rattle.server_answers.specs.Table.{sign_by, verify_by}
 use Rattle.server_answers.specs.World.{AnswersQuestion}
@@ -21,9 +22,10 @@ use Rattle.server_answers.proofs.Signing.{own_entries}
 use Rattle.server_queries.specs.Queries.{Queried}
 use Rattle.server_responses.specs.Responses.{AnswersQuery, is_dnssec_ok, response_of}
 use Rattle.server_responses.specs.Sections.{written_as_handed}
-use Rattle.server_laws.specs.Heard.{DenialsJudgedAlike, HoldsAll, IsWhole, is_truncated}
+use Rattle.server_laws.specs.Heard.{DenialsJudgedAlike, HoldsAll, IsWhole, SubsetsJudgedAlike, is_truncated}
 use Rattle.server_laws.proofs.Alone.{SignsOther}
 use Rattle.server_laws.proofs.AnyQuestion.{any_alike, any_uncovered}
+use Rattle.server_laws.proofs.Chosen.{chosen_plain}
 use Rattle.server_laws.proofs.Heard.{AreBare, alone, bare, by_table, hold_all, ok_is, opt_unjudged, told, unjudged, unused_all}
 use Rattle.server_laws.proofs.Shown.{IsAlone, IsUnused, in_message, message_read, none_covers, shown_message, spelled_all, whole, whole_reads, whole_used, whole_where_clear}
 
@@ -93,30 +95,37 @@ module _ (flags : ℕ) (asked : Asked) (first second : List Written) (m : List �
 
 -- ---- by a server
 
-abbrev reserving : Queried → Queried
-reserving q = record q { asked = reserved q.asked }
+-- the query for another type
+abbrev typing : ℕ → Queried → Queried
+typing t q = record q { asked = for_type t q.asked }
 
-module _ (s : Serving) (q : Queried) (octets : List ℕ) (h : HoldsAll s q octets) (m : List ℕ) where
-  of_reserved : IsWhole s (reserving q) octets
-  of_reserved = record {
+module _ (s : Serving) (q : Queried) (octets : List ℕ) (h : HoldsAll s q octets) (t : ℕ) (small : t < 65536) (plain : among (46 ∷ 47 ∷ 50 ∷ []) t ≡ false) (m : List ℕ) where
+  of_type : IsWhole s (typing t q) octets
+  of_type = record {
     zone = h.zone;
-    asked = record { name = h.asked.name; rtype = lit< tt; class = h.asked.class };
-    plain = refl;
+    asked = record { name = h.asked.name; rtype = small; class = h.asked.class };
+    plain = plain;
     wanted = h.wanted;
     limit = h.limit;
     size = h.size;
     whole = h.whole;
   }
 
-  denial_judged : AnswersQuestion (by_table s (reserving q) octets of_reserved m) s.keys s.at (reserved q.asked) m → AllByRecursion IsAddress (glue s.addresses m) → AnswersQuery s.limit s.size q m (glue s.addresses m) octets
+  typed_judged : AnswersQuestion (by_table s (typing t q) octets of_type m) s.keys s.at (for_type t q.asked) m → AllByRecursion IsAddress (glue s.addresses m) → AnswersQuery s.limit s.size q m (glue s.addresses m) octets
       → (a : Answers) (j : JudgeInput) → j.other_question ≡ true → judged a pointer_limit (record j { answer_bytes = octets }) ≡ judged a pointer_limit (record j { answer_bytes = m })
-  denial_judged is each answers =
-      let said = told s (reserving q) octets of_reserved m is in
-      response_judged (flags_for said) (reserved q.asked) (joined is.written.answers) (joined is.written.authorities) m s.limit s.size q
-      (alone s (reserving q) octets of_reserved m is) h.size h.limit h.asked h.wanted (glue s.addresses m) each (bare s (reserving q) octets of_reserved m is said refl)
+  typed_judged is each answers =
+      let said = told s (typing t q) octets of_type m is in
+      response_judged (flags_for said) (for_type t q.asked) (joined is.written.answers) (joined is.written.authorities) m s.limit s.size q
+      (alone s (typing t q) octets of_type m is) h.size h.limit h.asked h.wanted (glue s.addresses m) each (bare s (typing t q) octets of_type m is said refl)
       octets h.whole answers
 
 pub denials_judged : DenialsJudgedAlike
 denials_judged s q old new octets h d =
     let made = subst (λ (b : Bool). IsMessage s (reserved q.asked) false b d.0.m) h.wanted d.0.is_message in
-    denial_judged s q octets h d.0.m (made.0 (sign_by s.table) (verify_by s.table) (own_entries s.table)).0 d.1.each d.1.answers
+    typed_judged s q octets h 65535 (lit< tt) refl d.0.m (made.0 (sign_by s.table) (verify_by s.table) (own_entries s.table)).0 d.1.each d.1.answers
+
+pub subsets_judged : SubsetsJudgedAlike
+subsets_judged s q old new octets h d small =
+    let signs : wants_signatures q ≡ true = ap (λ b. b || eqb q.asked.rtype 46) h.wanted in
+    let made = subst (λ (b : Bool). IsMessage s (for_type d.t q.asked) false b d.m) signs d.is_message in
+    typed_judged s q octets h d.t small (chosen_plain s.world s.keys s.at q.asked d.t d.chosen) d.m (made.0 (sign_by s.table) (verify_by s.table) (own_entries s.table)).0 d.answers.each d.answers.answers

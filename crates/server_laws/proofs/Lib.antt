@@ -5,4 +5,5 @@ pub mod ZoneGroups
 pub mod Shown
 pub mod Heard
 pub mod AnyQuestion
+pub mod Chosen
 pub mod Denied

@@ -1,5 +1,5 @@
 //! Laws of the responses of a name server.
-ghost use Rattle.server_laws.specs.Heard.{ClientsAreTold, DenialsJudgedAlike, ResponsesJudgedAlike};
+ghost use Rattle.server_laws.specs.Heard.{ClientsAreTold, DenialsJudgedAlike, ResponsesJudgedAlike, SubsetsJudgedAlike};
 ghost use Rattle.server_laws.specs.Unheld.{AbsentAnsweredAlike, UnheldAnsweredAlike};
 
 /// A judge says of a whole response to a query that wants records of DNSSEC what it says of the
@@ -19,6 +19,13 @@ pub fn responses_are_judged_alike()
 /// says of that message.
 pub fn denials_are_judged_alike()
     ensures { DenialsJudgedAlike }
+{}
+
+/// A response to a question for all records of a name, or for all signatures there, is made of the
+/// zone's message for one type: of such a response, whole and with records of DNSSEC, a judge that
+/// takes an answer to another question says what it says of that message.
+pub fn subsets_are_judged_alike()
+    ensures { SubsetsJudgedAlike }
 {}
 
 /// So the verdict reaches the clients of a name server: from the whole responses to two queries,

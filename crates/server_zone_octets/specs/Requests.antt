@@ -5,8 +5,8 @@ use Rattle.messages.specs.HandedRr.{HandedRr}
 use Rattle.answer_judge_octets.specs.Written.{IsList}
 use Rattle.server_answers.specs.World.{World}
 use Rattle.answer_publisher_keys.specs.Bindings.{ZoneKeys}
-use Rattle.server_answers.specs.Moments.{backdated}
-use Rattle.server_answers.specs.Requests.{IsOrWasNoted, Responds}
+use Rattle.server_answers.specs.Moments.{IsOrWasNoted, backdated}
+use Rattle.server_answers.specs.Requests.{Responds}
 use Rattle.server_answers.specs.Responding.{Serving, serving}
 use Rattle.server_answers.specs.declared.requests.Response.{Response}
 use Rattle.server_answers.specs.declared.requests.Response.TheVariants as response

@@ -1,0 +1,166 @@
+-- Messages for the type that is chosen where all are asked for, and what becomes of them.
+use Rattle.std.proofs.Common.{◌≡◌, ◌∙◌, ℕ, ◌+◌, ◌<◌, ◌≤◌, Bool, true, false, List, [], ◌∷◌, Vec, length, drop, get_or, max, refl, sym, ap, subst, inl, inr, arith}
+use Rattle.std.specs.declared.alloc.Global.{Global}
+use Rattle.std.specs.Prelude.{◌≢◌, ◌↔◌, MatchBool, Option, Some, None, Result, Ok, Err, IfErr, IfOk, IsErrOf, OnErr, OnOk}
+use Rattle.std.specs.Result.{is_err}
+use Rattle.std.proofs.lemmas.Bool.{false≢true}
+use Rattle.std.proofs.lemmas.List.{drop_all, drop_more}
+use Rattle.definitions.specs.Name.{Name}
+use Rattle.messages.specs.Message.{Asked}
+use Rattle.messages.specs.Questions.{asked_of}
+use Rattle.messages.specs.declared.question.Question.{Question}
+use Rattle.answer_publisher_keys.specs.Bindings.{ZoneKeys}
+use Rattle.answer_publisher.specs.Inputs.{Input}
+use Rattle.answer_publisher.specs.Replacing.{later, noted, whole_second}
+use Rattle.answer_publisher.specs.World.{RefusesQuestion, World}
+use Rattle.answer_publisher.specs.declared.fault.AnswerFault.{AnswerFault}
+use Rattle.answer_publisher.specs.declared.fault.AnswerFault.TheVariants as fault
+use Rattle.answer_publisher.specs.declared.publishing.Publisher.{Publisher}
+use Rattle.server_queries.specs.Queries.{Queried}
+use Rattle.server_signatures.specs.declared.answering.Signed.{Signed}
+use Rattle.server_signatures.specs.declared.answering.Signed.TheVariants as signed
+use Rattle.server_answers.specs.Listed.{listed}
+use Rattle.server_answers.specs.MadeOf.{IsMadeOf, ReadsWhole}
+use Rattle.server_answers.specs.Messages.{Makes}
+use Rattle.server_answers.specs.Moments.{IsOrWasNoted}
+use Rattle.server_answers.specs.Responding.{Serving, unsigned}
+use Rattle.server_answers.specs.Subset.{AnswersSubset, IsBare, IsChosen, IsFirst, IsHeld, MakesSubset, for_type, is_memory, is_no_data, wants_signatures}
+use Rattle.server_answers.specs.Unheld.{has_answers}
+use Rattle.server_answers.specs.declared.requests.Response.{Response}
+use Rattle.server_answers.specs.declared.requests.Response.TheVariants as response
+use Rattle.server_answers.proofs.Making.{is_read, rest_of}
+
+-- ---- moments that are noted again
+
+max_again : (m n : ℕ) → max (max m n) n ≡ max m n
+max_again m n = omega arith
+
+max_itself : (n : ℕ) → max n n ≡ n
+max_itself n = omega arith
+
+pub noted_again : (l : Option ℕ) (at : ℕ) → noted (noted l at) at ≡ noted l at
+noted_again None at = ap Some (max_itself (whole_second at))
+noted_again (Some l) at = ap Some (max_again l (whole_second at))
+
+-- what was noted, noted once more or not
+pub still_noted : (at : ℕ) (old mid new : Option ℕ) → mid ≡ noted old at → new ≡ noted mid at → new ≡ noted old at
+still_noted at old mid new e f = f ∙ ap (λ l. noted l at) e ∙ noted_again old at
+
+-- ---- publishers
+
+-- of which nothing but the latest second is another, and that neither
+pub same_publisher : {S H : Type 0} (p q : Publisher S H) → q ≡ record p { latest = q.latest } → q.latest ≡ p.latest → q ≡ p
+same_publisher p q e f = e ∙ ap (λ (l : Option ℕ). record p { latest = l }) f
+
+pub rest_either : {S H T E : Type 0} (p q : Publisher S H) (l : Option ℕ) (r : Result T E) → OnOk r (q ≡ record p { latest = l }) → OnErr r (q ≡ p) → q ≡ record p { latest = q.latest }
+rest_either p q l (Ok x) e f = rest_of p q l e
+rest_either p q l (Err x) e f = rest_of p q p.latest f
+
+pub latest_ok : {S H T E : Type 0} (p q : Publisher S H) (l : Option ℕ) (r : Result T E) → OnOk r (q ≡ record p { latest = l }) → OnOk r (q.latest ≡ l)
+latest_ok p q l (Ok x) e = ap (λ x. x.latest) e
+latest_ok p q l (Err x) e = tt
+
+pub latest_err : {S H T E : Type 0} (p q : Publisher S H) (r : Result T E) → OnErr r (q ≡ p) → OnErr r (q.latest ≡ p.latest)
+latest_err p q (Ok x) e = tt
+latest_err p q (Err x) e = ap (λ x. x.latest) e
+
+-- ---- messages without signatures
+
+pub bare_by : (r : Result (Vec ℕ Global) AnswerFault) (allowed : Bool) (P Q : List ℕ → Type 0) → (IsErrOf r fault.QuestionNotAllowed ↔ (allowed ≡ false)) → IfOk r (λ m. P m.items) → IfOk r (λ m. Q m.items)
+    → IfOk r (λ m. (allowed ≡ true) × P m.items × Q m.items)
+bare_by (Ok m) true P Q iff p q = (refl, p, q)
+bare_by (Ok m) false P Q iff p q = absurd (false≢true (ap is_err (iff.1 refl)))
+bare_by (Err f) allowed P Q iff p q = tt
+
+pub other_fault : (f : AnswerFault) → is_memory f ≡ false → f ≢ fault.Memory
+other_fault f other e = false≢true (sym other ∙ ap is_memory e)
+
+module _ (w : World) (keys : ZoneKeys) (at : ℕ) where
+  pub held_by : (a : Asked) (m : List ℕ) → IsBare w keys at a m → (b : Bool) → has_answers m ≡ b → IsHeld w keys at a b
+  held_by a m bare true e = (m, bare, e)
+  held_by a m bare false e = inl (m, bare, e)
+
+  pub not_held : (a : Asked) (f : AnswerFault) → RefusesQuestion (unsigned w) keys at a f → is_memory f ≡ false → IsHeld w keys at a false
+  not_held a f refuses other = inr (f, refuses, other_fault f other)
+
+  -- ---- the first of some types
+
+  abbrev pub FirstOf : Asked → List ℕ → List ℕ → Type 0
+  FirstOf a left all = (t : ℕ) → IsFirst w keys at a left t → IsFirst w keys at a all t
+
+  abbrev pub held_asked : Name → ℕ → ℕ → Asked
+  held_asked name u class = record { name = name; rtype = u; class = class }
+
+  module _ (q r : Question Name) (us : List ℕ) (i u : ℕ) (inside : i < length us) (is : u ≡ get_or us i u) (first : FirstOf (asked_of q) (drop i us) us) (name : r.name ≡ q.name) (class : r.class ≡ q.class) where
+    at_place : drop i us ≡ u ∷ drop (i + 1) us
+    at_place = drop_more us i u inside ∙ ap (λ (v : ℕ). v ∷ drop (i + 1) us) (sym is)
+
+    same_question : (b : Bool) → IsHeld w keys at (held_asked r.name u r.class) b → IsHeld w keys at (for_type u (asked_of q)) b
+    same_question b held = subst (λ (a : Asked). IsHeld w keys at a b) (λ j. record { name = name j; rtype = u; class = class j }) held
+
+    pub is_first : (b : Bool) → IsHeld w keys at (held_asked r.name u r.class) b → b ≡ true → IsFirst w keys at (asked_of q) us u
+    is_first b held e =
+        first u (subst (λ (vs : List ℕ). IsFirst w keys at (asked_of q) vs u) (sym at_place)
+        (true, subst (IsHeld w keys at (for_type u (asked_of q))) e (same_question b held), refl))
+
+    pub passed : (b : Bool) → IsHeld w keys at (held_asked r.name u r.class) b → b ≡ false → FirstOf (asked_of q) (drop (i + 1) us) us
+    passed b held e t rest =
+        first t (subst (λ (vs : List ℕ). IsFirst w keys at (asked_of q) vs t) (sym at_place)
+        (false, subst (IsHeld w keys at (for_type u (asked_of q))) e (same_question b held), rest))
+
+  pub none_first : (a : Asked) (us : List ℕ) (i t : ℕ) → length us ≤ i → FirstOf a (drop i us) us → t ≡ 65535 → IsFirst w keys at a us t
+  none_first a us i t past first e = first t (subst (λ (vs : List ℕ). IsFirst w keys at a vs t) (sym (drop_all i us past)) e)
+
+  -- ---- the type that is chosen
+
+  module _ (a : Asked) (x : ℕ) (m : List ℕ) (reserved : x ≡ 65535) (bare : IsBare w keys at (for_type x a) m) where
+    there : IsBare w keys at (for_type 65535 a) m
+    there = subst (λ (t : ℕ). IsBare w keys at (for_type t a) m) reserved bare
+
+    pub chosen_none : is_no_data m ≡ false → IsChosen w keys at a x
+    chosen_none none = (m, there, subst (λ (b : Bool). MatchBool b (IsFirst w keys at (for_type 65535 a) (listed m) x) (x ≡ 65535)) (sym none) reserved)
+
+    pub chosen_first : (us : List ℕ) (t : ℕ) → is_no_data m ≡ true → us ≡ listed m → IsFirst w keys at (for_type x a) us t → IsChosen w keys at a t
+    chosen_first us t none same first =
+        let here : IsFirst w keys at (for_type 65535 a) us t = subst (λ (k : ℕ). IsFirst w keys at (for_type k a) us t) reserved first in
+        let all : IsFirst w keys at (for_type 65535 a) (listed m) t = subst (λ (vs : List ℕ). IsFirst w keys at (for_type 65535 a) vs t) same here in
+        (m, there, subst (λ (b : Bool). MatchBool b (IsFirst w keys at (for_type 65535 a) (listed m) t) (t ≡ 65535)) (sym none) all)
+
+-- ---- what is made for it
+
+pub subset_made : (s : Serving) (a : Asked) (t : ℕ) (signs : Bool) (old mid new : Option ℕ) (r : Result Signed AnswerFault) → IsChosen s.world s.keys s.at a t → mid ≡ noted old s.at → Makes s (for_type t a) false signs mid new r
+    → MakesSubset s a signs old new r
+subset_made s a t signs old mid new (Ok (signed.Message m)) chosen was h = (t, chosen, h.0, still_noted s.at old mid new was h.1)
+subset_made s a t signs old mid new (Ok (signed.Missing v)) chosen was h = (t, chosen, h.0, h.1, h.2, h.3 ∙ was)
+subset_made s a t signs old mid new (Err f) chosen was h = (inr (h.1 ∙ was), λ other. inr (t, chosen, h.0))
+
+pub subset_unmade : (s : Serving) (a : Asked) (signs : Bool) (old new : Option ℕ) (f : AnswerFault) → (f ≢ fault.Memory → RefusesQuestion (unsigned s.world) s.keys s.at (for_type 65535 a) f) → IsOrWasNoted s.at old new
+    → MakesSubset s a signs old new (Err f)
+subset_unmade s a signs old new f refuses was = (was, λ other. inl (refuses other))
+
+-- ---- what becomes of it
+
+module _ (s : Serving) (a : Asked) (signs : Bool) (old new : Option ℕ) where
+  pub subset_reads : (r : Result Signed AnswerFault) → MakesSubset s a signs old new r → IfOk r ReadsWhole
+  subset_reads (Ok (signed.Message m)) h = is_read s (for_type h.0 a) false signs m.items h.2
+  subset_reads (Ok (signed.Missing v)) h = tt
+  subset_reads (Err f) h = tt
+
+  pub subset_was : (r : Result Signed AnswerFault) → MakesSubset s a signs old new r → IsOrWasNoted s.at old new
+  subset_was (Ok (signed.Message m)) h = inr h.3
+  subset_was (Ok (signed.Missing v)) h = inr h.5
+  subset_was (Err f) h = h.0
+
+module _ (s : Serving) (q : Queried) (old new : Option ℕ) where
+  pub subset_answered : (made : Result Signed AnswerFault) (r : Response) → MakesSubset s q.asked (wants_signatures q) old new made → IsMadeOf s.limit s.size q s.addresses made r → AnswersSubset s q old new r
+  subset_answered (Ok (signed.Message m)) (response.Reply v) h k = inl (record { t = h.0; chosen = h.1; m = m.items; is_message = h.2; answers = k; noted_is = h.3 })
+  subset_answered (Ok (signed.Message m)) response.Nothing h k = absurd k
+  subset_answered (Ok (signed.Message m)) (response.Sign v) h k = absurd k
+  subset_answered (Ok (signed.Missing inputs)) (response.Sign v) h k =
+      let is : v.items ≡ inputs.items = ap (λ x. x.items) k in
+      (h.0, h.1, h.2, is ∙ h.3, subst (λ (l : List Input). 0 < length l) (sym is) h.4, h.5)
+  subset_answered (Ok (signed.Missing inputs)) response.Nothing h k = absurd k
+  subset_answered (Ok (signed.Missing inputs)) (response.Reply v) h k = absurd k
+  subset_answered (Err f) (response.Reply v) h k = inr (record { f = f; unchosen = h.1 k.0; enough_memory = k.0; octets_are = k.1; noted_is = h.0 })
+  subset_answered (Err f) response.Nothing h k = absurd k
+  subset_answered (Err f) (response.Sign v) h k = absurd k
