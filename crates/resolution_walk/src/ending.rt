@@ -75,6 +75,7 @@ pub(crate) enum Uncut {
 }
 
 impl Uncut {
+    /// How often was verified and hashed so far.
     pub(crate) fn counts(self) -> Counts
         ensures { result ≡ counts_of self }
     {
