@@ -1,7 +1,7 @@
 -- Messages for the type that is chosen where all are asked for, and what becomes of them.
 use Rattle.std.proofs.Common.{◌≡◌, ◌∙◌, ℕ, ◌+◌, ◌<◌, ◌≤◌, Bool, true, false, List, [], ◌∷◌, Vec, length, drop, get_or, max, refl, sym, ap, subst, inl, inr, arith}
 use Rattle.std.specs.declared.alloc.Global.{Global}
-use Rattle.std.specs.Prelude.{◌≢◌, ◌↔◌, MatchBool, Option, Some, None, Result, Ok, Err, IfErr, IfOk, IsErrOf, OnErr, OnOk}
+use Rattle.std.specs.Prelude.{◌≢◌, ◌↔◌, MatchBool, Option, Some, None, Result, Ok, Err, IfOk, IsErrOf, OnErr, OnOk}
 use Rattle.std.specs.Result.{is_err}
 use Rattle.std.proofs.lemmas.Bool.{false≢true}
 use Rattle.std.proofs.lemmas.List.{drop_all, drop_more}
@@ -11,7 +11,7 @@ use Rattle.messages.specs.Questions.{asked_of}
 use Rattle.messages.specs.declared.question.Question.{Question}
 use Rattle.answer_publisher_keys.specs.Bindings.{ZoneKeys}
 use Rattle.answer_publisher.specs.Inputs.{Input}
-use Rattle.answer_publisher.specs.Replacing.{later, noted, whole_second}
+use Rattle.answer_publisher.specs.Replacing.{noted, whole_second}
 use Rattle.answer_publisher.specs.World.{RefusesQuestion, World}
 use Rattle.answer_publisher.specs.declared.fault.AnswerFault.{AnswerFault}
 use Rattle.answer_publisher.specs.declared.fault.AnswerFault.TheVariants as fault

@@ -12,7 +12,7 @@ use Rattle.server_signatures.specs.declared.answering.Signed.TheVariants.{Messag
 use Rattle.server_answers.specs.Glued.{AnswersGlued}
 use Rattle.server_answers.specs.Responding.{rcode_of}
 use Rattle.server_answers.specs.declared.requests.Response.{Response}
-use Rattle.server_answers.specs.declared.requests.Response.TheVariants.{Nothing, Reply, Sign}
+use Rattle.server_answers.specs.declared.requests.Response.TheVariants.{Reply, Sign}
 
 -- a message that reads; what is missing has none
 abbrev pub ReadsWhole : Signed → Type 0

@@ -8,7 +8,7 @@ use Rattle.server_responses.specs.declared.transport.Transport.{Transport}
 use Rattle.server_answers.specs.Answering.{AnswersQueried}
 use Rattle.server_answers.specs.Responding.{Serving}
 use Rattle.server_answers.specs.declared.requests.Response.{Response}
-use Rattle.server_answers.specs.declared.requests.Response.TheVariants.{Nothing, Reply, Sign}
+use Rattle.server_answers.specs.declared.requests.Response.TheVariants.{Nothing, Reply}
 
 -- what answers a refusal: nothing, or a reply
 abbrev pub IsReplyTo : ℕ → Option RefusedRequest → Response → Type 0

@@ -14,8 +14,8 @@ use Rattle.answer_judge_facts.specs.Judged.{judged}
 use Rattle.server_answers.specs.Composed.{joined}
 use Rattle.server_answers.specs.Glue.{IsAddress, glue}
 use Rattle.server_answers.specs.Responding.{IsMessage, Serving}
-use Rattle.server_answers.specs.Subset.{IsSubset, for_type, wants_signatures}
-use Rattle.server_answers.specs.Unheld.{IsDenied, reserved}
+use Rattle.server_answers.specs.Subset.{for_type, wants_signatures}
+use Rattle.server_answers.specs.Unheld.{reserved}
 use Rattle.server_answers.specs.Table.{sign_by, verify_by}
 use Rattle.server_answers.specs.World.{AnswersQuestion}
 use Rattle.server_answers.proofs.Signing.{own_entries}

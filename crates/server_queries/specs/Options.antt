@@ -1,6 +1,6 @@
 -- OPT records (RFC 6891, 6.1): the class is a size, and the TTL has eight bits of a response code, eight of the version, DO
 -- (RFC 3225) and fifteen of no meaning.
-use Rattle.std.specs.Prelude.{ℕ, ◌/◌, ◌%◌, Bool, true, false, List, [], ◌∷◌, Option, Some, None, Result, Ok, Err, filter, max, nat_eq}
+use Rattle.std.specs.Prelude.{◌/◌, ◌%◌, Bool, true, false, List, [], ◌∷◌, Option, Some, None, Result, Ok, Err, filter, max, nat_eq}
 use Rattle.std.specs.List.{list_any}
 use Rattle.definitions.specs.Name.{Name}
 use Rattle.messages.specs.Message.{Spelled}

@@ -2,7 +2,7 @@
 use Rattle.std.specs.Prelude.{ℕ, ◌+◌, ◌*◌, ◌/◌, ◌%◌, Bool, true, false, List, [], ◌∷◌, ◌++◌, Option, Some, None}
 use Rattle.std.specs.Int.{w16, w32, to_be_bytes}
 use Rattle.messages.specs.Message.{Asked}
-use Rattle.messages.specs.Written.{question_octets, record_octets, written}
+use Rattle.messages.specs.Written.{question_octets, written}
 use Rattle.server_queries.specs.Headers.{opcode_of}
 use Rattle.server_queries.specs.Queries.{RefusedRequest}
 use Rattle.server_queries.specs.Rcodes.{rcode_number}

@@ -2,7 +2,7 @@
 ghost use Rattle.std.specs.Prelude.{◌≡◌, ◌++◌, ◌+◌, ◌≤◌, length, drop, map, slice_index, take};
 ghost use Rattle.std.specs.Prelude.{OnOk, IfOk};
 ghost use Rattle.std.specs.List.{flat_map};
-ghost use Rattle.messages.specs.Message.{quad, pair};
+ghost use Rattle.messages.specs.Message.{pair};
 ghost use Rattle.messages.specs.Record.{spelled};
 ghost use Rattle.messages.specs.Written.{record_octets};
 ghost use Rattle.server_responses.specs.Sections.{all_shown, answer_section, authority_section};

@@ -1,7 +1,7 @@
 //! Parts of a response as they are written (RFC 1035, 4.1; RFC 6891, 6.1).
 //!
 //! Where memory runs out, a part may have been written in part: callers then drop the response.
-ghost use Rattle.std.specs.Prelude.{◌≡◌, ◌++◌, ◌+◌, ◌<◌, ◌≤◌, length, OnOk, IfOk};
+ghost use Rattle.std.specs.Prelude.{◌≡◌, ◌++◌, ◌+◌, ◌<◌, ◌≤◌, OnOk, IfOk};
 ghost use Rattle.messages.specs.HandedRr.{handed_of};
 ghost use Rattle.messages.specs.Record.{spelled};
 ghost use Rattle.messages.specs.Written.{question_octets, record_octets};

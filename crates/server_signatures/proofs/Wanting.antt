@@ -1,5 +1,5 @@
 -- Where a table fails to sign, it lacks a signature of the answer.
-use Rattle.std.proofs.Common.{◌≡◌, ◌∙◌, ℕ, zero, suc, ◌<◌, Bool, true, false, cond, List, [], ◌∷◌, ◌++◌, ap, arith, get_or, is_none, length, length-append, map, refl, subst, sym}
+use Rattle.std.proofs.Common.{◌≡◌, ◌∙◌, ℕ, zero, suc, ◌<◌, Bool, true, false, cond, List, [], ◌∷◌, ◌++◌, ap, arith, get_or, is_none, length, length-append, refl, subst, sym}
 use Rattle.std.specs.Prelude.{if◌then◌else◌}
 use Rattle.std.proofs.lemmas.Bool.{false≢true}
 use Rattle.std.proofs.lemmas.List.Elements.{filter-append}
@@ -7,8 +7,8 @@ use Rattle.definitions.specs.Name.{Name}
 use Rattle.definitions.specs.Dnskey.{Dnskey}
 use Rattle.messages.specs.Message.{Asked}
 use Rattle.answer_scheme.specs.Moments.{second_of}
-use Rattle.answer_shared.specs.GroupView.{FailsFor, GroupView, octets_of, view_of}
-use Rattle.answer_shared.specs.Served.{Group, answer_groups, key_group, keys_ttl}
+use Rattle.answer_shared.specs.GroupView.{FailsFor, GroupView, octets_of}
+use Rattle.answer_shared.specs.Served.{answer_groups, key_group, keys_ttl}
 use Rattle.answer_publisher_keys.specs.Bindings.{ZoneKeys, keys_by_tag}
 use Rattle.answer_publisher_keys.specs.declared.keys.Publication.TheVariants as publication
 use Rattle.answer_publisher.specs.Composed.{FailsToSign}

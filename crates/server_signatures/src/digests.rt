@@ -1,5 +1,5 @@
 //! The scheme of a publisher whose keys sign elsewhere.
-ghost use Rattle.std.specs.Prelude.{◌≡◌, Some, None, IfOk, IsErrOf};
+ghost use Rattle.std.specs.Prelude.{◌≡◌, Some, None};
 
 use answer_scheme::{Scheme, SchemeError};
 use denial_keys::dnskey::Dnskey;

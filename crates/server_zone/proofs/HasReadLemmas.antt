@@ -1,25 +1,22 @@
 -- The loop that opens a journal.
-use Rattle.std.proofs.Common.{◌≡◌, ◌⊎◌, ℕ, zero, suc, ◌+◌, ◌<◌, ◌≤◌, ◌-◌, Bool, true, false, ◌||◌, cond, List, [], ◌∷◌, ◌++◌, length, take, drop, refl, sym, ap, subst, ⊎_elim, ◌∙◌, arith, append_assoc, append-nil, length-append, Option, Some, None}
+use Rattle.std.proofs.Common.{◌≡◌, ◌⊎◌, ℕ, zero, suc, ◌+◌, ◌<◌, ◌≤◌, ◌-◌, Bool, true, false, ◌||◌, cond, List, [], ◌∷◌, ◌++◌, length, take, refl, sym, ap, subst, ⊎_elim, ◌∙◌, arith, append_assoc, append-nil, length-append, Option, Some, None}
 use Rattle.std.specs.Prelude.{◌==◌}
 use Rattle.std.proofs.Math.Seq.{take-append-add, take-append_seam}
 use Rattle.std.proofs.lemmas.Bool.{cases_lt, eqb-true, false≢true, or_parts}
 use Rattle.std.proofs.lemmas.List.{length-take-le, take-append-le}
 use Rattle.messages.specs.HandedRr.{HandedRr}
-use Rattle.answer_publisher_keys.specs.Bindings.{Outcome, apply}
 use Rattle.answer_shared.specs.Hashing.{Hasher}
 use Rattle.denialbench_session.specs.Grammar.{◌>>=◌, ZoneLine, zone_line}
 use Rattle.denialbench_session.specs.Lines.{is_passed_over}
 use Rattle.denialbench_session.specs.Sessions.{fields_of}
 use Rattle.std.specs.Str.{is_utf8}
 use Rattle.server_zone.specs.Lines.{has_feed, unfinished, whole_lines}
-use Rattle.server_zone.specs.StateLines.{StateLine, Nothing, Added, Replaced, Called, Other, state_line}
-use Rattle.server_zone.specs.States.{Digest, State, after, applied_line, behind_call, digests, made}
-use Rattle.server_zone.specs.Journals.{HasRead, IsOpenError, IsOpening, IsSettledAt, NoneSettledBehind, Phase, Empty, Beginning, Running, RefusesBehind, RefusesEnd, RefusesLines, ended, first_line, is_settled, is_there, journal_state, own_line, phase_view, with_line, with_lines}
+use Rattle.server_zone.specs.States.{Digest, State, made}
+use Rattle.server_zone.specs.Journals.{HasRead, IsOpenError, IsOpening, IsSettledAt, NoneSettledBehind, Phase, Empty, Beginning, Running, RefusesBehind, RefusesEnd, RefusesLines, ended, first_line, is_settled, is_there, journal_state, phase_view, with_line, with_lines}
 use Rattle.server_zone.specs.declared.opening.Phase.{Phase as CodePhase}
 use Rattle.server_zone.specs.declared.refusals.Refusal.{Refusal}
-use Rattle.server_zone.specs.declared.refusals.OpenError.{OpenError}
 use Rattle.server_zone.proofs.LineLemmas.{all_unfinished, ends_behind, line_behind, line_in_front, no_lines, unfinished_append, whole_append}
-use Rattle.server_zone.proofs.JournalLemmas.{accepted_line, bind_ok, bind_some, with_whole_line}
+use Rattle.server_zone.proofs.JournalLemmas.{bind_ok, bind_some, with_whole_line}
 
 -- ---- a line behind which records are gathered stands behind that of the zone
 

@@ -1,9 +1,8 @@
 -- The states that lines give, one line after another.
-use Rattle.std.proofs.Common.{◌≡◌, ℕ, Bool, true, false, cond, List, [], ◌∷◌, ◌++◌, take, refl, sym, ap, ◌∙◌, subst}
-use Rattle.std.specs.Prelude.{Option, Some, None, Ok, Err}
+use Rattle.std.proofs.Common.{◌≡◌, ℕ, Bool, true, false, cond, List, [], ◌∷◌, ◌++◌, refl, sym, ap, ◌∙◌}
+use Rattle.std.specs.Prelude.{Option, Some, None}
 use Rattle.messages.specs.HandedRr.{HandedRr}
 use Rattle.denialbench_session.specs.Grammar.{◌>>=◌, ZoneLine}
-use Rattle.answer_events.specs.Calls.{Call}
 use Rattle.server_zone.specs.Lines.{has_feed, unfinished, whole_lines}
 use Rattle.answer_shared.specs.Hashing.{Hasher}
 use Rattle.answer_zone_records.specs.declared.fault.ZoneFault.{ZoneFault}
@@ -12,7 +11,7 @@ use Rattle.server_zone.specs.declared.refusals.Refusal.{Refusal}
 use Rattle.server_zone.specs.declared.refusals.Refusal.TheVariants as refusal
 use Rattle.server_zone.specs.StateLines.{StateLine, Nothing, Added, Replaced, Called, Other, is_event, state_line}
 use Rattle.server_zone.specs.States.{Digest, RefusesTo, State, after, applied_line, made}
-use Rattle.server_zone.specs.Journals.{Phase, Empty, Beginning, Running, RefusesBeginning, RefusesOwn, ended, journal_state, own_line, ran, state_behind, with_line, with_lines}
+use Rattle.server_zone.specs.Journals.{Phase, Empty, Beginning, Running, RefusesBeginning, RefusesOwn, ended, own_line, ran, state_behind, with_line, with_lines}
 use Rattle.server_zone.specs.JournalLaws.{AcceptedLinesExtend, CutsKeepState}
 use Rattle.server_zone.proofs.LineLemmas.{cut_lines, line_behind}
 use Rattle.server_zone.proofs.StateLemmas.{of_line}

@@ -1,6 +1,6 @@
 -- Lines that end in a line feed, of texts that are joined and cut.
 use Rattle.std.proofs.Common.{◌≡◌, ℕ, zero, suc, ◌+◌, ◌-◌, ◌<◌, ◌≤◌, ◌==◌, ◌||◌, Bool, true, false, not, cond, List, [], ◌∷◌, ◌++◌, length, take, drop, take_all, length-drop, Some, None, refl, sym, ap, subst, ◌∙◌, append_assoc, arith, nat_lt}
-use Rattle.std.specs.List.{list_any, flat_map, position, prefix_len}
+use Rattle.std.specs.List.{flat_map, position, prefix_len}
 use Rattle.std.proofs.lemmas.Bool.Decides.{nat_tests}
 use Rattle.std.proofs.lemmas.Bool.{eqb-true}
 use Rattle.server_zone.specs.Lines.{has_feed, led, whole_lines, unfinished}

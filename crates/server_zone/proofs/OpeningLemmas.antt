@@ -1,5 +1,5 @@
 -- A zone while it is opened.
-use Rattle.std.proofs.Common.{◌≡◌, ℕ, ◌+◌, ◌≤◌, ◌-◌, Bool, true, false, List, [], ◌∷◌, ◌++◌, length, take, drop, refl, sym, ap, subst, ◌∙◌, arith, append_assoc, length-append, Option, Some, None}
+use Rattle.std.proofs.Common.{◌≡◌, ℕ, ◌+◌, ◌≤◌, ◌-◌, true, false, List, [], ◌∷◌, ◌++◌, refl, ap, subst, ◌∙◌, Option, Some, None}
 use Rattle.std.specs.Prelude.{if◌then◌else◌, map}
 use Rattle.definitions.specs.Name.{Name}
 use Rattle.definitions.specs.ZoneChain.{Mode}
@@ -15,11 +15,9 @@ use Rattle.answer_shared.specs.ZoneView.{AcceptedZone}
 use Rattle.answer_publisher.specs.declared.publishing.Publisher.{Publisher}
 use Rattle.denialbench_session.specs.Grammar.{ZoneLine}
 use Rattle.server_glue.specs.Glue.{addresses_of}
-use Rattle.server_zone.specs.Lines.{has_feed, unfinished, whole_lines}
-use Rattle.server_zone.specs.StateLines.{StateLine, Nothing, Added, Replaced, Called, Other, is_event, state_line}
-use Rattle.server_zone.specs.States.{Digest, Follows, HasAddresses, IsRestKept, RefusesLine, RefusesTo, State, after, applied_line, made, state_of, ungathered}
-use Rattle.server_zone.specs.Journals.{IsFresh, Phase, Empty, Beginning, Running, RefusesOwn, ended, own_line, ran, with_line, with_lines}
-use Rattle.server_zone.specs.declared.open_zone.Applied.{Applied}
+use Rattle.server_zone.specs.StateLines.{StateLine, Nothing, Added, Replaced, Called, Other, is_event}
+use Rattle.server_zone.specs.States.{Digest, HasAddresses, IsRestKept, RefusesLine, RefusesTo, State, after, made, state_of}
+use Rattle.server_zone.specs.Journals.{IsFresh, RefusesOwn, own_line, ran}
 use Rattle.server_zone.specs.declared.open_zone.Zone.{Zone}
 use Rattle.server_zone.specs.declared.refusals.Refusal.{Refusal}
 use Rattle.server_zone.proofs.JournalLemmas.{own_refused}

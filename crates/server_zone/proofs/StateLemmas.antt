@@ -1,11 +1,9 @@
 -- What applying a line gives, and why it is refused.
-use Rattle.std.proofs.Common.{◌≡◌, ℕ, Bool, true, false, cond, List, refl, sym, ap, subst, ◌∙◌}
-use Rattle.std.specs.Prelude.{Option, Some, None, Ok, Err}
+use Rattle.std.proofs.Common.{◌≡◌, ℕ, false, cond, List, sym, ap, subst, ◌∙◌}
+use Rattle.std.specs.Prelude.{Option, Some, None, Err}
 use Rattle.answer_shared.specs.Hashing.{Hasher}
-use Rattle.answer_publisher_keys.specs.Bindings.{Outcome, ZoneKeys, apply}
 use Rattle.denialbench_session.specs.Grammar.{◌>>=◌}
 use Rattle.denialbench_session.specs.Readings.{Reads}
-use Rattle.messages.specs.HandedRr.{HandedRr}
 use Rattle.denialbench_session.specs.declared.line_error.LineFault.{LineFault}
 use Rattle.denialbench_session.specs.declared.line_error.LineError.{LineError}
 use Rattle.denialbench_session.specs.declared.line_error.LineError.TheVariants as error

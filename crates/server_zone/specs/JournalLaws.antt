@@ -1,5 +1,5 @@
 -- Laws of journals.
-use Rattle.std.specs.Prelude.{◌≡◌, ℕ, false, List, [], ◌∷◌, ◌++◌, length, take, Option, Some}
+use Rattle.std.specs.Prelude.{◌≡◌, ℕ, false, List, [], ◌∷◌, ◌++◌, take, Some}
 use Rattle.std.specs.List.{flat_map}
 use Rattle.server_zone.specs.Lines.{has_feed, unfinished, whole_lines}
 use Rattle.server_zone.specs.Journals.{journal_state, state_behind}

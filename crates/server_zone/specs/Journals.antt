@@ -9,8 +9,8 @@ use Rattle.denialbench_session.specs.Lines.{is_passed_over}
 use Rattle.denialbench_session.specs.Readings.{zone_view}
 use Rattle.denialbench_session.specs.Sessions.{fields_of}
 use Rattle.denialbench_session.specs.declared.line_error.LineFault.TheVariants.{NoZone}
-use Rattle.server_zone.specs.Lines.{has_feed, unfinished, whole_lines}
-use Rattle.server_zone.specs.StateLines.{StateLine, Nothing, Added, Replaced, Called, Other, state_line}
+use Rattle.server_zone.specs.Lines.{unfinished, whole_lines}
+use Rattle.server_zone.specs.StateLines.{StateLine, Nothing, Added, state_line}
 use Rattle.server_zone.specs.States.{Digest, HasAddresses, OfLine, RefusesLine, RefusesTo, State, after, applied_line, made, state_of}
 use Rattle.server_zone.specs.declared.refusals.OpenError.{OpenError}
 use Rattle.server_zone.specs.declared.refusals.Refusal.{Refusal}

@@ -1,9 +1,7 @@
 -- The state of a zone, which its lines determine.
-use Rattle.std.specs.Prelude.{◌≡◌, ℕ, ◌==◌, Bool, true, false, List, [], ◌∷◌, ◌++◌, map, Option, Some, None, Result, Ok, Err, if◌then◌else◌}
+use Rattle.std.specs.Prelude.{◌≡◌, ℕ, ◌==◌, Bool, true, false, List, [], ◌∷◌, ◌++◌, map, Option, Some, None, Ok, Err, if◌then◌else◌}
 use Rattle.std.specs.List.{AllByRecursion}
-use Rattle.std.specs.Str.{is_utf8}
 use Rattle.definitions.specs.Dnskey.{Dnskey}
-use Rattle.keyset_rolls.specs.declared.rolls.Action.{Action}
 use Rattle.messages.specs.Handed.{IsHanded}
 use Rattle.messages.specs.HandedRr.{HandedRr, handed_of}
 use Rattle.answer_shared.specs.Accepted.{IsAccepted}
@@ -11,19 +9,16 @@ use Rattle.answer_shared.specs.Accepting.{sorted_records}
 use Rattle.answer_shared.specs.Hashing.{Hasher}
 use Rattle.answer_shared.specs.ZoneView.{AcceptedZone}
 use Rattle.answer_zone.specs.HashedZone.{accepted_zone}
-use Rattle.answer_zone_records.specs.Faults.{RefusesZone}
 use Rattle.answer_publisher_keys.specs.Bindings.{Call, Outcome, ZoneKeys, apply, no_keys}
 use Rattle.answer_publisher_keys.specs.KeyCalls.{Fails, IsNamed, RanOut, fault_of}
 use Rattle.answer_publisher.specs.Publishing.{digest_at}
 use Rattle.answer_publisher.specs.Replacing.{RefusesReplacement, is_too_soon}
 use Rattle.answer_publisher.specs.World.{zone_by}
 use Rattle.answer_publisher.specs.declared.publishing.Publisher.{Publisher}
-use Rattle.denialbench_session.specs.Grammar.{◌>>=◌, ZoneLine, zone_line}
-use Rattle.denialbench_session.specs.Lines.{is_passed_over}
-use Rattle.denialbench_session.specs.Sessions.{fields_of}
+use Rattle.denialbench_session.specs.Grammar.{◌>>=◌, ZoneLine}
 use Rattle.denialbench_session.specs.declared.line_error.LineFault.TheVariants as line_fault
 use Rattle.server_glue.specs.Glue.{addresses_of}
-use Rattle.server_zone.specs.Lines.{has_feed, unfinished, whole_lines}
+use Rattle.server_zone.specs.Lines.{has_feed}
 use Rattle.server_zone.specs.StateLines.{StateLine, Nothing, Added, Replaced, Called, Other, state_line}
 use Rattle.server_zone.specs.declared.refusals.Refusal.{Refusal}
 use Rattle.server_zone.specs.declared.refusals.Refusal.TheVariants as refusal

@@ -1,5 +1,5 @@
 //! A zone that is open, and the lines that are applied to it.
-ghost use Rattle.std.specs.Prelude.{◌≤◌, ◌≡◌, ◌==◌, [], IfErr, IfOk, OnErr, OnOk, Some, false, length};
+ghost use Rattle.std.specs.Prelude.{◌≤◌, ◌≡◌, ◌==◌, [], IfErr, IfOk, OnErr, Some, false, length};
 ghost use Rattle.answer_events.specs.Calls.{call_of};
 ghost use Rattle.answer_events.specs.Events.{added_by_call};
 ghost use Rattle.messages.specs.HandedRr.{handed_of};

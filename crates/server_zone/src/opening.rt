@@ -1,5 +1,5 @@
 //! Opening a zone from its journal.
-ghost use Rattle.std.specs.Prelude.{◌≡◌, ◌++◌, ◌≤◌, ◌==◌, length, map, IfErr, IfOk, None, Some, false, take, true};
+ghost use Rattle.std.specs.Prelude.{◌≡◌, ◌++◌, ◌≤◌, ◌==◌, length, map, IfErr, IfOk, Some, false, take, true};
 ghost use Rattle.messages.specs.HandedRr.{handed_of};
 ghost use Rattle.answer_zone_records.specs.Faults.{RefusesZone};
 ghost use Rattle.denialbench_session.specs.Readings.{zone_view};

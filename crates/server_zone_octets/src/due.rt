@@ -1,6 +1,5 @@
 //! What is due of a roll.
-ghost use Rattle.std.specs.Prelude.{◌≡◌, IfOk, MatchOption};
-ghost use Rattle.std.specs.List.{flat_map};
+ghost use Rattle.std.specs.Prelude.{◌≡◌, IfOk};
 ghost use Rattle.server_zone_octets.specs.Dues.{IsSaidDue, SaysDue, due_said, names_of, nothing};
 ghost use Rattle.server_zone_octets.specs.Dues.{number_of_phase, roll_of, ttl_of};
 

@@ -1,5 +1,5 @@
 //! What the parent has, and what it is asked for.
-ghost use Rattle.std.specs.Prelude.{◌≡◌, map, IfErr, IfOk};
+ghost use Rattle.std.specs.Prelude.{◌≡◌, IfErr, IfOk};
 ghost use Rattle.std.specs.List.{flat_map};
 ghost use Rattle.definitions.specs.Dnskey.{dnskey_data};
 ghost use Rattle.denial_keys.specs.Keys.{ds_data};

@@ -1,6 +1,6 @@
 //! What is said beside a code.
 ghost use Rattle.std.specs.Prelude.{◌≡◌, ◌==◌};
-ghost use Rattle.server_zone_octets.specs.Telling.{is_known, report_size, told_report};
+ghost use Rattle.server_zone_octets.specs.Telling.{is_known, told_report};
 
 /// What is said of a call beside its code.
 #[repr(C)]

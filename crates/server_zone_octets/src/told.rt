@@ -1,6 +1,6 @@
 //! What is told, and where it is written.
 ghost use Rattle.std.specs.Prelude.{◌≡◌, []};
-ghost use Rattle.server_zone_octets.specs.Telling.{IsHandedOut, IsPut, only, told_report};
+ghost use Rattle.server_zone_octets.specs.Telling.{IsHandedOut, IsPut, only};
 ghost use Rattle.server_zone_octets.specs.Telling.{told_seen};
 
 use crate::code::ZoneCode;

@@ -1,7 +1,7 @@
 //! What applying a line to a zone prints: the line that the bench prints for it.
 #![tactic(auto)]
 
-ghost use Rattle.std.specs.Prelude.{◌≡◌, ◌++◌, OnOk, codes, decimal, string_bytes};
+ghost use Rattle.std.specs.Prelude.{◌≡◌, ◌++◌, OnOk, codes, string_bytes};
 ghost use Rattle.server_zone_text.specs.Texts.{applied_text, open_error_text, refusal_text};
 
 pub use denialbench_print::named::Named;

@@ -1,4 +1,4 @@
-use Rattle.std.proofs.Common.{◌≡◌, Bool, true, false, refl, subst, sym, rules}
+use Rattle.std.proofs.Common.{◌≡◌, true, false, refl, subst, rules}
 use Rattle.std.proofs.lemmas.Result.{IfOk-weaker}
 use Rattle.answer_publisher.specs.World.{world_of}
 use Rattle.messages.specs.Message.{Asked}

@@ -1,7 +1,7 @@
-use Rattle.std.proofs.Common.{◌≡◌, ◌∙◌, ℕ, true, None, Some, List, map, ap, sym, rules}
+use Rattle.std.proofs.Common.{◌≡◌, ◌∙◌, List, map, ap, sym, rules}
 use Rattle.std.specs.Option.{option_map}
 use Rattle.messages.specs.HandedRr.{HandedRr, handed_of}
-use Rattle.messages.specs.Message.{Spelled, pair}
+use Rattle.messages.specs.Message.{Spelled}
 use Rattle.messages.specs.Record.{spelled}
 use Rattle.messages.specs.Written.{Written}
 use Rattle.server_queries.specs.Views.{queried_of}

@@ -1,7 +1,6 @@
-use Rattle.std.proofs.Common.{◌≡◌, ◌++◌, ℕ, false, length, List, map, sym, subst, rules}
+use Rattle.std.proofs.Common.{◌≡◌, ◌++◌, ℕ, false, length, List, map, subst, rules}
 use Rattle.std.specs.Prelude.{IfOk}
 use Rattle.std.specs.List.{flat_map}
-use Rattle.std.proofs.lemmas.List.{length-map}
 use Rattle.messages.specs.HandedRr.{HandedRr, handed_of}
 use Rattle.messages.specs.Message.{pair}
 use Rattle.messages.specs.Record.{spelled}

@@ -1,6 +1,6 @@
 use Rattle.std.proofs.Common.{◌∙◌, ◌==◌, ap, length, refl, rules, sym}
 use Rattle.std.proofs.lemmas.List.{length-map}
-use Rattle.messages.specs.HandedRr.{HandedRr, handed_of}
+use Rattle.messages.specs.HandedRr.{handed_of}
 use Rattle.server_zone_octets.proofs.lines.open_octets.Goals as goal
 
 pub returns-in-Ok-clause-opened : goal.returns-in-Ok-clause-opened

@@ -1,9 +1,8 @@
 use Rattle.std.proofs.Common.{ap, subst, sym, ◌∙◌}
-use Rattle.std.specs.Prelude.{IfErr}
 use Rattle.std.proofs.lemmas.Result.{IfOk-weaker}
 use Rattle.answer_publisher.proofs.Refusals.{if_err_map}
 use Rattle.server_zone.specs.Journals.{IsFresh, IsOpening, RefusesBehind, phase_view, ran, with_line}
-use Rattle.server_zone.specs.States.{RefusesLine, applied_line, state_of}
+use Rattle.server_zone.specs.States.{applied_line, state_of}
 use Rattle.server_zone.proofs.OpeningLemmas.{line_refused_as, own_fresh}
 use Rattle.server_zone.proofs.opening.Opener.read.Goals as goal
 
