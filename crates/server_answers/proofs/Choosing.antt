@@ -1,7 +1,7 @@
 -- Messages for the type that is chosen where all are asked for, and what becomes of them.
 use Rattle.std.proofs.Common.{◌≡◌, ◌∙◌, ℕ, ◌+◌, ◌<◌, ◌≤◌, Bool, true, false, List, [], ◌∷◌, Vec, length, drop, get_or, max, refl, sym, ap, subst, inl, inr, arith}
 use Rattle.std.specs.declared.alloc.Global.{Global}
-use Rattle.std.specs.Prelude.{◌≢◌, ◌↔◌, MatchBool, Option, Some, None, Result, Ok, Err, IfOk, IsErrOf, OnErr, OnOk}
+use Rattle.std.specs.Prelude.{◌≢◌, ◌↔◌, MatchBool, Option, Some, None, Result, Ok, Err, IfErr, IfOk, IsErrOf, OnErr, OnOk}
 use Rattle.std.specs.Result.{is_err}
 use Rattle.std.proofs.lemmas.Bool.{false≢true}
 use Rattle.std.proofs.lemmas.List.{drop_all, drop_more}
@@ -64,6 +64,15 @@ pub latest_err : {S H T E : Type 0} (p q : Publisher S H) (r : Result T E) → O
 latest_err p q (Ok x) e = tt
 latest_err p q (Err x) e = ap (λ x. x.latest) e
 
+pub of_ok : {T E P : Type 0} (r : Result T E) → P → OnOk r P
+of_ok (Ok x) p = p
+of_ok (Err e) p = tt
+
+-- a fault that is want of memory alone
+pub memory_alone : {T : Type 0} (P : AnswerFault → Type 0) (r : Result T AnswerFault) → IfErr r (λ f. f ≡ fault.Memory) → IfErr r (λ f. f ≢ fault.Memory → P f)
+memory_alone P (Ok x) h = tt
+memory_alone P (Err f) h = λ other. absurd (other h)
+
 -- ---- messages without signatures
 
 pub bare_by : (r : Result (Vec ℕ Global) AnswerFault) (allowed : Bool) (P Q : List ℕ → Type 0) → (IsErrOf r fault.QuestionNotAllowed ↔ (allowed ≡ false)) → IfOk r (λ m. P m.items) → IfOk r (λ m. Q m.items)
@@ -74,6 +83,13 @@ bare_by (Err f) allowed P Q iff p q = tt
 
 pub other_fault : (f : AnswerFault) → is_memory f ≡ false → f ≢ fault.Memory
 other_fault f other e = false≢true (sym other ∙ ap is_memory e)
+
+pub memory_fault : (f : AnswerFault) → is_memory f ≡ true → f ≡ fault.Memory
+memory_fault fault.Memory e = refl
+memory_fault fault.QuestionNotAllowed e = absurd (false≢true e)
+memory_fault fault.HashFailed e = absurd (false≢true e)
+memory_fault fault.SignFailed e = absurd (false≢true e)
+memory_fault fault.TooLong e = absurd (false≢true e)
 
 module _ (w : World) (keys : ZoneKeys) (at : ℕ) where
   pub held_by : (a : Asked) (m : List ℕ) → IsBare w keys at a m → (b : Bool) → has_answers m ≡ b → IsHeld w keys at a b
@@ -113,18 +129,33 @@ module _ (w : World) (keys : ZoneKeys) (at : ℕ) where
 
   -- ---- the type that is chosen
 
-  module _ (a : Asked) (x : ℕ) (m : List ℕ) (reserved : x ≡ 65535) (bare : IsBare w keys at (for_type x a) m) where
+  module _ (a : Asked) (x : ℕ) (m : List ℕ) (reserved : x ≡ 65535) (bare : IsBare w keys at (for_type x a) m) (t : ℕ) where
     there : IsBare w keys at (for_type 65535 a) m
-    there = subst (λ (t : ℕ). IsBare w keys at (for_type t a) m) reserved bare
+    there = subst (λ (k : ℕ). IsBare w keys at (for_type k a) m) reserved bare
 
-    pub chosen_none : is_no_data m ≡ false → IsChosen w keys at a x
-    chosen_none none = (m, there, subst (λ (b : Bool). MatchBool b (IsFirst w keys at (for_type 65535 a) (listed m) x) (x ≡ 65535)) (sym none) reserved)
+    by_denial : (b : Bool) → MatchBool b (IsFirst w keys at (for_type x a) (listed m) t) (t ≡ x) → MatchBool b (IsFirst w keys at (for_type 65535 a) (listed m) t) (t ≡ 65535)
+    by_denial true first = subst (λ (k : ℕ). IsFirst w keys at (for_type k a) (listed m) t) reserved first
+    by_denial false same = same ∙ reserved
 
-    pub chosen_first : (us : List ℕ) (t : ℕ) → is_no_data m ≡ true → us ≡ listed m → IsFirst w keys at (for_type x a) us t → IsChosen w keys at a t
-    chosen_first us t none same first =
-        let here : IsFirst w keys at (for_type 65535 a) us t = subst (λ (k : ℕ). IsFirst w keys at (for_type k a) us t) reserved first in
-        let all : IsFirst w keys at (for_type 65535 a) (listed m) t = subst (λ (vs : List ℕ). IsFirst w keys at (for_type 65535 a) vs t) same here in
-        (m, there, subst (λ (b : Bool). MatchBool b (IsFirst w keys at (for_type 65535 a) (listed m) t) (t ≡ 65535)) (sym none) all)
+    pub is_chosen : MatchBool (is_no_data m) (IsFirst w keys at (for_type x a) (listed m) t) (t ≡ x) → IsChosen w keys at a t
+    is_chosen h = (m, there, by_denial (is_no_data m) h)
+
+    pub chosen_where : {T E : Type 0} (r : Result T E) → OnOk r (MatchBool (is_no_data m) (IsFirst w keys at (for_type x a) (listed m) t) (t ≡ x)) → OnOk r (IsChosen w keys at a t)
+    chosen_where (Ok y) h = is_chosen h
+    chosen_where (Err e) h = tt
+
+  pub listed_first : {T E : Type 0} (r : Result T E) (a : Asked) (m us : List ℕ) (t x : ℕ) → is_no_data m ≡ true → us ≡ listed m → OnOk r (IsFirst w keys at a us t)
+      → OnOk r (MatchBool (is_no_data m) (IsFirst w keys at a (listed m) t) (t ≡ x))
+  listed_first (Ok y) a m us t x none is first =
+      subst (λ (b : Bool). MatchBool b (IsFirst w keys at a (listed m) t) (t ≡ x)) (sym none) (subst (λ (vs : List ℕ). IsFirst w keys at a vs t) is first)
+  listed_first (Err e) a m us t x none is first = tt
+
+  pub listed_none : (a : Asked) (m : List ℕ) (t : ℕ) → is_no_data m ≡ false → MatchBool (is_no_data m) (IsFirst w keys at a (listed m) t) (t ≡ t)
+  listed_none a m t none = subst (λ (b : Bool). MatchBool b (IsFirst w keys at a (listed m) t) (t ≡ t)) (sym none) refl
+
+-- a question of the same name and class
+pub asked_same : (q r : Question Name) → r.name ≡ q.name → r.class ≡ q.class → asked_of r ≡ for_type r.rtype (asked_of q)
+asked_same q r name class = λ j. record { name = name j; rtype = r.rtype; class = class j }
 
 -- ---- what is made for it
 

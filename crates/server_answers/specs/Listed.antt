@@ -1,5 +1,5 @@
 -- The types that the records of the chain in a message list.
-use Rattle.std.specs.Prelude.{ℕ, ◌==◌, List, [], ◌×◌, Option, Some, None, Result, Ok, Err, if◌then◌else◌}
+use Rattle.std.specs.Prelude.{ℕ, ◌==◌, List, [], Option, Some, None, Result, Ok, Err, if◌then◌else◌}
 use Rattle.std.specs.List.{flat_map}
 use Rattle.definitions.specs.Limits.{pointer_limit}
 use Rattle.definitions.specs.Name.{Name}

@@ -1,8 +1,9 @@
 //! Questions for all records of a name, or for all signatures there: one RRset answers them.
-ghost use Rattle.std.specs.Prelude.{◌≡◌, ◌≢◌, [], IfErr, IfOk, OnErr, OnOk};
+ghost use Rattle.std.specs.Prelude.{◌≡◌, ◌≢◌, [], IfErr, IfOk, MatchBool, OnErr, OnOk};
 ghost use Rattle.answer_publisher.specs.Replacing.{noted};
 ghost use Rattle.answer_publisher.specs.World.{RefusesQuestion, world_of};
 ghost use Rattle.messages.specs.Questions.{asked_of};
+ghost use Rattle.server_answers.specs.Listed.{listed};
 ghost use Rattle.server_answers.specs.Moments.{IsOrWasNoted};
 ghost use Rattle.server_answers.specs.Responding.{serving, unsigned};
 ghost use Rattle.server_answers.specs.Subset.{AnswersSubset, IsChosen, IsFirst, IsHeld, MakesSubset, asks_all, for_type, is_memory, is_no_data, wants_signatures};
@@ -85,8 +86,10 @@ fn subset_message<S: Scheme, H: Nsec3Hasher>(
     ensures rest { publisher.new ≡ record publisher.old { latest = publisher.new.latest } }
 {
     let mut chosen = question;
-    choose_type(alloc, publisher, &mut chosen, at)?;
-    zone_message(publisher, table, &chosen, at, is_signed)
+    match choose_type(alloc, publisher, &mut chosen, at) {
+        Ok(()) => zone_message(publisher, table, &chosen, at, is_signed),
+        Err(fault) => Err(fault),
+    }
 }
 
 /// Puts the type that is answered for into the place of a question's own.
@@ -116,12 +119,36 @@ fn choose_type<S: Scheme, H: Nsec3Hasher>(
     ensures rest { publisher.new ≡ record publisher.old { latest = publisher.new.latest } }
 {
     question.rtype = Rtype::from_int(RESERVED);
-    let message = bare_message(publisher, question, at)?;
-    if !is_no_data(&message) {
-        return Ok(());
+    match bare_message(publisher, question, at) {
+        Ok(message) => choose_listed(alloc, publisher, question, &message, at),
+        Err(fault) => Err(fault),
     }
-    let types = listed_types(alloc, &message)?;
-    choose_first(publisher, question, &types, at)?;
+}
+
+/// Puts the first type that a message lists and that the zone has at a question's name into the
+/// place of its own, where the message says that the name is there. The moment has been noted.
+fn choose_listed<S: Scheme, H: Nsec3Hasher>(
+    alloc: Global,
+    publisher: &mut Publisher<'_, S, H>,
+    question: &mut Question,
+    message: &[u8],
+    at: &UnixTime,
+) -> Result<(), AnswerFault>
+    requires { noted publisher.old.latest at.now ≡ publisher.old.latest }
+    ensures listed { let p = publisher.old in let m = message.now in
+        let w = world_of S.signature_of S.verifies S.digest_of H.hash_of p in
+        let asked = asked_of question.old in let t = question.new.rtype in
+        let first = IsFirst w p.keys at.now asked (listed m) t in
+        OnOk result (MatchBool (is_no_data m) first (t ≡ question.old.rtype)) }
+    ensures name { question.new.name ≡ question.old.name }
+    ensures class { question.new.class ≡ question.old.class }
+    ensures memory { IfErr result (λ f. f ≡ AnswerFault.Memory) }
+    ensures same { publisher.new ≡ publisher.old }
+{
+    if is_no_data(message) {
+        let types = listed_types(alloc, message)?;
+        return choose_first(publisher, question, &types, at);
+    }
     Ok(())
 }
 
@@ -132,7 +159,7 @@ fn choose_first<S: Scheme, H: Nsec3Hasher>(
     question: &mut Question,
     types: &[Rtype],
     at: &UnixTime,
-) -> Result<(), AllocError>
+) -> Result<(), AnswerFault>
     requires { noted publisher.old.latest at.now ≡ publisher.old.latest }
     ensures first { let p = publisher.old in
         let w = world_of S.signature_of S.verifies S.digest_of H.hash_of p in
@@ -140,6 +167,7 @@ fn choose_first<S: Scheme, H: Nsec3Hasher>(
         OnOk result (IsFirst w p.keys at.now asked types.now question.new.rtype) }
     ensures name { question.new.name ≡ question.old.name }
     ensures class { question.new.class ≡ question.old.class }
+    ensures memory { IfErr result (λ f. f ≡ AnswerFault.Memory) }
     ensures same { publisher.new ≡ publisher.old }
 {
     for rtype in types {
@@ -157,18 +185,19 @@ fn is_held<S: Scheme, H: Nsec3Hasher>(
     publisher: &mut Publisher<'_, S, H>,
     question: &Question,
     at: &UnixTime,
-) -> Result<bool, AllocError>
+) -> Result<bool, AnswerFault>
     requires { noted publisher.old.latest at.now ≡ publisher.old.latest }
     ensures held { let p = publisher.old in
         let w = world_of S.signature_of S.verifies S.digest_of H.hash_of p in
         IfOk result (IsHeld w p.keys at.now (asked_of question.now)) }
+    ensures memory { IfErr result (λ f. f ≡ AnswerFault.Memory) }
     ensures same { publisher.new ≡ publisher.old }
 {
     match bare_message(publisher, question, at) {
         Ok(message) => Ok(has_answers(&message)),
         Err(fault) => {
             if is_memory(fault) {
-                return Err(AllocError);
+                return Err(fault);
             }
             Ok(false)
         }
