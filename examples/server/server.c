@@ -491,6 +491,7 @@ static bool is_option(const char *word, const char *name, const char **said) {
 
 static bool read_options(struct options *options, int argc, char **argv) {
     const char *backdate = "3600", *step = "60", *rate = "200", *every = "3600";
+    uint64_t port;
     int at = 1;
     *options = (struct options){.address = "127.0.0.1", .port = "5353", .chain = "nsec 0 604800"};
     for (; at < argc && argv[at][0] == '-'; at++) {
@@ -510,7 +511,7 @@ static bool read_options(struct options *options, int argc, char **argv) {
     options->file = at + 1 < argc ? argv[at + 1] : NULL;
     return options->folder != NULL && at + 2 >= argc && read_number(backdate, 4, &options->backdate)
         && read_number(step, 4, &options->step) && read_number(rate, 4, &options->rate)
-        && read_number(every, 4, &options->every) && options->step > 0
+        && read_number(every, 4, &options->every) && read_number(options->port, 2, &port) && port > 0 && options->step > 0
         && options->step <= DAY && options->backdate <= DAY;
 }
 
