@@ -2,9 +2,8 @@
 #ifndef CTL_H
 #define CTL_H
 
+#include "client.h"
 #include "turns.h"
-
-enum { COMMAND_ROOM = 2048 };
 
 static const char *const rolls[] = {
     "", "ksk-roll", "ksk-double-ds-roll", "zsk-roll", "zsk-double-signature-roll", "csk-roll", "algorithm-roll",

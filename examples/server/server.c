@@ -19,7 +19,7 @@
 #include <stddef.h>
 #include <sys/resource.h>
 #include <sys/socket.h>
-#include <sys/un.h>
+#include "client.h"
 #include "ctl.h"
 
 enum {
@@ -92,14 +92,6 @@ static int bound(int type, const struct options *options) {
     }
     freeaddrinfo(at);
     return fd;
-}
-
-/* The place of the socket for commands; false where its name is too long. */
-static bool socket_in(const char *folder, struct sockaddr_un *at) {
-    *at = (struct sockaddr_un){.sun_family = AF_UNIX};
-    int len = snprintf(at->sun_path, sizeof at->sun_path, "%s/ctl", folder);
-    errno = ENAMETOOLONG;
-    return len > 0 && (size_t)len < sizeof at->sun_path;
 }
 
 /* A socket for commands; -1 where it cannot be made. */
@@ -404,45 +396,6 @@ static void serve(struct server *server) {
     }
 }
 
-/* Writes a command's words as a line. A file is told from here, not from where the server was started. */
-static bool write_command(int argc, char **argv, char line[COMMAND_ROOM]) {
-    char *file = argc == 2 && strcmp(argv[0], "reload") == 0 ? realpath(argv[1], NULL) : NULL;
-    size_t len = 0;
-    for (int i = 0; i < argc && len < COMMAND_ROOM; i++) {
-        const char *word = i == 1 && file != NULL ? file : argv[i];
-        len += (size_t)snprintf(line + len, COMMAND_ROOM - len, "%s%s", word, i + 1 < argc ? " " : "\n");
-    }
-    free(file);
-    return len < COMMAND_ROOM && strchr(line, '\n') == line + len - 1;
-}
-
-/* Sends a command to a server that runs, and prints what it says. */
-static int send_command(int argc, char **argv) {
-    struct sockaddr_un at;
-    int fd = socket(AF_UNIX, SOCK_STREAM | SOCK_CLOEXEC, 0);
-    char line[COMMAND_ROOM], said[4096];
-    signal(SIGPIPE, SIG_IGN);
-    if (!write_command(argc - 1, argv + 1, line)) {
-        fprintf(stderr, "%s: no command, since it is longer than %d octets or has a line feed\n", argv[1], COMMAND_ROOM - 2);
-        return EXIT_FAILURE;
-    }
-    if (!socket_in(argv[0], &at) || connect(fd, (struct sockaddr *)&at, sizeof at) != 0 || dprintf(fd, "%s", line) < 0) {
-        perror(argv[0]);
-        return EXIT_FAILURE;
-    }
-    bool is_done = false, is_begun = false;
-    for (ssize_t count; (count = read(fd, said, sizeof said)) > 0; is_begun = true) {
-        size_t from = is_begun ? 0 : 1;
-        is_done = is_begun ? is_done : said[0] == '+';
-        fwrite(said + from, 1, (size_t)count - from, stdout);
-    }
-    if (!is_begun) {
-        fprintf(stderr, "%s: no answer\n", at.sun_path);
-    }
-    close(fd);
-    return is_done ? EXIT_SUCCESS : EXIT_FAILURE;
-}
-
 static void close_all(struct server *server) {
     struct served *served = &server->served;
     for (size_t i = 0; i < CONNECTIONS; i++) {
@@ -606,7 +559,8 @@ static bool has_descriptors(void) {
 int main(int argc, char **argv) {
     struct options options;
     if (argc > 3 && strcmp(argv[1], "--ctl") == 0) {
-        return send_command(argc - 2, argv + 2);
+        signal(SIGPIPE, SIG_IGN);
+        return send_command(argv[2], argc - 3, argv + 3);
     }
     if (!read_options(&options, argc, argv)) {
         fputs("usage: server [--address=A] [--port=N] [--share] [--backdate=SECONDS] [--step=SECONDS] [--rate=N] [--chain=WORDS]\n"
