@@ -45,7 +45,7 @@ static void log_counts(const struct served *served) {
 }
 
 /* What is due of each roll that runs. */
-static void say_status(struct served *served, FILE *said) {
+static void say_due(struct served *served, FILE *said) {
     for (uint32_t roll = ZERMUITA_KSK_ROLL; roll <= ZERMUITA_ALGORITHM_ROLL; roll++) {
         char names[TEXT_ROOM];
         struct zermuita_due due = {.size = sizeof due};
@@ -64,8 +64,6 @@ static void say_status(struct served *served, FILE *said) {
         }
         fprintf(said, "%s%.*s\n", due.len > 0 ? "; " : "", (int)due.len, names);
     }
-    say_counts(served, said);
-    log_counts(served);
 }
 
 /* Makes a wait that is over. */
@@ -126,8 +124,13 @@ static bool do_command(struct served *served, char *line, FILE *said, bool *is_s
         *is_stopping = true;
         return true;
     } else if (strcmp(word, "status") == 0) {
-        say_status(served, said);
+        say_due(served, said);
+        say_counts(served, said);
+        log_counts(served);
         return true;
+    } else if (strcmp(word, "due") == 0) {
+        say_due(served, said);
+        return say_records(served, 43, "DS", said);
     } else if (strcmp(word, "ds") == 0) {
         return say_records(served, 43, "DS", said);
     } else if (strcmp(word, "cds") == 0) {
@@ -142,7 +145,7 @@ static bool do_command(struct served *served, char *line, FILE *said, bool *is_s
             return accept_line(served, line, said);
         }
     }
-    fputs("commands: status, ds, cds, key KIND NAME, start ROLL OLD NEW, report1 ROLL TTL, wait1 ROLL, report2 ROLL TTL, wait2 ROLL, "
+    fputs("commands: status, due, ds, cds, key KIND NAME, start ROLL OLD NEW, report1 ROLL TTL, wait1 ROLL, report2 ROLL TTL, wait2 ROLL, "
           "done ROLL, delete NAME, reload FILE, stop\n", said);
     return false;
 }

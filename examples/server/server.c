@@ -3,7 +3,7 @@
  * a socket says. docs/use/SERVER.md is about it.
  *
  * usage: server [--address=A] [--port=N] [--share] [--backdate=SECONDS] [--step=SECONDS] [--rate=N] [--chain=WORDS] [--auto]
- *               [--log=FILE] [--every=SECONDS] FOLDER [MASTER-FILE]
+ *               [--log=FILE] [--every=SECONDS] [--watch=HOST:PORT].. [--parent=HOST:PORT].. [--look=SECONDS] FOLDER [MASTER-FILE]
  *        server --ctl FOLDER COMMAND..
  *
  * FOLDER has keys/NAME.pem, and gets the journal and the socket. A journal that is new begins with the records of MASTER-FILE.
@@ -19,8 +19,9 @@
 #include <stddef.h>
 #include <sys/resource.h>
 #include <sys/socket.h>
-#include "client.h"
+#include <sys/wait.h>
 #include "ctl.h"
+#include "watch.h"
 
 enum {
     CONNECTIONS = 64, OF_NETWORK = 16, SEND_ROOM = 1 << 16, QUERY_SECONDS = 10, DATAGRAMS = 64, FIRST = 3, DAY = 86400,
@@ -45,7 +46,9 @@ struct server {
 
 struct options {
     const char *address, *port, *chain, *folder, *file, *log;
-    uint64_t backdate, step, rate, every;
+    const char *servers[WATCHED], *parents[WATCHED];
+    size_t server_count, parent_count;
+    uint64_t backdate, step, rate, every, look;
     bool is_auto, is_shared;
 };
 
@@ -346,7 +349,9 @@ static void answer_command(struct server *server) {
             text[0] = is_done ? '+' : '-';
             send(fd, text, len, MSG_NOSIGNAL);
         }
-        log_said("command", line, is_done, text != NULL && len > 0 ? text + 1 : (char[]){""}, line_moment(&server->served));
+        if (strcmp(line, "due") != 0) {
+            log_said("command", line, is_done, text != NULL && len > 0 ? text + 1 : (char[]){""}, line_moment(&server->served));
+        }
     }
     free(text);
     if (fd >= 0) {
@@ -358,6 +363,9 @@ static void answer_command(struct server *server) {
 static bool look_around(struct server *server) {
     struct served *served = &server->served;
     bool is_done = take_commands(server);
+    if (waitpid(-1, NULL, WNOHANG) > 0) {
+        log_failure("watch", "it ended");
+    }
     if (server->polled[2].fd >= 0 && (server->is_auto || served->journal.is_torn)) {
         begin_turn(served, F_WRLCK);
         is_done = (!server->is_auto || end_waits(served)) && is_done;
@@ -442,8 +450,18 @@ static bool is_option(const char *word, const char *name, const char **said) {
     return is_it;
 }
 
+/* Takes a word that may be given several times. */
+static bool is_place(const char *word, const char *name, const char *places[WATCHED], size_t *count) {
+    const char *place = NULL;
+    if (!is_option(word, name, &place) || *count == WATCHED) {
+        return false;
+    }
+    places[(*count)++] = place;
+    return true;
+}
+
 static bool read_options(struct options *options, int argc, char **argv) {
-    const char *backdate = "3600", *step = "60", *rate = "200", *every = "3600";
+    const char *backdate = "3600", *step = "60", *rate = "200", *every = "3600", *look = "60";
     uint64_t port;
     int at = 1;
     *options = (struct options){.address = "127.0.0.1", .port = "5353", .chain = "nsec 0 604800"};
@@ -456,7 +474,10 @@ static bool read_options(struct options *options, int argc, char **argv) {
         } else if (!is_option(word, "--address=", &options->address) && !is_option(word, "--port=", &options->port)
                    && !is_option(word, "--chain=", &options->chain) && !is_option(word, "--backdate=", &backdate)
                    && !is_option(word, "--step=", &step) && !is_option(word, "--rate=", &rate)
-                   && !is_option(word, "--log=", &options->log) && !is_option(word, "--every=", &every)) {
+                   && !is_option(word, "--log=", &options->log) && !is_option(word, "--every=", &every)
+                   && !is_option(word, "--look=", &look)
+                   && !is_place(word, "--watch=", options->servers, &options->server_count)
+                   && !is_place(word, "--parent=", options->parents, &options->parent_count)) {
             return false;
         }
     }
@@ -464,7 +485,7 @@ static bool read_options(struct options *options, int argc, char **argv) {
     options->file = at + 1 < argc ? argv[at + 1] : NULL;
     return options->folder != NULL && at + 2 >= argc && read_number(backdate, 4, &options->backdate)
         && read_number(step, 4, &options->step) && read_number(rate, 4, &options->rate)
-        && read_number(every, 4, &options->every) && read_number(options->port, 2, &port) && port > 0 && options->step > 0
+        && read_number(every, 4, &options->every) && read_number(look, 2, &options->look) && options->look > 0 && read_number(options->port, 2, &port) && port > 0 && options->step > 0
         && options->step <= DAY && options->backdate <= DAY;
 }
 
@@ -488,8 +509,8 @@ static void begin_folder(struct served *served, const struct options *options) {
     free(text);
 }
 
-/* Opens the zone of a folder, whose journal begins with a master file if it is new. */
-static void open_folder(struct served *served, const struct options *options) {
+/* Names the files of a folder, and takes it. */
+static void take_files(struct served *served, const struct options *options) {
     int folder = snprintf(served->key_folder, sizeof served->key_folder, "%s/keys", options->folder);
     int path = snprintf(served->path, sizeof served->path, "%s/journal", options->folder);
     if (folder < 0 || (size_t)folder >= sizeof served->key_folder || path < 0 || (size_t)path >= sizeof served->path) {
@@ -505,6 +526,11 @@ static void open_folder(struct served *served, const struct options *options) {
     served->keys.folder = served->key_folder;
     served->backdate = (uint32_t)options->backdate;
     served->step = (uint32_t)options->step;
+}
+
+/* Opens the zone of a folder, whose journal begins with a master file if it is new. */
+static void open_folder(struct served *served, const struct options *options) {
+    take_files(served, options);
     served->out = malloc(OUT_ROOM);
     served->made = malloc(OUT_ROOM);
     served->cache.places = calloc(CACHE_PLACES, sizeof *served->cache.places);
@@ -545,6 +571,30 @@ static void say_start(const struct server *server, const struct options *options
     fflush(stdout);
 }
 
+/* Begins to watch servers, if some are told. */
+static void begin_look(const struct options *options) {
+    struct watch *watch = options->server_count + options->parent_count > 0 ? calloc(1, sizeof *watch) : NULL;
+    if (watch == NULL) {
+        return;
+    }
+    bool is_read = read_peer(&watch->own, options->address, options->port);
+    watch->folder = options->folder;
+    for (; is_read && watch->server_count < options->server_count; watch->server_count++) {
+        is_read = read_address(&watch->servers[watch->server_count], options->servers[watch->server_count]);
+    }
+    for (; is_read && watch->parent_count < options->parent_count; watch->parent_count++) {
+        is_read = read_address(&watch->parents[watch->parent_count].peer, options->parents[watch->parent_count]);
+    }
+    if (!is_read) {
+        log_failure("watch", "no address, or no port");
+        exit(EXIT_FAILURE);
+    }
+    if (!begin_watch(watch, (unsigned)options->look)) {
+        fail("watch");
+    }
+    free(watch);
+}
+
 /* Whether there are descriptors for all connections: where one is missing, a connection that waits would be tried again and again. */
 static bool has_descriptors(void) {
     struct rlimit limit;
@@ -556,6 +606,27 @@ static bool has_descriptors(void) {
     return limit.rlim_cur <= limit.rlim_max && setrlimit(RLIMIT_NOFILE, &limit) == 0;
 }
 
+/* Signals that end the server, and those that are to be errors of a call. */
+static void take_signals(void) {
+    signal(SIGTERM, on_signal);
+    signal(SIGINT, on_signal);
+    signal(SIGPIPE, SIG_IGN);
+    signal(SIGXFSZ, SIG_IGN);
+}
+
+/* Opens all that requests and commands come by. */
+static void open_sockets(struct server *server, const struct options *options) {
+    server->polled[0] = (struct pollfd){.fd = bound(SOCK_DGRAM, options), .events = POLLIN};
+    server->polled[1] = (struct pollfd){.fd = bound(SOCK_STREAM, options), .events = POLLIN};
+    server->polled[2].fd = -1;
+    if (!take_commands(server)) {
+        exit(EXIT_FAILURE);
+    }
+    for (size_t i = 0; i < CONNECTIONS; i++) {
+        server->polled[FIRST + i].fd = -1;
+    }
+}
+
 int main(int argc, char **argv) {
     struct options options;
     if (argc > 3 && strcmp(argv[1], "--ctl") == 0) {
@@ -564,7 +635,8 @@ int main(int argc, char **argv) {
     }
     if (!read_options(&options, argc, argv)) {
         fputs("usage: server [--address=A] [--port=N] [--share] [--backdate=SECONDS] [--step=SECONDS] [--rate=N] [--chain=WORDS]\n"
-              "              [--auto] [--log=FILE] [--every=SECONDS] FOLDER [MASTER-FILE]\n"
+              "              [--auto] [--log=FILE] [--every=SECONDS] [--watch=HOST:PORT].. [--parent=HOST:PORT]..\n"
+              "              [--look=SECONDS] FOLDER [MASTER-FILE]\n"
               "       server --ctl FOLDER COMMAND..\n", stderr);
         return EXIT_FAILURE;
     }
@@ -572,29 +644,19 @@ int main(int argc, char **argv) {
         perror(options.log);
         return EXIT_FAILURE;
     }
+    begin_look(&options);
     struct server *server = calloc(1, sizeof *server);
     if (server == NULL) {
         fail("memory");
     }
-    signal(SIGTERM, on_signal);
-    signal(SIGINT, on_signal);
-    signal(SIGPIPE, SIG_IGN);
-    signal(SIGXFSZ, SIG_IGN);
+    take_signals();
     server->is_auto = options.is_auto;
     server->every = (time_t)options.every;
     if (!has_descriptors()) {
         fail("descriptors");
     }
     open_folder(&server->served, &options);
-    server->polled[0] = (struct pollfd){.fd = bound(SOCK_DGRAM, &options), .events = POLLIN};
-    server->polled[1] = (struct pollfd){.fd = bound(SOCK_STREAM, &options), .events = POLLIN};
-    server->polled[2].fd = -1;
-    if (!take_commands(server)) {
-        return EXIT_FAILURE;
-    }
-    for (size_t i = 0; i < CONNECTIONS; i++) {
-        server->polled[FIRST + i].fd = -1;
-    }
+    open_sockets(server, &options);
     say_start(server, &options);
     serve(server);
     log_counts(&server->served);
