@@ -21,10 +21,11 @@ struct journal {
 static bool write_all(int fd, const char *octets, size_t len) {
     for (size_t at = 0; at < len;) {
         ssize_t count = write(fd, octets + at, len - at);
-        if (count <= 0) {
+        if (count == 0 || (count < 0 && errno != EINTR)) {
+            errno = count == 0 ? EIO : errno;
             return false;
         }
-        at += (size_t)count;
+        at += count > 0 ? (size_t)count : 0;
     }
     return fsync(fd) == 0;
 }
