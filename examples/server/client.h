@@ -69,6 +69,10 @@ static int send_command(const char *folder, int argc, char **argv) {
     if (told == TOLD_NOBODY) {
         fprintf(stderr, "%s: no answer: %s\n", folder, strerror(errno));
     }
+    if (fflush(stdout) != 0) {
+        perror("standard output");
+        return EXIT_FAILURE;
+    }
     return told == TOLD_DONE ? EXIT_SUCCESS : EXIT_FAILURE;
 }
 
