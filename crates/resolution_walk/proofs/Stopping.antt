@@ -15,7 +15,7 @@ use Rattle.resolution_evidence.specs.Telling.{Telling}
 use Rattle.resolution_evidence.specs.Told.{StepSeen, TellsNoneBelow, IsCutTelling, IsTelling, at_cut, told}
 use Rattle.resolution_evidence.specs.Walking.{GoesDown, IsNameStep, IsOnward, IsOwnStep, ds_at, renamed}
 use Rattle.resolution_walk.specs.Ended.{IsTurn, IsWay, onward_of}
-use Rattle.resolution_walk.specs.Between.{AreAllUncut, DownToName, DownToMissing, AreUncut, AtZone, Itself, Next, IsAnswerUntold, IsBetween, IsNothing, IsReached, IsToldFor, IsUnanswered, LiesBetween, is_itself}
+use Rattle.resolution_walk.specs.Between.{AreAllUncut, DownToName, DownToMissing, AreUncut, AreUncutBelow, AtZone, Itself, Next, IsAnswerUntold, IsBetween, IsNothing, IsReached, IsToldFor, IsUnanswered, LiesBetween, is_itself}
 use Rattle.resolution_walk.specs.Judged.{AreJudged, NotJudged, ByAnswer, Between, AreJudgedBetween, UpTo, AndNext, IsJudgedAt, IsJudgedFor, IsLast, IsToldCut, IsToldWay, IsUncut, IsUncutTold, counts_in, counts_of, is_nothing, is_uncut}
 use Rattle.resolution_walk.specs.Stopping.{EndsAt, IsCounted, IsLed, IsStop, IsStopped, IsTurnUntold, IsTurnedTo, Stops, Here, Below, TooDeep, StopsBehind, TooMany, Led, StopsBelow, NoneLeft, OneLess, StopsBelowIn, StopsIn, StopsWithin, TurnStops, WalkStops, WantsLacking, ending_within}
 use Rattle.resolution_walk.specs.Wanted.{is_lacking}
@@ -165,11 +165,14 @@ module _ (e : Given) (asked : Asked) (zone : Name) (ds : List Ds) where
   none_at_root n before is = none_down n before (ap (strictly_above zone) is)
 
   pub judged_down : (n : Name) (before after : Counts) → AreUncut e asked zone ds before n after → AreJudgedBetween e asked zone ds before after
-  judged_down n before after k = UpTo k
+  judged_down n before after k = UpTo n k
 
-  pub uncut_counted : (n : Name) (before : Counts) (u : Uncut) → IsUncut e asked zone ds before n u → AreJudgedBetween e asked zone ds before (counts_of u)
-  uncut_counted n before (uncut.SoFar after) k = UpTo k
-  uncut_counted n before (uncut.AtAll after) k = AndNext k.lies k.above TellsNoneBelow k.told
+  pub below_counted : (before after : Counts) → AreUncutBelow e asked zone ds before after → AreJudgedBetween e asked zone ds before after
+  below_counted before after k = AndNext k.name TellsNoneBelow k.lies k.above k.told
+
+  uncut_counted : (n : Name) (before : Counts) (u : Uncut) → IsUncut e asked zone ds before n u → AreJudgedBetween e asked zone ds before (counts_of u)
+  uncut_counted n before (uncut.SoFar after) k = UpTo n k
+  uncut_counted n before (uncut.AtAll after) k = below_counted before after k
 
   -- no delegation is at any name between: so it is where the question's name is reached
   all_uncut : (before : Counts) (u : Uncut) → IsUncut e asked zone ds before asked.name u → AreAllUncut e asked zone ds
@@ -198,8 +201,8 @@ module _ (e : Given) (asked : Asked) (zone : Name) (ds : List Ds) where
 
     one_counted : (t : Taken) → IsJudgedAt e asked zone ds n sums (Ok t) → AreJudgedBetween e asked zone ds before t.counts
     one_counted t (inl itself) = let both : Ok t ≡ Err (uncut.SoFar sums) = itself.1 in absurd cc
-    one_counted t (inr (inl same)) = UpTo (subst (AreUncut e asked zone ds before (drop 1 n)) (sym same) above)
-    one_counted t (inr (inr (said, told))) = AndNext lies above said told
+    one_counted t (inr (inl same)) = UpTo (drop 1 n) (subst (AreUncut e asked zone ds before (drop 1 n)) (sym same) above)
+    one_counted t (inr (inr (said, told))) = AndNext n said lies above told
 
     pub uncut_in : (r : Result (Result Taken Uncut) AllocError) → IfOk r (IsJudgedAt e asked zone ds n sums) → IfOk r (λ x. IfErr x (IsUncut e asked zone ds before n))
     uncut_in (Ok (Ok t)) at = tt

@@ -1,5 +1,5 @@
 -- Which judgements a walk makes of a zone's messages, how often was verified and hashed for them, and what tells nothing.
-use Rattle.std.specs.Prelude.{◌≡◌, ◌⊎◌, ℕ, Bool, true, false, List, drop, Option, Some, Result, Ok, Err}
+use Rattle.std.specs.Prelude.{◌≡◌, ◌⊎◌, ℕ, Bool, true, false, List, drop, Option, Some, None, Result, Ok, Err}
 use Rattle.definitions.specs.Dnskey.{Ds}
 use Rattle.definitions.specs.Name.{Name}
 use Rattle.messages.specs.Message.{Asked}
@@ -22,9 +22,9 @@ use Rattle.resolution_walk.specs.declared.ending.Uncut.TheVariants as uncut
 -- Of the answers for DS at the names between, the topmost first: those that tell of no delegation; and of the next one, whatever it
 -- tells.
 pub data AreJudgedBetween (e : Given) (asked : Asked) (zone : Name) (ds : List Ds) (before after : Counts) : Type 0 where
-  UpTo : {n : Name} → AreUncut e asked zone ds before n after → AreJudgedBetween e asked zone ds before after
-  AndNext : {n : Name} {between : Counts} → LiesBetween zone asked n → AreUncut e asked zone ds before (drop 1 n) between
-      → (said : StepSeen) → IsToldFor e zone ds (ds_at asked n) said between after → AreJudgedBetween e asked zone ds before after
+  UpTo : (n : Name) → AreUncut e asked zone ds before n after → AreJudgedBetween e asked zone ds before after
+  AndNext : (n : Name) (said : StepSeen) {between : Counts} → LiesBetween zone asked n → AreUncut e asked zone ds before (drop 1 n) between
+      → IsToldFor e zone ds (ds_at asked n) said between after → AreJudgedBetween e asked zone ds before after
 
 -- Of a zone's answer to a question, if its messages are there; or of that, where it tells nothing, and behind it at the names between.
 pub data AreJudged (e : Given) (asked : Asked) (zone : Name) (ds : List Ds) (before after : Counts) : Type 0 where
@@ -42,11 +42,15 @@ pub data IsHeard (e : Given) (asked : Asked) (zone : Name) (ds : List Ds) (sough
       → said ≡ at_cut said → IsHeard e asked zone ds sought said
 
 -- the zone's keys are refused, by which each of its messages is judged
+abbrev pub is_of_keys : Refusal → Bool
+is_of_keys r.BadDnskeyMessage = true
+is_of_keys r.EqualTags = true
+is_of_keys r.NoTrustedKey = true
+is_of_keys _ = false
+
 abbrev pub are_keys_refused : Option Refusal → Bool
-are_keys_refused (Some r.BadDnskeyMessage) = true
-are_keys_refused (Some r.EqualTags) = true
-are_keys_refused (Some r.NoTrustedKey) = true
-are_keys_refused _ = false
+are_keys_refused None = false
+are_keys_refused (Some refusal) = is_of_keys refusal
 
 -- The answer to the question is the last one: no answer of the zone tells anything, or no delegation is at any name between.
 abbrev pub IsLast : Given → Asked → Name → List Ds → Option Refusal → Type 0

@@ -80,7 +80,8 @@ impl Uncut {
         ensures { result ≡ counts_of self }
     {
         match self {
-            Uncut::SoFar(counts) | Uncut::AtAll(counts) => counts,
+            Uncut::SoFar(counts) => counts,
+            Uncut::AtAll(counts) => counts,
         }
     }
 }

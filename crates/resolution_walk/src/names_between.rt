@@ -57,10 +57,13 @@ pub(crate) fn at_names(
         None => return Ok(Err(Uncut::SoFar(counts))),
     };
     let way = at_names(alloc, evidence, zone, ds, question, &parent, counts)?;
-    match way {
-        Ok(taken) => Ok(Ok(taken)),
-        Err(Uncut::AtAll(sums)) => Ok(Err(Uncut::AtAll(sums))),
-        Err(Uncut::SoFar(sums)) => at_name(alloc, evidence, zone, ds, question, name, sums),
+    let uncut = match way {
+        Ok(taken) => return Ok(Ok(taken)),
+        Err(uncut) => uncut,
+    };
+    match uncut {
+        Uncut::AtAll(sums) => Ok(Err(Uncut::AtAll(sums))),
+        Uncut::SoFar(sums) => at_name(alloc, evidence, zone, ds, question, name, sums),
     }
 }
 

@@ -211,7 +211,8 @@ fn turned(
             let zone = copy_name(alloc, zone)?;
             Ok(Turn::Ends(Ending::LeftOpen(zone)))
         }
-        Step::NoCut | Step::NoneBelow => untold(alloc, zone, ds, question, None),
+        Step::NoCut => untold(alloc, zone, ds, question, None),
+        Step::NoneBelow => untold(alloc, zone, ds, question, None),
         Step::Untold(refusal) => untold(alloc, zone, ds, question, refusal),
         Step::Asks(asks) => Ok(Turn::Ends(Ending::Asks(asks))),
     }

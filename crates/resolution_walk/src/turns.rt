@@ -6,7 +6,7 @@ ghost use Rattle.resolution_evidence.specs.Told.{told};
 ghost use Rattle.resolution_walk.specs.Between.{IsAnswerUntold, IsNothing, IsUnanswered};
 ghost use Rattle.resolution_walk.specs.Ended.{IsTurn};
 ghost use Rattle.resolution_walk.specs.Judged.{AreJudgedBetween, IsLast, IsToldWay};
-ghost use Rattle.resolution_walk.specs.Judged.{are_keys_refused, counts_in};
+ghost use Rattle.resolution_walk.specs.Judged.{are_keys_refused, counts_in, is_of_keys};
 ghost use Rattle.resolution_walk.specs.Stopping.{IsCounted, IsStop, IsTurnUntold};
 
 use crate::ending::{Taken, Uncut};
@@ -106,7 +106,10 @@ fn between(
     let way = down_between(alloc, evidence, zone, ds, question, &refusal, sums)?;
     match way {
         Ok(taken) => Ok(taken),
-        Err(uncut) => untold_there(alloc, zone, ds, question, refusal, uncut.counts()),
+        Err(uncut) => {
+            let all = uncut.counts();
+            untold_there(alloc, zone, ds, question, refusal, all)
+        }
     }
 }
 
@@ -165,7 +168,16 @@ fn are_keys_refused(refusal: &Option<Refusal>) -> bool
     ensures { result ≡ are_keys_refused refusal.now }
 {
     match refusal {
-        Some(Refusal::BadDnskeyMessage | Refusal::EqualTags | Refusal::NoTrustedKey) => true,
+        Some(refusal) => is_of_keys(*refusal),
+        None => false,
+    }
+}
+
+fn is_of_keys(refusal: Refusal) -> bool
+    ensures { result ≡ is_of_keys refusal }
+{
+    match refusal {
+        Refusal::BadDnskeyMessage | Refusal::EqualTags | Refusal::NoTrustedKey => true,
         _ => false,
     }
 }

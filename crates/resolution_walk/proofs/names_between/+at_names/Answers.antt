@@ -7,7 +7,7 @@ use Rattle.resolution_walk.specs.Judged.{AreJudgedBetween, IsUncut, counts_in}
 use Rattle.resolution_walk.specs.Wanted.{IsParent}
 use Rattle.resolution_walk.specs.declared.ending.Taken.{Taken}
 use Rattle.resolution_walk.specs.declared.ending.Uncut.{Uncut}
-use Rattle.resolution_walk.proofs.Stopping.{judged_down, judged_in, none_at_root, none_down, reached, uncut_counted, uncut_in}
+use Rattle.resolution_walk.proofs.Stopping.{below_counted, judged_down, judged_in, none_at_root, none_down, reached, uncut_in}
 use Rattle.resolution_walk.proofs.names_between.+at_names.Goals as goal
 
 pub returns-then-not-is_above : goal.returns-then-not-is_above
@@ -46,10 +46,12 @@ returns-in-AtAll t c =
     let zone = c.args.zone.now in
     let ds = c.args.ds.now in
     let n = c.args.name.now in
+    let parent = c.in-Some.parent in
     let before = c.args.counts in
-    let uncut : AreUncutBelow e asked zone ds before c.in-AtAll.sums = subst (λ (x : Result Taken Uncut). IfErr x (IsUncut e asked zone ds before c.in-Some.parent)) c.in-AtAll.is c.in_ok-way.ensures.uncut in
-    let counted = subst (λ (x : Result Taken Uncut). AreJudgedBetween e asked zone ds before (counts_in x)) c.in-AtAll.is c.in_ok-way.ensures.counted in
-    record { leads = tt; stops = tt; counted = counted; uncut = uncut }
+    let sums = c.in-AtAll.sums in
+    let above : IsUncut e asked zone ds before parent c.in-Err.uncut = subst (λ (x : Result Taken Uncut). IfErr x (IsUncut e asked zone ds before parent)) c.in-Err.is c.in_ok-way.ensures.uncut in
+    let down : AreUncutBelow e asked zone ds before sums = subst (λ (x : Uncut). IsUncut e asked zone ds before parent x) c.in-AtAll.is above in
+    record { leads = tt; stops = tt; counted = below_counted e asked zone ds before sums down; uncut = down }
 
 pub at_name-requires : goal.at_name-requires
 at_name-requires t c =
@@ -62,7 +64,8 @@ at_name-requires t c =
     let before = c.args.counts in
     let sums = c.in-SoFar.sums in
     let of : IsParent n parent = subst (λ (o : Option Name). MatchOption o (n ≡ []) (IsParent n)) c.in-Some.is c.in_ok-above.ensures in
-    let down : AreUncut e asked zone ds before parent sums = subst (λ (x : Result Taken Uncut). IfErr x (IsUncut e asked zone ds before parent)) c.in-SoFar.is c.in_ok-way.ensures.uncut in
+    let above : IsUncut e asked zone ds before parent c.in-Err.uncut = subst (λ (x : Result Taken Uncut). IfErr x (IsUncut e asked zone ds before parent)) c.in-Err.is c.in_ok-way.ensures.uncut in
+    let down : AreUncut e asked zone ds before parent sums = subst (λ (x : Uncut). IsUncut e asked zone ds before parent x) c.in-SoFar.is above in
     let below = sym c.is_above.ensures ∙ c.if-not-is_above.false in
     reached e asked zone ds n parent before sums (below, c.requires.above) of.is down c.requires.untold
 
@@ -78,7 +81,8 @@ returns t c =
     let sums = c.in-SoFar.sums in
     let r = c.at_name.result in
     let of : IsParent n parent = subst (λ (o : Option Name). MatchOption o (n ≡ []) (IsParent n)) c.in-Some.is c.in_ok-above.ensures in
-    let down : AreUncut e asked zone ds before parent sums = subst (λ (x : Result Taken Uncut). IfErr x (IsUncut e asked zone ds before parent)) c.in-SoFar.is c.in_ok-way.ensures.uncut in
+    let above : IsUncut e asked zone ds before parent c.in-Err.uncut = subst (λ (x : Result Taken Uncut). IfErr x (IsUncut e asked zone ds before parent)) c.in-Err.is c.in_ok-way.ensures.uncut in
+    let down : AreUncut e asked zone ds before parent sums = subst (λ (x : Uncut). IsUncut e asked zone ds before parent x) c.in-SoFar.is above in
     let lies = (sym c.is_above.ensures ∙ c.if-not-is_above.false, c.requires.above) in
     record {
       leads = c.at_name.ensures.leads;

@@ -1,7 +1,7 @@
-use Rattle.std.proofs.Common.{Result, subst, sym, ◌∙◌}
+use Rattle.std.proofs.Common.{Result, subst, sym}
 use Rattle.std.specs.Prelude.{IfErr}
 use Rattle.messages.specs.Questions.{asked_of}
-use Rattle.resolution_walk.specs.Judged.{AreJudgedBetween, IsLast, counts_in, counts_of}
+use Rattle.resolution_walk.specs.Judged.{AreJudgedBetween, IsLast, counts_in}
 use Rattle.resolution_walk.specs.declared.ending.Taken.{Taken}
 use Rattle.resolution_walk.specs.declared.ending.Uncut.{Uncut}
 use Rattle.resolution_walk.proofs.Onward.{stopped}
@@ -20,14 +20,15 @@ returns-in-Err c =
     let refusal = c.args.refusal in
     let own = c.args.own in
     let sums = c.plus-sums.result in
-    let u = c.in-Err.uncut in
     let r = c.untold_there.result in
-    let below = subst (λ (x : Result Taken Uncut). AreJudgedBetween e asked zone ds sums (counts_in x)) c.in-Err.is c.in_ok-way.ensures.counted in
+    let all = c.counts-all.result in
+    let counted = subst (λ (x : Result Taken Uncut). AreJudgedBetween e asked zone ds sums (counts_in x)) c.in-Err.is c.in_ok-way.ensures.counted in
+    let below = subst (AreJudgedBetween e asked zone ds sums) (sym c.counts-all.ensures) counted in
     let last = subst (λ (x : Result Taken Uncut). IfErr x (λ y. IsLast e asked zone ds refusal)) c.in-Err.is c.in_ok-way.ensures.last in
     record {
       leads = stopped e asked zone ds refusal r c.untold_there.ensures.turns;
       stops = untold_stops_in e asked zone ds refusal own r c.requires last c.untold_there.ensures.turns;
-      counted = untold_counted_in e asked zone ds refusal own c.args.counts sums (counts_of u) r c.requires c.plus-sums.ensures below c.untold_there.ensures.counted;
+      counted = untold_counted_in e asked zone ds refusal own c.args.counts sums all r c.requires c.plus-sums.ensures below c.untold_there.ensures.counted;
     }
 
 pub returns-in-Ok-clause-counted : goal.returns-in-Ok-clause-counted
