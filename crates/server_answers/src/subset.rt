@@ -172,7 +172,8 @@ fn choose_first<S: Scheme, H: Nsec3Hasher>(
 {
     for rtype in types {
         question.rtype = *rtype;
-        if is_held(publisher, question, at)? {
+        let held = is_held(publisher, question, at)?;
+        if held {
             return Ok(());
         }
     }

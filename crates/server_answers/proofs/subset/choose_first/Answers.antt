@@ -12,15 +12,15 @@ loop-rtype-init g c = record { same = refl; name = refl; class = refl; first = �
 pub is_held-requires : goal.is_held-requires
 is_held-requires g c = subst (λ p. noted p.latest c.args.at.now ≡ p.latest) (sym c.loop-rtype.invariant.same) c.requires
 
-pub returns-then-is_held-clause-first : goal.returns-then-is_held-clause-first
-returns-then-is_held-clause-first g c =
+pub returns-then-held-clause-first : goal.returns-then-held-clause-first
+returns-then-held-clause-first g c =
     let p = c.args.publisher.now in
     let world = world_of g.S.Scheme.signature_of g.S.Scheme.verifies g.S.Scheme.digest_of g.H.Nsec3Hasher.hash_of in
     let u = c.rtype-item.result in
     let q = c.loop-rtype.question in
-    let held = subst (λ r. IsHeld (world r) r.keys c.args.at.now (held_asked (world r) r.keys c.args.at.now q.name u q.class) c.in_ok-is_held.field-0) c.loop-rtype.invariant.same c.in_ok-is_held.ensures.held in
+    let held = subst (λ r. IsHeld (world r) r.keys c.args.at.now (held_asked (world r) r.keys c.args.at.now q.name u q.class) c.in_ok-held.held) c.loop-rtype.invariant.same c.in_ok-held.ensures.held in
     is_first (world p) p.keys c.args.at.now c.args.question.now q c.args.types.now c.loop-rtype.rtype-index u c.loop-rtype-test.true c.rtype-item.is c.loop-rtype.invariant.first c.loop-rtype.invariant.name c.loop-rtype.invariant.class
-    c.in_ok-is_held.field-0 held c.if-is_held.true
+    c.in_ok-held.held held c.if-held.true
 
 pub loop-rtype-preserved : goal.loop-rtype-preserved
 loop-rtype-preserved g c =
@@ -28,16 +28,16 @@ loop-rtype-preserved g c =
     let world = world_of g.S.Scheme.signature_of g.S.Scheme.verifies g.S.Scheme.digest_of g.H.Nsec3Hasher.hash_of in
     let u = c.rtype-item.result in
     let q = c.loop-rtype.question in
-    let held = subst (λ r. IsHeld (world r) r.keys c.args.at.now (held_asked (world r) r.keys c.args.at.now q.name u q.class) c.in_ok-is_held.field-0) c.loop-rtype.invariant.same c.in_ok-is_held.ensures.held in
+    let held = subst (λ r. IsHeld (world r) r.keys c.args.at.now (held_asked (world r) r.keys c.args.at.now q.name u q.class) c.in_ok-held.held) c.loop-rtype.invariant.same c.in_ok-held.ensures.held in
     record {
-      same = c.in_ok-is_held.ensures.same ∙ c.loop-rtype.invariant.same;
+      same = c.in_ok-held.ensures.same ∙ c.loop-rtype.invariant.same;
       name = c.loop-rtype.invariant.name;
       class = c.loop-rtype.invariant.class;
       first = passed (world p) p.keys c.args.at.now c.args.question.now q c.args.types.now c.loop-rtype.rtype-index u c.loop-rtype-test.true c.rtype-item.is c.loop-rtype.invariant.first c.loop-rtype.invariant.name c.loop-rtype.invariant.class
-          c.in_ok-is_held.field-0 held c.if-is_held.false;
+          c.in_ok-held.held held c.if-held.false;
     }
 
 pub returns-clause-first : goal.returns-clause-first
 returns-clause-first g c =
     let p = c.args.publisher.now in
-    none_first (world_of g.S.Scheme.signature_of g.S.Scheme.verifies g.S.Scheme.digest_of g.H.Nsec3Hasher.hash_of p) p.keys c.args.at.now (asked_of c.args.question.now) c.args.types.now c.loop-rtype.rtype-index c.from_int.result c.loop-rtype-test.false c.loop-rtype.invariant.first c.from_int.ensures
+    none_first (world_of g.S.Scheme.signature_of g.S.Scheme.verifies g.S.Scheme.digest_of g.H.Nsec3Hasher.hash_of p) p.keys c.args.at.now (asked_of c.args.question.now) c.args.types.now c.loop-rtype.rtype-index c.from_int-question.result c.loop-rtype-test.false c.loop-rtype.invariant.first c.from_int-question.ensures

@@ -21,13 +21,13 @@ returns-in-Ok-clause-chosen g c =
     let world = world_of g.S.Scheme.signature_of g.S.Scheme.verifies g.S.Scheme.digest_of g.H.Nsec3Hasher.hash_of in
     let at = c.args.at.now in
     let a = asked_of c.args.question.now in
-    let x = c.from_int.result in
+    let x = c.from_int-question.result in
     let m = c.in-Ok.message.items in
     let r = c.choose_listed.result in
     let t = c.choose_listed.new.question.rtype in
     let first = subst (λ q. OnOk r (MatchBool (is_no_data c.deref.result.now) (IsFirst (world q) q.keys at (for_type x a) (listed c.deref.result.now) t) (t ≡ x))) c.in-Ok.ensures.rest c.choose_listed.ensures.listed in
     let here = subst (λ (k : List ℕ). OnOk r (MatchBool (is_no_data k) (IsFirst (world p) p.keys at (for_type x a) (listed k) t) (t ≡ x))) c.deref.ensures.value first in
-    chosen_where (world p) p.keys at a x m c.from_int.ensures c.in-Ok.ensures.bare t r here
+    chosen_where (world p) p.keys at a x m c.from_int-question.ensures c.in-Ok.ensures.bare t r here
 
 pub returns-in-Ok-clause-noted : goal.returns-in-Ok-clause-noted
 returns-in-Ok-clause-noted g c = of_ok c.choose_listed.result (ap (λ q. q.latest) c.choose_listed.ensures.same ∙ c.in-Ok.ensures.noted)
@@ -46,7 +46,7 @@ returns-in-Ok-clause-rest g c = rest_of c.args.publisher.now c.choose_listed.new
 pub returns-in-Err-clause-fault : goal.returns-in-Err-clause-fault
 returns-in-Err-clause-fault g c =
     let p = c.args.publisher.now in
-    λ other. subst (λ (k : ℕ). RefusesQuestion (unsigned (world_of g.S.Scheme.signature_of g.S.Scheme.verifies g.S.Scheme.digest_of g.H.Nsec3Hasher.hash_of p)) p.keys c.args.at.now (for_type k (asked_of c.args.question.now)) c.in-Err.fault) c.from_int.ensures c.in-Err.ensures.fault
+    λ other. subst (λ (k : ℕ). RefusesQuestion (unsigned (world_of g.S.Scheme.signature_of g.S.Scheme.verifies g.S.Scheme.digest_of g.H.Nsec3Hasher.hash_of p)) p.keys c.args.at.now (for_type k (asked_of c.args.question.now)) c.in-Err.fault) c.from_int-question.ensures c.in-Err.ensures.fault
 
 pub returns-in-Err-clause-was : goal.returns-in-Err-clause-was
 returns-in-Err-clause-was g c = inl c.in-Err.ensures.refused

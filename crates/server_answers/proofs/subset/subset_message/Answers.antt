@@ -22,8 +22,8 @@ returns-in-Ok-clause-made g c =
     let makes = subst (λ (a : Asked). Makes (serving (world p) p.keys table at 0 0 []) a false c.args.is_signed mid new made) (asked_same c.args.question q c.in-Ok.ensures.name c.in-Ok.ensures.class) first in
     subset_made (serving (world p) p.keys table at 0 0 []) asked q.rtype c.args.is_signed p.latest mid new made c.in-Ok.ensures.chosen c.in-Ok.ensures.noted makes
 
-pub returns-in-Err-clause-made : goal.returns-in-Err-clause-made
-returns-in-Err-clause-made g c =
+pub returns-clause-made : goal.returns-clause-made
+returns-clause-made g c =
     let p = c.args.publisher.now in
     let s = serving (world_of g.S.Scheme.signature_of g.S.Scheme.verifies g.S.Scheme.digest_of g.H.Nsec3Hasher.hash_of p) p.keys c.args.table.now c.args.at.now 0 0 [] in
     subset_unmade s (asked_of c.args.question) c.args.is_signed p.latest c.choose_type.new.publisher.latest c.in-Err.fault c.in-Err.ensures.fault c.in-Err.ensures.was
