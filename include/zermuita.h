@@ -48,7 +48,8 @@ enum zermuita_reply {
      * ZERMUITA_RECORDS and ZERMUITA_WILDCARD also for the RRset that was asked for, the replies of an alias for its CNAME or DNAME
      * record, and ZERMUITA_REFERRAL for its DS set. None vouches for anything else: the SOA record beside a denial, the NS set of
      * a referral and the CNAME that servers make of a DNAME are not verified. ZERMUITA_DELEGATED alone does not say whether DS
-     * records beside it are verified: with `places` 1 those that are verified have places.
+     * records beside it are verified: with `places` 1 those that are verified
+     * have places, where the output names the delegation.
      * A verdict is about `name` and `rtype` of its call alone. The reply of an alias says only where `name` leads: ask for the
      * target next, from the root down. Do not follow it where `name` is not the client's name, as in a search for a delegation
      * above that: the client's name leads elsewhere.
@@ -66,7 +67,10 @@ enum zermuita_reply {
     ZERMUITA_DNAME = 10,          /* a name above has a DNAME record */
     ZERMUITA_REFERRAL = 11,       /* the name is at or below a delegation with DS records */
 
-    /* Refusals: why there is no verdict. 21, 22 and 25 are bogus; `ede` says what to tell the client. */
+    /*
+     * Refusals: why there is no verdict. 21, 22 and 25 are bogus once the steps that docs/use/CALLING.md has for each are done: 25
+     * also comes for answers of a zone below. `ede` says what to tell the client.
+     */
     ZERMUITA_QUESTION_NOT_ALLOWED = 16,   /* the name is not in the zone, the class is not IN, or the type is not judged */
     ZERMUITA_BAD_DNSKEY_MESSAGE = 17,     /* the DNSKEY answer is not a message */
     ZERMUITA_BAD_ANSWER_MESSAGE = 18,     /* the answer is not a message */
