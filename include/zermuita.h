@@ -48,8 +48,7 @@ enum zermuita_reply {
      * ZERMUITA_RECORDS and ZERMUITA_WILDCARD also for the RRset that was asked for, the replies of an alias for its CNAME or DNAME
      * record, and ZERMUITA_REFERRAL for its DS set. None vouches for anything else: the SOA record beside a denial, the NS set of
      * a referral and the CNAME that servers make of a DNAME are not verified. ZERMUITA_DELEGATED alone does not say whether DS
-     * records beside it are verified: with `places` 1 those that are verified
-     * have places, where the output names the delegation.
+     * records beside it are verified: with `places` 1 those that are verified have places, where the output names the delegation.
      * A verdict is about `name` and `rtype` of its call alone. The reply of an alias says only where `name` leads: ask for the
      * target next, from the root down. Do not follow it where `name` is not the client's name, as in a search for a delegation
      * above that: the client's name leads elsewhere.
