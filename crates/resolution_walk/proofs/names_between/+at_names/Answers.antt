@@ -2,7 +2,7 @@ use Rattle.std.proofs.Common.{Option, Result, subst, sym, ◌∙◌}
 use Rattle.std.specs.Prelude.{◌≡◌, [], IfErr, MatchOption}
 use Rattle.definitions.specs.Name.{Name}
 use Rattle.messages.specs.Questions.{asked_of}
-use Rattle.resolution_walk.specs.Between.{AreUncut, AreUncutBelow}
+use Rattle.resolution_walk.specs.Between.{AreUncut, AreUncutBelow, LiesBetween}
 use Rattle.resolution_walk.specs.Judged.{AreJudgedBetween, IsUncut, counts_in}
 use Rattle.resolution_walk.specs.Wanted.{IsParent}
 use Rattle.resolution_walk.specs.declared.ending.Taken.{Taken}
@@ -83,7 +83,7 @@ returns t c =
     let of : IsParent n parent = subst (λ (o : Option Name). MatchOption o (n ≡ []) (IsParent n)) c.in-Some.is c.in_ok-above.ensures in
     let above : IsUncut e asked zone ds before parent c.in-Err.uncut = subst (λ (x : Result Taken Uncut). IfErr x (IsUncut e asked zone ds before parent)) c.in-Err.is c.in_ok-way.ensures.uncut in
     let down : AreUncut e asked zone ds before parent sums = subst (λ (x : Uncut). IsUncut e asked zone ds before parent x) c.in-SoFar.is above in
-    let lies = (sym c.is_above.ensures ∙ c.if-not-is_above.false, c.requires.above) in
+    let lies : LiesBetween zone asked n = (sym c.is_above.ensures ∙ c.if-not-is_above.false, c.requires.above) in
     record {
       leads = c.at_name.ensures.leads;
       stops = c.at_name.ensures.stops;
