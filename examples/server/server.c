@@ -483,9 +483,10 @@ static bool read_options(struct options *options, int argc, char **argv) {
     }
     options->folder = at < argc ? argv[at] : NULL;
     options->file = at + 1 < argc ? argv[at + 1] : NULL;
-    return options->folder != NULL && at + 2 >= argc && read_number(backdate, 4, &options->backdate)
-        && read_number(step, 4, &options->step) && read_number(rate, 4, &options->rate)
-        && read_number(every, 4, &options->every) && read_number(look, 2, &options->look) && options->look > 0 && read_number(options->port, 2, &port) && port > 0 && options->step > 0
+    bool are_numbers = read_number(options->port, 2, &port) && read_number(backdate, 4, &options->backdate)
+        && read_number(step, 4, &options->step) && read_number(rate, 4, &options->rate) && read_number(every, 4, &options->every)
+        && read_number(look, 2, &options->look);
+    return options->folder != NULL && at + 2 >= argc && are_numbers && port > 0 && options->look > 0 && options->step > 0
         && options->step <= DAY && options->backdate <= DAY;
 }
 
