@@ -340,6 +340,9 @@ static void answer_command(struct server *server) {
     struct timeval second = {.tv_sec = 1};
     int fd = accept4(server->polled[2].fd, NULL, NULL, SOCK_CLOEXEC);
     FILE *said = fd >= 0 && read_command(fd, line, sizeof line) ? open_memstream(&text, &len) : NULL;
+    if (fd >= 0 && said == NULL) {
+        log_failure("command", "no line came within a second, or it is too long");
+    }
     if (said != NULL) {
         fputc('-', said);
         begin_turn(&server->served, F_WRLCK);
