@@ -22,11 +22,12 @@ module _ (w : World) (keys : ZoneKeys) (at : ℕ) (a : Asked) (t : ℕ) where
   module _ (reserved : Allowed 65535) where
     first_allowed : (us : List ℕ) → IsFirst w keys at (for_type 65535 a) us t → Allowed t
     first_allowed [] e = subst Allowed (sym e) reserved
-    first_allowed (u ∷ us) h = go h.0 h.1 h.2
+    first_allowed (u ∷ us) h = go (λ k. first_allowed us k) h.0 h.1 h.2
       where
-        go : (b : Bool) → IsHeld w keys at (for_type u a) b → MatchBool b (t ≡ u) (IsFirst w keys at (for_type 65535 a) us t) → Allowed t
-        go true held e = subst Allowed (sym e) held.1.0
-        go false held rest = first_allowed us rest
+        go : (IsFirst w keys at (for_type 65535 a) us t → Allowed t) → (b : Bool) → IsHeld w keys at (for_type u a) b
+            → MatchBool b (t ≡ u) (IsFirst w keys at (for_type 65535 a) us t) → Allowed t
+        go more true held e = subst Allowed (sym e) held.1.0
+        go more false held rest = more rest
 
     by_denial : (b : Bool) (m : List ℕ) → MatchBool b (IsFirst w keys at (for_type 65535 a) (listed m) t) (t ≡ 65535) → Allowed t
     by_denial true m first = first_allowed (listed m) first
