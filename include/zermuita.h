@@ -49,9 +49,10 @@ enum zermuita_reply {
      * record, and ZERMUITA_REFERRAL for its DS set. None vouches for anything else: the SOA record beside a denial, the NS set of
      * a referral and the CNAME that servers make of a DNAME are not verified. ZERMUITA_DELEGATED alone does not say whether DS
      * records beside it are verified: with `places` 1 those that are verified have places, where the output names the delegation.
-     * A verdict is about `name` and `rtype` of its call alone. The reply of an alias says only where `name` leads: ask for the
-     * target next, from the root down. Do not follow it where `name` is not the client's name, as in a search for a delegation
-     * above that: the client's name leads elsewhere.
+     * A verdict is about `name` and `rtype` of its call alone. ZERMUITA_NODATA for type DS at `apex` itself says nothing of the
+     * parent's DS set: ask the parent's servers, with the parent as `apex`. The reply of an alias says only where `name` leads:
+     * ask for the target next, from the root down. Do not follow it where `name` is not the client's name, as in a search for a
+     * delegation above that: the client's name leads elsewhere.
      */
     ZERMUITA_RECORDS = 0,         /* the name has records of the type */
     ZERMUITA_NODATA = 1,          /* the name has no records of the type */
@@ -233,9 +234,10 @@ static inline int zermuita_octets_are(struct zermuita_octets *octets) {
  * Nothing that the library reads may overlap `out` or `report`.
  *
  * On ZERMUITA_ASK `out` has signatures that are to be checked: check each (zermuita_next_ask), put the octets of `out` at the end
- * of `checked`, and call again. Put no entry there that was not checked: it stands for a signature that fails. There is no need to
- * count: where more are to be checked than `max_signatures`, the reply is ZERMUITA_TOO_MANY_SIGNATURES. Beside a DS set a message of
- * over 4,096 octets with more than 64 RRSIG records, or owners of more than 32,768 labels in all, is ZERMUITA_MESSAGE_TOO_LONG.
+ * of `checked`, and call again. Put no entry there that was not checked, or could not be: it stands for a signature that fails.
+ * There is no need to count: where more are to be checked than `max_signatures`, the reply is ZERMUITA_TOO_MANY_SIGNATURES. Beside a
+ * DS set a message of over 4,096 octets with more than 64 RRSIG records, or owners of more than 32,768 labels in all, is
+ * ZERMUITA_MESSAGE_TOO_LONG.
  */
 static inline enum zermuita_reply zermuita_judge(const struct zermuita_case *handed, uint8_t *out, size_t out_len,
                                                  struct zermuita_report *report) {
