@@ -1,9 +1,14 @@
-/* Judges answers by zermuita_judge: once for the signatures that it asks for, then call by call from an empty list, counted. */
+/*
+ * Judges answers by zermuita_judge: once for the signatures that it asks for, then, counted, call by call from an empty list, once more
+ * with places, and once as though no signature over the answer passed, so that the reply is a refusal with its extended error.
+ */
 #include "asked.h"
 
 #include "judgement.h"
 
 #include "../../examples/c/signature.h"
+
+enum { DNSKEY = 48, ROOM = 4096 };
 
 static struct zermuita_case case_of(const struct asked *asked) {
     return (struct zermuita_case){
@@ -25,6 +30,11 @@ static bool passes(const struct zermuita_ask *ask) {
     return signature_passes(ask);
 }
 
+/* Whether it is one over keys, of which the signed octets begin with their type, and passes. */
+static bool passes_over_keys(const struct zermuita_ask *ask) {
+    return ask->octets.len >= 2 && zermuita_number(ask->octets.data, 2) == DNSKEY && signature_passes(ask);
+}
+
 /* What is handed in and what was replied. */
 static struct zermuita_case handed;
 static struct judgement judgement;
@@ -36,8 +46,13 @@ static bool call(const struct asked *asked) {
     return reply == ZERMUITA_ASK || reply == ZERMUITA_RECORDS || reply == ZERMUITA_NXDOMAIN;
 }
 
+static bool call_refused(const struct asked *asked) {
+    return !call(asked) && reply == ZERMUITA_NOT_PROVEN && judgement.report.ede != 0;
+}
+
 int main(void) {
     struct asked asked = {0};
+    buffer_reserve(&judgement.octets, ROOM);
     while (next_asked(&asked)) {
         handed = case_of(&asked);
         judge(handed, passes, &judgement);
@@ -48,6 +63,12 @@ int main(void) {
                 handed.checked.len += judgement.report.len;
             }
         }
+        handed.places = 1;
+        count(&asked, "places", call);
+        handed.places = 0;
+        judge(handed, passes_over_keys, &judgement);
+        handed.checked = octets_of(&judgement.checked);
+        count(&asked, "refused", call_refused);
     }
     judgement_free(&judgement);
     asked_free(&asked);

@@ -3,6 +3,7 @@
  * `build` builds it, and usage() says how it is called. Signatures are checked by OpenSSL.
  */
 #include "ask.h"
+#include "bogus.h"
 #include "ds_set.h"
 #include "show.h"
 #include "signature.h"
@@ -41,8 +42,11 @@ static int usage(void) {
           "-l      how many iterations of NSEC3 are allowed: 100, if it is left out\n"
           "\n"
           "Prints a line: records, wildcard, NODATA, wildcard NODATA, NXDOMAIN, delegated, opt-out, insecure, alias, wildcard alias,\n"
-          "DNAME, referral or bogus, with records, names or the reason. The status is 0 where the answer proves what the line says,\n"
-          "1 where it doesn't, and 2 where there is no answer or the call cannot be read.\n",
+          "DNAME or referral, with records or names; or bogus or refused, with the reason. An answer is bogus that is not proven, if\n"
+          "another server of the zone and a zone below have no better one, and opt-out doesn't leave its alias open, none of which is\n"
+          "looked for. One that is refused is not bogus: it cannot be read, two keys have one tag, the iterations of NSEC3 are over the\n"
+          "limit, or it takes more work than is done. The status is 0 where the answer proves what the line says, 1 where it is bogus\n"
+          "or refused, and 2 where there is no answer, the question is not judged or the call cannot be read.\n",
           stderr);
     return FAILED;
 }
@@ -122,7 +126,7 @@ static void tell_reply(const struct judgement *judgement, uint16_t rtype) {
     };
     static const char *const delegates[] = {"", ", at a delegation", ", at no delegation"};
     if (judgement->reply >= sizeof verdicts / sizeof *verdicts) {
-        printf("bogus: %s", zermuita_strerror(judgement->reply));
+        printf("%s: %s", is_bogus(judgement->reply) ? "bogus" : "refused", zermuita_strerror(judgement->reply));
         return;
     }
     fputs(verdicts[judgement->reply], stdout);
@@ -135,15 +139,16 @@ static void tell_reply(const struct judgement *judgement, uint16_t rtype) {
 
 /* Prints what is said, and gives the status. */
 static int tell(const struct judgement *judgement, uint16_t rtype) {
-    if (judgement->reply == ZERMUITA_QUESTION_NOT_ALLOWED || judgement->reply == ZERMUITA_OUT_OF_MEMORY) {
-        fprintf(stderr, "probe: not judged: %s\n", zermuita_strerror(judgement->reply));
-        return FAILED;
-    }
     /* Each signature is work for whoever checks it, and a message may have hundreds (CVE-2023-50387), or long ones. */
     if (judgement->reply == ZERMUITA_TOO_MANY_SIGNATURES || judgement->reply == ZERMUITA_ASK
         || judgement->reply == ZERMUITA_BUFFER_TOO_SMALL) {
-        printf("bogus: more signatures than are checked; %u signatures checked\n", judgement->signatures);
+        printf("refused: more signatures than are checked; %u signatures checked\n", judgement->signatures);
         return NOT_PROVEN;
+    }
+    bool is_about_the_answer = zermuita_is_verdict(judgement->reply) || zermuita_is_refusal(judgement->reply);
+    if (!is_about_the_answer || judgement->reply == ZERMUITA_QUESTION_NOT_ALLOWED || judgement->reply == ZERMUITA_OUT_OF_MEMORY) {
+        fprintf(stderr, "probe: not judged: %s\n", zermuita_strerror(judgement->reply));
+        return FAILED;
     }
     tell_reply(judgement, rtype);
     if (judgement->report.ede != 0) {

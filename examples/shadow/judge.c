@@ -1,5 +1,6 @@
 #include "judge.h"
 
+#include "bogus.h"
 #include "signature.h"
 #include "table.h"
 
@@ -198,7 +199,7 @@ static enum finding finding_of(uint32_t reply) {
     case ZERMUITA_OUT_OF_MEMORY:
         return FOUND_NOTHING;
     default:
-        return zermuita_is_refusal(reply) ? FOUND_BOGUS : FOUND_NOTHING;
+        return is_bogus(reply) ? FOUND_BOGUS : zermuita_is_refusal(reply) ? FOUND_REFUSED : FOUND_NOTHING;
     }
 }
 

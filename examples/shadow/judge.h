@@ -27,6 +27,7 @@ enum finding {
     FOUND_LEFT_OUT,   /* the library does not judge the question */
     FOUND_ITERATIONS, /* more iterations than are allowed, which is a matter of policy (RFC 9276, 3.2) */
     FOUND_EQUAL_TAGS, /* two keys of one tag, which the library does not judge */
+    FOUND_REFUSED,    /* another refusal that is not of a bogus answer: a message cannot be read, or takes too much work */
     FOUND_NOTHING     /* memory ran out */
 };
 

@@ -149,7 +149,9 @@ static bool is_handed_over(struct shadow *shadow, const struct trial *trial, con
         fputs("}\n", tail);
         line.why = write_session(session, shadow->judge, trial);
     }
-    is_made = close_text(head) & close_text(tail) & close_text(session) & is_made;
+    is_made = close_text(head) && is_made;
+    is_made = close_text(tail) && is_made;
+    is_made = close_text(session) && is_made;
     if (line.why != NULL || !is_made) {
         free(line.session);
         line.session = NULL;
@@ -189,6 +191,7 @@ void report_counts(const struct shadow *shadow, const struct stream_counts *stre
         "type",
         "equal tags",
         "iterations",
+        "refused",
         "algorithms",
         "checking disabled",
         "cut off",

@@ -203,6 +203,9 @@ static bool is_judged(struct shadow *shadow, const struct place *place, const st
     case FOUND_ITERATIONS:
         *reason = REASON_ITERATIONS;
         return false;
+    case FOUND_REFUSED:
+        *reason = REASON_REFUSED;
+        return false;
     case FOUND_NOTHING:
         *reason = REASON_MEMORY;
         return false;

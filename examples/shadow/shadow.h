@@ -18,6 +18,7 @@ enum reason {
     REASON_TYPE,              /* the library does not judge the type */
     REASON_EQUAL_TAGS,        /* two keys have one tag, which the library does not judge */
     REASON_ITERATIONS,        /* the iterations are over the limit, which is a matter of policy */
+    REASON_REFUSED,           /* a message cannot be read, answers another question, or takes more work than is done */
     REASON_ALGORITHMS,        /* the zone's DS set has no record of an algorithm and a digest that are checked here */
     REASON_CHECKING_DISABLED, /* the client asked with the bit CD */
     REASON_CUT_OFF,           /* the answer to the client has the bit TC */

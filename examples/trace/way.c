@@ -1,17 +1,14 @@
 #include "way.h"
 
+#include "bogus.h"
+
 #include <stdlib.h>
 
 enum kind kind_of(enum zermuita_reply reply) {
     if (reply == ZERMUITA_INSECURE || reply == ZERMUITA_OPTOUT) {
         return INSECURE;
     }
-    return zermuita_is_verdict((uint32_t)reply) ? SECURE : BOGUS;
-}
-
-/* Whether an answer that is refused is bogus (RFC 4035, 4.3). Other refusals say what the library lacked or does not judge. */
-static bool is_bogus(enum zermuita_reply reply) {
-    return reply == ZERMUITA_NO_TRUSTED_KEY || reply == ZERMUITA_MIXED_NSEC3_PARAMETERS || reply == ZERMUITA_NOT_PROVEN;
+    return zermuita_is_verdict((uint32_t)reply) ? SECURE : NOT_SHOWN;
 }
 
 static const char *word_of(enum zermuita_reply reply) {
@@ -55,7 +52,7 @@ static void print_rest(FILE *file, const struct end *end, struct zermuita_octets
     struct zermuita_octets part;
     struct zermuita_wanted refused;
     const char *separator = ": ";
-    if (kind_of(end->reply) == BOGUS && zermuita_next_wanted(&rest, &refused)) {
+    if (kind_of(end->reply) == NOT_SHOWN && zermuita_next_wanted(&rest, &refused)) {
         fputs(", the answer of ", file);
         print_it(file, refused.zone);
         fputs(" to ", file);
@@ -169,7 +166,7 @@ static void print_said(const struct end *end, struct zermuita_octets rest) {
     struct zermuita_octets part;
     struct zermuita_wanted refused;
     const char *separator = ", \"records\": [";
-    if (kind_of(end->reply) == BOGUS && zermuita_next_wanted(&rest, &refused)) {
+    if (kind_of(end->reply) == NOT_SHOWN && zermuita_next_wanted(&rest, &refused)) {
         fputs(", \"refused\": {", stdout);
         print_question(refused.zone, refused.name, refused.rtype);
         putchar('}');

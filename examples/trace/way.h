@@ -4,8 +4,8 @@
 
 #include "evidence.h"
 
-/* An end, by its kind: what the status of the program is. */
-enum kind { SECURE = 0, BOGUS = 1, INSECURE = 3 };
+/* An end, by its kind: what the status of the program is. NOT_SHOWN: an answer is bogus, or is refused for another reason. */
+enum kind { SECURE = 0, NOT_SHOWN = 1, INSECURE = 3 };
 
 /* A question, and the last reply to it. */
 struct end {

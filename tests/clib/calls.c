@@ -131,6 +131,21 @@ static void call_with_flags(void) {
     expect(zermuita_judge(&handed, NULL, 0, &report) == ZERMUITA_INSECURE && is_empty(&report), "no places of what is insecure");
 }
 
+/* Classes: nothing is said of a question of another class than IN, which is 1. */
+static void call_with_classes(void) {
+    static const uint16_t others[] = {0, 3, 4, 254, 255, 257, 65535};
+    struct zermuita_case handed = without_messages();
+    for (uint32_t other_question = 0; other_question < 2; other_question++) {
+        handed.other_question = other_question;
+        for (size_t i = 0; i < sizeof others / sizeof *others; i++) {
+            struct zermuita_report report = report_of_nines();
+            handed.rclass = others[i];
+            enum zermuita_reply reply = zermuita_judge(&handed, NULL, 0, &report);
+            expect(reply == ZERMUITA_QUESTION_NOT_ALLOWED && is_empty(&report), "a question of another class than IN");
+        }
+    }
+}
+
 /* The data of a DS record behind their length, with a digest of so many octets. */
 static size_t put_ds(uint8_t *at, uint8_t algorithm, uint8_t digest_type, size_t digest_len) {
     memset(at, 0, 6 + digest_len);
@@ -324,6 +339,7 @@ int main(void) {
     call_with_sizes();
     call_with_reports();
     call_with_flags();
+    call_with_classes();
     call_with_ds();
     call_with_evidence();
     walk_over_replies();

@@ -1,26 +1,26 @@
 /*
  * Refuses each request of memory of a call in turn: of the first call on each answer, and of the last, which has all signatures.
- * Then the reply is that memory ran out; or what it is with memory, since some requests only make a call faster, but for the extended
- * error of a refusal, which may be left out; and all memory was given back. Prints how many requests were refused, how many of these
- * calls said the same as with memory, and how many left out an extended error.
+ * Then the reply is that memory ran out, and nothing else is said but counts; or it is what it is with memory, extended error and all,
+ * since some requests only make a call faster; and all memory was given back. Prints how many requests were refused, and how many of
+ * these calls said the same as with memory.
  */
 #include "cases.h"
 #include "heap.h"
 
 #include <stdio.h>
 
-static unsigned long refused, same, without_error, wrong;
+static unsigned long refused, same, wrong;
 
 static bool is_same(const struct judgement *one, const struct judgement *other) {
     return one->reply == other->reply && memcmp(&one->report, &other->report, sizeof one->report) == 0
         && (one->report.len > one->octets.room || memcmp(one->octets.data, other->octets.data, one->report.len) == 0);
 }
 
-/* Whether a refusal is the same as another but for the extended error that it leaves out. */
-static bool leaves_out_error(const struct judgement *one, const struct judgement *other) {
-    struct judgement with = *other;
-    with.report.ede = one->report.ede;
-    return zermuita_is_refusal(one->reply) && other->report.ede == 0 && is_same(one, &with);
+/* Whether a reply says that memory ran out, and nothing of the zone. */
+static bool is_out_of_memory(const struct judgement *it) {
+    const struct zermuita_report *report = &it->report;
+    return it->reply == ZERMUITA_OUT_OF_MEMORY && report->len == 0 && report->ttl == 0 && report->until == 0 && report->ede == 0
+        && report->delegates == ZERMUITA_DELEGATES_UNKNOWN;
 }
 
 /* One call, with a request refused or none. */
@@ -38,11 +38,10 @@ static void refuse_each(const struct zermuita_case *handed, struct judgement *wi
     wrong += heap.in_use != 0;
     for (size_t request = 1; request <= heap.requests; request++) {
         struct heap left = called(handed, request, without);
-        bool is = is_same(with, without), lacks_error = !is && leaves_out_error(with, without);
+        bool is = is_same(with, without);
         refused++;
         same += is;
-        without_error += lacks_error;
-        wrong += left.in_use != 0 || !(is || lacks_error || (without->reply == ZERMUITA_OUT_OF_MEMORY && without->report.len == 0));
+        wrong += left.in_use != 0 || !(is || is_out_of_memory(without));
     }
 }
 
@@ -56,8 +55,7 @@ int main(void) {
         handed.checked = octets_of(&judgement.checked);
         refuse_each(&handed, &with, &without);
     }
-    printf("%zu answers: %lu requests refused, %lu calls as with memory, %lu without an extended error, %lu wrong\n", cases.len, refused,
-           same, without_error, wrong);
+    printf("%zu answers: %lu requests refused, %lu calls as with memory, %lu wrong\n", cases.len, refused, same, wrong);
     judgement_free(&judgement);
     judgement_free(&with);
     judgement_free(&without);
