@@ -48,13 +48,14 @@ first_of : {A : Type 0} (xs : List A) → (xs ≡ [] → ⊥) → (x : A) × Has
 first_of [] h = absurd (h refl)
 first_of (x ∷ xs) h = (x, inl refl)
 
--- that are settled: at one moment there is one, or the answer has one RRset
-settled_so : (k : ℕ) (h : JudgeInput) (versions : List Version) (signings : List Signing) → ((s : Signing) → Has signings s → Has versions s.version) → Settled k h versions signings → AreOfOne h signings ⊎ HasOneRrset k h
-settled_so k h versions signings of settled = ⊎_elim
+-- that are settled: at one moment there is one, or one RRset of the answer is signed
+settled_so : (a : Answers) (k : ℕ) (h : JudgeInput) (published : List Dnskey) (versions : List Version) (signings : List Signing) → ((s : Signing) → Has signings s → Has versions s.version)
+    → Settled a k h published versions signings → AreOfOne h signings ⊎ HasOneRrset a k h published
+settled_so a k h published versions signings of settled = ⊎_elim
     (λ (single : length versions ≡ 1). inl (λ x y i j alike. only_one versions x.version y.version single (of x i) (of y j)))
-    (λ (more : ((h.one_moment ≡ true) × OneAtATime signings) ⊎ HasOneRrset k h). ⊎_elim
+    (λ (more : ((h.one_moment ≡ true) × OneAtATime signings) ⊎ HasOneRrset a k h published). ⊎_elim
     (λ (s : (h.one_moment ≡ true) × OneAtATime signings). inl (λ x y i j alike. s.1 x y (contained_has signings x i) (contained_has signings y j) (alike s.0)))
-    (λ (single : HasOneRrset k h). inr single)
+    (λ (single : HasOneRrset a k h published). inr single)
     more)
     settled
 
@@ -85,7 +86,7 @@ module _ (a : Answers) (k : ℕ) (h : JudgeInput) (versions : List Version) (x :
       let asked : is_added_type h.asked.rtype ≡ false = judged_type h said.asked in
       let spare = first_of versions x.one in
       let used : IsChosen a k h x.published x.signings said.answer x.answer_honest said.answer_read usable signers (not_keys h.asked.rtype asked) versions =
-      chosen a k h x.published x.signings said.answer x.answer_honest said.answer_read usable signers (not_keys h.asked.rtype asked) said.of_one_moment versions of_versions (settled_so k h versions x.signings of_versions x.settled) spare.0 spare.1 in
+      chosen a k h x.published x.signings said.answer x.answer_honest said.answer_read usable signers (not_keys h.asked.rtype asked) said.of_one_moment versions of_versions (settled_so a k h x.published versions x.signings of_versions x.settled) spare.0 spare.1 in
       let version : Version = used.version in
       let is : IsVersion a h version = version_is version used.there in
       let hash : Name → List ℕ = hash_in a.hash version.mode in

@@ -32,7 +32,7 @@ pub struct Case<'a> {
     /// Where a zone changes, records of two versions together may prove what neither says; with
     /// this they are refused, if each answer is signed anew. Signers that sign as records change
     /// give unlike times at any moment: who judges these leaves this out, and has the promise for a
-    /// zone that does not change.
+    /// zone that does not change, or for an answer in which signatures pass for one RRset alone.
     pub one_moment: bool,
     /// Whether the answer may be one to another question of the zone, and the question one for
     /// CNAME or DNAME records.

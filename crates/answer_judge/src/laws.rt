@@ -35,8 +35,9 @@ pub fn chains_say_the_same()
 
 /// On messages in which nothing is forged a judge says the verdict of a version that the zone had,
 /// in which the name is no alias, or refuses, beside any DS set that isn't empty. The zone never
-/// changed, or signatures must be of one moment and at one moment the zone had one version: of
-/// records of two versions no verdict is made that neither has.
+/// changed, or signatures must be of one moment and at one moment the zone had one version, or they
+/// pass for one RRset of the answer alone: of records of two versions no verdict is made that
+/// neither has.
 ///
 /// A zone is one in order: nothing stands beside a CNAME, nothing below a DNAME (RFC 1034, 3.6.2;
 /// RFC 6672, 2.4). Whoever signs and serves it plays no part. Nothing is forged where each

@@ -126,18 +126,32 @@ pub record IsVersion (a : Answers) (h : JudgeInput) (v : Version) : Type 0 where
 abbrev pub OneAtATime : List Signing → Type 0
 OneAtATime signings = (x y : Signing) → Contains signings x → Contains signings y → x.times ≡ y.times → x.version ≡ y.version
 
--- The zone answer has one RRset that is sought, up to the case of its owner: what it proves rests on that alone.
-abbrev pub HasOneRrset : ℕ → JudgeInput → Type 0
-HasOneRrset k h =
-    (read : Message) (o p : Name) (t u : ℕ) → message k h.answer_bytes ≡ Ok read
-    → (sought_of_answer k h read.records).is o t ≡ true → 0 < length ((sought_of_answer k h read.records).datas o t)
-    → (sought_of_answer k h read.records).is p u ≡ true → 0 < length ((sought_of_answer k h read.records).datas p u)
-    → (low o ≡ low p) × (t ≡ u)
+-- A message has a signature of an RRset that a judge may use, and that passes under a key of the zone which may sign.
+pub record HasSignature (a : Answers) (k : ℕ) (h : JudgeInput) (published : List Dnskey) (sought : Sought) (m : List ℕ) (read : Message) (owner : Name) (covered : ℕ) : Type 0 where
+  pub rrsig : Spelled
+  pub fields : Fields
+  pub signature : List ℕ
+  pub key : Dnskey
+  pub may_be_used : MayBeUsed k h sought m read rrsig fields signature
+  pub owner_is : low rrsig.owner ≡ low owner
+  pub covered_is : fields.covered ≡ covered
+  pub key_published : Contains published key
+  pub key_usable : is_usable key ≡ true
+  pub some : 0 < length (sought.datas rrsig.owner fields.covered)
+  pub passes : a.verifies key (over sought rrsig fields) signature ≡ true
 
--- The zone never changed; or signatures must be of one moment, and at one moment there was one version; or the answer has one
--- RRset that is sought, whatever its moment.
-abbrev pub Settled : ℕ → JudgeInput → List Version → List Signing → Type 0
-Settled k h versions signings = (length versions ≡ 1) ⊎ (((h.one_moment ≡ true) × OneAtATime signings) ⊎ HasOneRrset k h)
+-- One RRset of the zone answer has such a signature, up to the case of its owner: what the answer proves rests on that alone.
+abbrev pub HasOneRrset : Answers → ℕ → JudgeInput → List Dnskey → Type 0
+HasOneRrset a k h published =
+    (read : Message) (o p : Name) (t u : ℕ) → message k h.answer_bytes ≡ Ok read
+    → HasSignature a k h published (sought_of_answer k h read.records) h.answer_bytes read o t
+    → HasSignature a k h published (sought_of_answer k h read.records) h.answer_bytes read p u → (low o ≡ low p) × (t ≡ u)
+
+-- The zone never changed; or signatures must be of one moment, and at one moment there was one version; or one RRset of the
+-- answer is signed, whatever its moment.
+abbrev pub Settled : Answers → ℕ → JudgeInput → List Dnskey → List Version → List Signing → Type 0
+Settled a k h published versions signings =
+    (length versions ≡ 1) ⊎ (((h.one_moment ≡ true) × OneAtATime signings) ⊎ HasOneRrset a k h published)
 
 -- ---- what is handed in
 
@@ -153,7 +167,7 @@ pub record AreHonest (a : Answers) (k : ℕ) (h : JudgeInput) (versions : List V
   pub ds_some : h.ds ≡ [] → ⊥
   pub flags_are : AllByRecursion (λ key. key.flags < 65536) published
   pub of_versions : AllByRecursion (λ s. Contains versions s.version) signings
-  pub settled : Settled k h versions signings
+  pub settled : Settled a k h published versions signings
   pub keys_honest : IsHonest a k h published (WasSigned a h.apex published signings) (sought_of_keys h) h.dnskey_bytes
   pub keys_known : NoStranger a k h published
   pub answer_honest : IsHonest a k h published (WasSigned a h.apex published signings) (sought_of_answer k h) h.answer_bytes

@@ -194,10 +194,12 @@ some_version : (w : World) (all : List (List HandedRr)) (rs : List HandedRr) →
 some_version w [] rs h e = has_contained [] rs h
 some_version w (x ∷ all) rs h e = cc
 
--- at one moment there was one version
-settled_so : (w : World) (h : JudgeInput) (y : Story) (signed : List Signing) → AllByRecursion (IsOfRun y.signings) signed → h.one_moment ≡ true → (AreTimely y.times → OneBegins y.signings) → IsSettled y → Settled pointer_limit h (map (version_of w) y.versions.all) signed
-settled_so w h y signed of_run on one (inl e) = inl (length-map y.versions.all (version_of w) ∙ e)
-settled_so w h y signed of_run on one (inr timely) = inr (inl (on, one_at_a_time y.signings signed (one timely) of_run))
+-- at one moment there was one version, or what the answer proves rests on one RRset
+settled_so : (w : World) (h : JudgeInput) (y : Story) (s : Sofar) (signed : List Signing) → AllByRecursion (IsOfRun y.signings) signed → h.one_moment ≡ true → (AreTimely y.times → OneBegins y.signings) → IsSettled w y s h
+    → Settled w.answers pointer_limit h (published_by y.past s.keys) (map (version_of w) y.versions.all) signed
+settled_so w h y s signed of_run on one (inl e) = inl (length-map y.versions.all (version_of w) ∙ e)
+settled_so w h y s signed of_run on one (inr (inl timely)) = inr (inl (on, one_at_a_time y.signings signed (one timely) of_run))
+settled_so w h y s signed of_run on one (inr (inr single)) = inr (inr single)
 
 -- what was signed with versions of the run is of its versions
 of_run_versions : (versions : List Version) (signings signed : List Signing) → AllByRecursion (λ (s : Signing). Contains versions s.version) signings → AllByRecursion (IsOfRun signings) signed → AllByRecursion (λ (s : Signing). Contains versions s.version) signed
@@ -216,7 +218,7 @@ honestly w y s at set keys bytes asked j apex all one known question judges hone
   ds_some = honest.some;
   flags_are = all_flags w (y.past ++ s.keys ∷ []) known.bound;
   of_versions = of_run_versions (map (version_of w) y.versions.all) y.signings honest.signed known.of_versions honest.of_run;
-  settled = settled_so w (judge_input w set keys bytes asked at) y honest.signed honest.of_run refl one settled;
+  settled = settled_so w (judge_input w set keys bytes asked at) y s honest.signed honest.of_run refl one settled;
   keys_honest = honest.keys_honest;
   keys_known = honest.keys_known;
   answer_honest = honest.answer_honest;

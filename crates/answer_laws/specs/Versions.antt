@@ -2,20 +2,21 @@
 use Rattle.std.specs.Prelude.{◌≡◌, ◌⊎◌, ℕ, ◌+◌, ◌<◌, ◌≤◌, List, [], ◌∷◌, ◌++◌, Contains, Some, Ok, length, map, slice_get}
 use Rattle.std.specs.List.{AllByRecursion}
 use Rattle.definitions.specs.Dnskey.{Ds}
+use Rattle.definitions.specs.Limits.{pointer_limit}
 use Rattle.messages.specs.HandedRr.{HandedRr, handed_of}
 use Rattle.messages.specs.Message.{Asked}
 use Rattle.answer_shared.specs.Accepting.{sorted_records}
 use Rattle.answer_events.specs.declared.event.Act.{Act}
 use Rattle.answer_events.specs.declared.event.Act.TheVariants as act
 use Rattle.answer_events.specs.declared.event.Event.{Event}
-use Rattle.answer_judge_facts.specs.Honest.{SaysOneOf, Signing}
-use Rattle.answer_judge_keys.specs.Judging.{Answer}
+use Rattle.answer_judge_facts.specs.Honest.{HasOneRrset, SaysOneOf, Signing}
+use Rattle.answer_judge_keys.specs.Judging.{Answer, JudgeInput}
 use Rattle.answer_publisher.specs.Replacing.{whole_second}
 use Rattle.answer_publisher.specs.World.{World}
 use Rattle.answer_publisher_keys.specs.Bindings.{ZoneKeys}
 use Rattle.answer_outcomes.specs.declared.outcome.Outcome.{Outcome}
 use Rattle.answer_outcomes.specs.declared.outcome.Outcome.TheVariants as outcome
-use Rattle.answer_laws.specs.HonestBytes.{AreHonestSo, AtJudgement, IsApart, signings_with, version_of}
+use Rattle.answer_laws.specs.HonestBytes.{AreHonestSo, AtJudgement, IsApart, published_by, signings_with, version_of}
 use Rattle.answer_laws.specs.OneState.{Moment, VerdictAt, moments_with}
 use Rattle.answer_laws.specs.Simulating.{Simulates, Sofar, begin, judge_input, with_records}
 use Rattle.answer_laws.specs.ThroughRolls.{History, VerdictThrough, history_with, no_history, past_with}
@@ -96,15 +97,15 @@ pub record AreTimely (times : List ℕ) : Type 0 where
   pub rising : NeverBack times
   pub near : (m n : ℕ) → Contains times m → Contains times n → whole_second m < whole_second n + 4294967296
 
--- the zone never changed, or the events so far are timely
-abbrev pub IsSettled : Story → Type 0
-IsSettled y = (length y.versions.all ≡ 1) ⊎ AreTimely y.times
+-- the zone never changed, or the events so far are timely, or one RRset of the zone answer is signed
+abbrev pub IsSettled : World → Story → Sofar → JudgeInput → Type 0
+IsSettled w y s h = (length y.versions.all ≡ 1) ⊎ (AreTimely y.times ⊎ HasOneRrset w.answers pointer_limit h (published_by y.past s.keys))
 
 -- A judgement of messages in which nothing is forged says the verdict of one version, in which the name is no alias, or refuses:
 -- a mixture of two is never taken for a zone.
 abbrev pub SaysOneHonestly : World → Story → Sofar → ℕ → List Ds → List ℕ → List ℕ → Asked → Answer → Type 0
 SaysOneHonestly w y s at set dnskey bytes asked answer =
-    AreHonestSo w y.signings y.past s (judge_input w set dnskey bytes asked at) → AllByRecursion (IsApart w asked) y.versions.all → IsSettled y
+    AreHonestSo w y.signings y.past s (judge_input w set dnskey bytes asked at) → AllByRecursion (IsApart w asked) y.versions.all → IsSettled w y s (judge_input w set dnskey bytes asked at)
     → SaysOneOf (judge_input w set dnskey bytes asked at) (map (version_of w) y.versions.all) answer
 
 -- What an event brings behind others. A judgement of things of one state of the keys, or of any three states, none of them

@@ -51,7 +51,7 @@ pub of_second : Contains both second_version
 of_second = at_place both second_version 1 refl refl
 
 -- neither version says that there is no such name
-neither : (h : JudgeInput) → h.apex ≡ example → h.asked ≡ mixed.asked → IsSaidByOne h both NoName → ⊥
+pub neither : (h : JudgeInput) → h.apex ≡ example → h.asked ≡ mixed.asked → IsSaidByOne h both NoName → ⊥
 neither h apex asked s = go (has_contained both s.version s.there)
   where
     said : (v : Version) → v ≡ s.version → verdict_of mixed v ≡ NoName

@@ -9,7 +9,7 @@ use Rattle.definitions.specs.Limits.{pointer_limit}
 use Rattle.definitions.specs.Name.{Name, labels_eq, low, strictly_above, wire}
 use Rattle.definitions.specs.Reading.{most_heads}
 use Rattle.definitions.specs.Signing.{Fields, signed_octets}
-use Rattle.definitions.specs.Zone.{Rr, Zone, apex_of, has, is_delegation, is_of, owners}
+use Rattle.definitions.specs.Zone.{NoName, NoType, Records, Rr, Zone, apex_of, has, is_delegation, is_of, owners}
 use Rattle.definitions.specs.ZoneChain.{nsec_names}
 use Rattle.definitions.proofs.Members.{any_of}
 use Rattle.denial_laws.specs.Truth.{IsServable}
@@ -24,17 +24,17 @@ use Rattle.answer_judge_keys.specs.Trusted.{is_usable}
 use Rattle.answer_judge_keys.specs.declared.verdict.Refusal.TheVariants.{MixedVersions, NotProven}
 use Rattle.answer_judge_keys.proofs.GivenSorted.{in_has}
 use Rattle.answer_judge.proofs.GivenLists.{has_contained}
-use Rattle.counterexamples_honest.specs.Premises.{IsHonestCase, all}
+use Rattle.counterexamples_honest.specs.Premises.{IsHonestCase, RefusesFalsehood, all}
 use Rattle.counterexamples_honest.specs.Rows.{aliased, at_alias, begun_at_once, below_redirected, first_version, idle_keys, mixed_until, next_of_alias, next_of_apex_later, next_of_b, next_of_redirect, of_idle, of_other_signer, other_signer, own_keys, redirected, second_version, small}
 use Rattle.counterexamples_honest.specs.World.{a, b, ds, example, false_address, fields, idle, own_key, plain, x, x_b}
 use Rattle.counterexamples_honest.proofs.Dealt.{IsDealtHere, at_place, foreign, here, no_signature, of_another, signed, small_octets, unforged, unforged_here}
 use Rattle.counterexamples_honest.proofs.Handed.{opaque, question, signable}
 use Rattle.counterexamples_honest.proofs.HonestRows.{small_row}
 use Rattle.counterexamples_honest.proofs.Known.{foreign_known, no_stranger, own_known}
-use Rattle.counterexamples_honest.proofs.Mixtures.{both, first_row, of_first, of_second, second_row}
+use Rattle.counterexamples_honest.proofs.Mixtures.{both, first_row, neither, of_first, of_second, second_row}
 use Rattle.counterexamples_honest.proofs.OwnKeys.{a_is, b_is, example_is, in_order, item, keys_over, no_type, own_keys_known, own_keys_unforged, read_of, signed_from, soa_is, x_b_is, x_is}
 use Rattle.counterexamples_honest.proofs.Premises.{all_honest}
-use Rattle.counterexamples_honest.proofs.Row.{AnswerUnforged, IsInOrder, IsRow, Row, SignedOf, handed_in, honest_in, of_version, own_published}
+use Rattle.counterexamples_honest.proofs.Row.{AnswerUnforged, IsInOrder, IsRow, Row, SignedOf, alias_in_one, handed_in, honest_in, not_one, of_version, own_published}
 
 -- ---- another signer
 
@@ -404,3 +404,20 @@ until_row = record {
       (own_keys_unforged (handed_in until_at) refl until_at.signings) (own_keys_known mixed_until x 16) until_unforged (tt, (tt, tt)));
   answers = refl;
 }
+
+-- ---- what a judge that looks away would say of them
+
+pub signer_trap : RefusesFalsehood plain of_other_signer (small ∷ []) (Refuses NotProven) (Records (false_address ∷ []))
+signer_trap = record { case = signer_row; breaks = λ promise. not_one of_other_signer small (Records (false_address ∷ [])) (λ e. cc) (promise (small ∷ []) signer_row.honest) }
+
+pub idle_trap : RefusesFalsehood plain of_idle (small ∷ []) (Refuses NotProven) (Records (false_address ∷ []))
+idle_trap = record { case = idle_row; breaks = λ promise. not_one of_idle small (Records (false_address ∷ [])) (λ e. cc) (promise (small ∷ []) idle_row.honest) }
+
+pub alias_trap : RefusesFalsehood plain at_alias (aliased ∷ []) (Refuses NotProven) NoType
+alias_trap = record { case = alias_row; breaks = λ promise. alias_in_one at_alias aliased NoType refl (promise (aliased ∷ []) alias_row.honest) }
+
+pub redirect_trap : RefusesFalsehood plain below_redirected (redirected ∷ []) (Refuses NotProven) NoName
+redirect_trap = record { case = redirect_row; breaks = λ promise. alias_in_one below_redirected redirected NoName refl (promise (redirected ∷ []) redirect_row.honest) }
+
+pub until_trap : RefusesFalsehood plain begun_at_once both (Refuses MixedVersions) NoName
+until_trap = record { case = until_row; breaks = λ promise. neither begun_at_once refl refl (promise both until_row.honest) }

@@ -91,7 +91,7 @@ versions_in p r (v ∷ versions) are apart =
 pub honest_in : (p : Premises) (r : Row) → IsRow p r
     → Where p.ds_some (r.set ≡ [] → ⊥)
     → Where p.keys_published (AllByRecursion (Contains (own_key ∷ [])) r.signed_keys)
-    → Where p.settled (Settled pointer_limit (handed_in r) r.versions r.signings)
+    → Where p.settled (Settled plain pointer_limit (handed_in r) (own_key ∷ []) r.versions r.signings)
     → Where p.keys_unforged (KeysUnforged r)
     → Where p.keys_known (NoStranger plain pointer_limit (handed_in r) (own_key ∷ []))
     → Where p.answer_unforged (AnswerUnforged r)

@@ -12,7 +12,7 @@ use Rattle.messages.specs.WrittenLaws.{IsQuestion}
 use Rattle.answer_shared.specs.Chainable.{HasChain}
 use Rattle.answer_shared.specs.Hashing.{hash_in}
 use Rattle.answer_scheme.specs.Answers.{Answers}
-use Rattle.answer_judge_facts.specs.Honest.{AreHonest, FewIterations, IsSaidByOne, NoStranger, NothingForged, Settled, Signing, WasSigned, sought_of_answer, sought_of_keys}
+use Rattle.answer_judge_facts.specs.Honest.{AnswersHonest, AreHonest, FewIterations, IsSaidByOne, NoStranger, NothingForged, Settled, Signing, WasSigned, sought_of_answer, sought_of_keys}
 use Rattle.answer_judge_facts.specs.Versions.{Version, zone_in}
 use Rattle.answer_judge_facts.specs.Judged.{judged}
 use Rattle.answer_judge_keys.specs.Judging.{Answer, JudgeInput, Refuses, Says}
@@ -33,7 +33,8 @@ pub record Premises : Type 0 where
   -- the names of the chain have different hashes, and no name of the chain shares its hash with another name that the
   -- question concerns
   pub hashes_apart : Bool
-  -- the zone never changed, or signatures must be of one moment and at one moment it had one version
+  -- the zone never changed, or signatures must be of one moment and at one moment it had one version, or one RRset of the
+  -- zone answer is signed
   pub settled : Bool
   -- no record of a zone is of a type that signing adds
   pub ordinary : Bool
@@ -133,7 +134,7 @@ pub record AreHonestIn (p : Premises) (a : Answers) (h : JudgeInput) (versions :
   pub of_versions : AllByRecursion (λ s. Contains versions s.version) signings
   pub ds_some : Where p.ds_some (h.ds ≡ [] → ⊥)
   pub keys_published : Where p.keys_published (AllByRecursion (Contains published) signed_keys)
-  pub settled : Where p.settled (Settled pointer_limit h versions signings)
+  pub settled : Where p.settled (Settled a pointer_limit h published versions signings)
   pub keys_unforged : Where p.keys_unforged (NothingForged a pointer_limit h published (WasSigned a h.apex signed_keys signings) (sought_of_keys h) h.dnskey_bytes)
   pub keys_known : Where p.keys_known (NoStranger a pointer_limit h published)
   pub answer_unforged : Where p.answer_unforged (NothingForged a pointer_limit h published (WasSigned a h.apex signed_keys signings) (sought_of_answer pointer_limit h) h.answer_bytes)
@@ -161,6 +162,11 @@ NoneIsFalse = SaysFalsely all → ⊥
 pub record IsHonestCase (a : Answers) (h : JudgeInput) (versions : List Version) (answer : Answer) : Type 0 where
   pub honest : AreHonest a pointer_limit h versions
   pub answers : judged a pointer_limit h ≡ answer
+
+-- the same, of which a judge that looks away would say what no version says: it would break its promise on honest messages
+pub record RefusesFalsehood (a : Answers) (h : JudgeInput) (versions : List Version) (answer : Answer) (said : Verdict) : Type 0 where
+  pub case : IsHonestCase a h versions answer
+  pub breaks : AnswersHonest a pointer_limit h (Says said) → ⊥
 
 -- two versions of a zone, what is handed in of both, and a verdict that neither has: it is said where signatures need not be of one
 -- moment, and else what is handed in is refused

@@ -1,13 +1,14 @@
 //! Messages that meet the premises on honest messages, and what each premise is needed for. Each
 //! law is the contract of a function that does nothing.
 ghost use Rattle.std.specs.Prelude.{[], ◌∷◌};
-ghost use Rattle.definitions.specs.Zone.{NoName, Records};
+ghost use Rattle.definitions.specs.Zone.{NoName, NoType, Records};
 ghost use Rattle.answer_judge_keys.specs.Judging.{Says, Refuses};
 ghost use Rattle.answer_judge_keys.specs.declared.verdict.Refusal.TheVariants.{MixedVersions};
 ghost use Rattle.answer_judge_keys.specs.declared.verdict.Refusal.TheVariants.{NoTrustedKey};
 ghost use Rattle.answer_judge_keys.specs.declared.verdict.Refusal.TheVariants.{NotProven};
 ghost use Rattle.counterexamples_honest.specs.Premises.{AllAreHonest, IsHonestCase, IsMixture};
-ghost use Rattle.counterexamples_honest.specs.Premises.{NoneIsFalse, SaysFalsely, without_alone};
+ghost use Rattle.counterexamples_honest.specs.Premises.{NoneIsFalse, RefusesFalsehood};
+ghost use Rattle.counterexamples_honest.specs.Premises.{SaysFalsely, without_alone};
 ghost use Rattle.counterexamples_honest.specs.Premises.{without_answer_unforged, without_childless};
 ghost use Rattle.counterexamples_honest.specs.Premises.{without_ds, without_hashes_apart};
 ghost use Rattle.counterexamples_honest.specs.Premises.{without_keys_known, without_keys_published};
@@ -19,7 +20,7 @@ ghost use Rattle.counterexamples_honest.specs.Rows.{below_redirected, first_vers
 ghost use Rattle.counterexamples_honest.specs.Rows.{mixed, of_idle, of_other_signer, of_strangers};
 ghost use Rattle.counterexamples_honest.specs.Rows.{own, redirected, second_version, small};
 ghost use Rattle.counterexamples_honest.specs.Rows.{spliced, starred};
-ghost use Rattle.counterexamples_honest.specs.World.{address, plain};
+ghost use Rattle.counterexamples_honest.specs.World.{address, false_address, plain};
 
 /// Messages that meet all premises are honest, and no verdict on them is false.
 pub fn all_premises_are_honesty()
@@ -60,34 +61,37 @@ pub fn what_is_forged_late_is_honest()
 {}
 
 /// So is an address that the zone's key signed for another zone: a judge that does not look at the
-/// signer would say it (RFC 4035, 5.3.1).
+/// signer would say it, and break its promise (RFC 4035, 5.3.1).
 pub fn what_is_signed_for_another_zone_is_honest()
-    ensures { IsHonestCase plain of_other_signer (small ∷ []) (Refuses NotProven) }
+    ensures { let said = Records (false_address ∷ []) in
+        RefusesFalsehood plain of_other_signer (small ∷ []) (Refuses NotProven) said }
 {}
 
 /// So is an address that a published key signed which is no zone key: a judge that does not look at
 /// the bit of zone keys would say it (RFC 4034, 2.1.1).
 pub fn what_is_signed_by_no_zone_key_is_honest()
-    ensures { IsHonestCase plain of_idle (small ∷ []) (Refuses NotProven) }
+    ensures { let said = Records (false_address ∷ []) in
+        RefusesFalsehood plain of_idle (small ∷ []) (Refuses NotProven) said }
 {}
 
 /// So is the record of the chain of an alias, which lacks the type: a judge that takes it as proof
 /// says NODATA at an alias (RFC 6840, 4.3).
 pub fn the_record_of_an_alias_is_honest()
-    ensures { IsHonestCase plain at_alias (aliased ∷ []) (Refuses NotProven) }
+    ensures { RefusesFalsehood plain at_alias (aliased ∷ []) (Refuses NotProven) NoType }
 {}
 
 /// So is the record of the chain of a DNAME, which covers the names below it: a judge that takes it
 /// as proof denies what is redirected (RFC 6840, 4.1).
 pub fn the_record_of_a_dname_is_honest()
-    ensures { IsHonestCase plain below_redirected (redirected ∷ []) (Refuses NotProven) }
+    ensures { let versions = redirected ∷ [] in
+        RefusesFalsehood plain below_redirected versions (Refuses NotProven) NoName }
 {}
 
 /// So are records of two versions that were signed in one second, the second for longer: a judge
 /// that compares inceptions alone calls a name missing that both versions have.
 pub fn versions_that_begin_at_once_are_honest()
     ensures { let versions = first_version ∷ second_version ∷ [] in
-        IsHonestCase plain begun_at_once versions (Refuses MixedVersions) }
+        RefusesFalsehood plain begun_at_once versions (Refuses MixedVersions) NoName }
 {}
 
 /// Beside an empty DS set nothing is verified, so each zone would be called unsigned (RFC 4035,
