@@ -9,8 +9,8 @@ import pathlib
 import struct
 from collections.abc import Iterator
 
-from answers import DNAME, Answered, Reply, part, wire
-from findings import rrsets
+from answers import CNAME_TYPE, DNAME, DNAME_TYPE, DS_TYPE, Answered, Reply, above, part, wire
+from findings import hinted_cut, is_below, rrsets
 from lasting import DNSKEY, NSEC, NSEC3, Passing, Record, Signature, is_sought, records
 
 ROWS = pathlib.Path(__file__).resolve().parents[2] / "crates/test_extended_errors"
@@ -82,7 +82,22 @@ def rests_on(it: Answered) -> dict[tuple[bytes, int], list[Record]]:
     return {key: rrset for key, rrset in sets.items() if key[1] in (NSEC, NSEC3) and is_sought(it, *key, rrset)}
 
 
-def of_answer(it: Answered, passing: Passing) -> int:
+def told_of(it: Answered) -> Answered:
+    """The case whose error is told where nothing is proven: of the DNAME, the CNAME or DS at the cut that the answer suggests, else
+    the case itself."""
+    sets, name, apex = rrsets(it.answer), it.name.lower(), it.apex.lower()
+    dnames = (owner for owner, rtype in sets if rtype == DNAME_TYPE)
+    dname = next((owner for owner in dnames if is_below(name, owner) and apex in above(owner)), None)
+    if dname is not None:
+        return dataclasses.replace(it, name=dname, rtype=DNAME_TYPE)
+    if it.rtype != CNAME_TYPE and (name, CNAME_TYPE) in sets and apex in above(name):
+        return dataclasses.replace(it, rtype=CNAME_TYPE)
+    cut = hinted_cut(it)
+    return it if cut is None else dataclasses.replace(it, name=cut, rtype=DS_TYPE)
+
+
+def of_answer(case: Answered, passing: Passing) -> int:
+    it = told_of(case)
     sets = rests_on(it)
     if not sets:
         return NO_DENIAL

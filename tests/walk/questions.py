@@ -161,13 +161,17 @@ def lasts(qname, rtype):
     return f"; TTL {ttl} until {UNTIL}"
 
 
-# The codes of RFC 8914 for zones whose keys are not signed in time: 7 where the signatures have expired; 9 where no key is there.
-ERRORS = {"late.test": 7, "lost.test": 9}
+# The codes of RFC 8914 for zones whose keys are not signed in time: 7 where the signatures have expired; 9 where no key is there. For
+# delegations with DS records that are insecure: 1 where these are of an algorithm that is not checked.
+ERRORS, UNSUPPORTED = {"late.test": 7, "lost.test": 9}, {"old.test": 1}
 
 
 def error(says):
-    """The extended error of what is bogus."""
-    return f"; EDE {ERRORS[says.split()[1]]}" if says.startswith("bogus") else ""
+    """The extended error of what is bogus, and of what is insecure though there are DS records."""
+    *words, zone = says.split()
+    if words[:1] == ["bogus"]:
+        return f"; EDE {ERRORS[words[1]]}"
+    return f"; EDE {UNSUPPORTED[zone]}" if words == ["insecure", "below"] and zone in UNSUPPORTED else ""
 
 
 def messages_of(qname, rtype):

@@ -3,6 +3,7 @@ pub mod Cuts
 pub mod OneName
 pub mod Beside
 pub mod Truly
+pub mod Within
 pub mod Searched
 pub mod Exchanging
 pub use Rattle.answer_judge_table.proofs.AsksGrow

@@ -1,18 +1,18 @@
 -- Where CNAME and DNAME records lead that a zone answers.
-use Rattle.std.proofs.Common.{◌≡◌, ℕ, Bool, true, false, not, [], ◌∷◌, Option, Some, None, sym, ap, ◌∙◌, refl, inl, inr, ◌++◌, length, take}
+use Rattle.std.proofs.Common.{◌≡◌, ℕ, Bool, true, false, not, ◌&&◌, ◌||◌, [], ◌∷◌, Option, Some, None, sym, ap, ◌∙◌, refl, inl, inr, ◌++◌, length, take}
 use Rattle.std.specs.Prelude.{◌==◌, ◌-◌, nat_le, if◌then◌else◌}
 use Rattle.std.proofs.lemmas.Bool.{and_from, not_from_false}
 use Rattle.definitions.specs.Name.{Name, low, wire, wire_len}
-use Rattle.definitions.specs.Zone.{Zone, Verdict, Records, StarRecords, has, is_live, cut, exists, ce, star_under, verdict}
+use Rattle.definitions.specs.Zone.{Zone, Verdict, Records, StarRecords, Open, has, is_live, is_open, cut, exists, ce, star_under, verdict}
 use Rattle.definitions.proofs.ZoneNames.{low-low, same-length}
-use Rattle.denial_laws.specs.Aliases.{has_alias}
+use Rattle.denial_laws.specs.Aliases.{has_alias, has_own_alias, is_redirected}
 use Rattle.denial_laws.specs.Leading.{To, TooLong, exchanged, source_of}
 use Rattle.denial_laws.specs.Saying.{IsAnswered, IsVerdict, HasStar}
 use Rattle.denial_laws.proofs.NameFacts.{names_same, strictly-low, strictly_at}
 use Rattle.denial_laws.proofs.OneVerdict.{each_question_has_one_verdict}
 use Rattle.denial_laws.proofs.Unaliased.{unaliased_parts}
 use Rattle.denial_laws.proofs.ZoneCuts.{cut_is, cut_live, uncut, uncut_live, kept_inside}
-use Rattle.answer_findings.specs.Laws.{OwnCnamesRename, StarCnamesRename, DnamesRedirect, HasRecords, RecordsAreThere}
+use Rattle.answer_findings.specs.Laws.{OpenWhateverAsked, OwnCnamesRename, StarCnamesRename, DnamesRedirect, HasRecords, RecordsAreThere}
 
 -- what a verdict rests on
 pub told : (z : Zone) (optout : Bool) (name : Name) (t : ℕ) (v : Verdict) → verdict z optout name t ≡ v → IsVerdict z optout name t v
@@ -77,6 +77,17 @@ star_cnames_rename z optout name target t v plain other =
       datas = sym p.1.3;
       is = refl;
     }
+
+-- ---- opt-out
+
+pub open_whatever_asked : OpenWhateverAsked
+open_whatever_asked z optout name t u v plain =
+    let q : Name = low name in
+    let left : is_open z optout q ≡ true = told z optout name t Open v in
+    let direct : is_redirected z q ≡ false = (unaliased_parts z optout name t plain).unredirected in (
+      sym ((each_question_has_one_verdict z optout name u Open).0 left),
+      ap (λ b. b || (not (is_open z optout q) && has_own_alias z q u)) direct ∙ ap (λ b. not b && has_own_alias z q u) left,
+    )
 
 -- ---- records
 

@@ -1,5 +1,5 @@
 -- What a search comes to.
-use Rattle.std.proofs.Common.{◌≡◌, Bool, List, Option, Some, None, Result, Ok, Err, IfOk, MatchResult, refl, ap, subst, sym, ◌∙◌, inl, inr}
+use Rattle.std.proofs.Common.{◌≡◌, ◌<◌, Bool, List, [], ◌∷◌, length, arith, Option, Some, None, Result, Ok, Err, IfOk, MatchResult, refl, ap, subst, sym, ◌∙◌, inl, inr}
 use Rattle.std.specs.Global.{Vec}
 use Rattle.std.specs.Option.{is_some, option_map}
 use Rattle.std.specs.declared.alloc.AllocError.{AllocError}
@@ -18,23 +18,24 @@ use Rattle.answer_findings.specs.declared.finding.Found.{Found}
 use Rattle.answer_findings.specs.declared.finding.Found.TheVariants as f
 use Rattle.answer_findings.specs.declared.made.Judgements.{Judgements}
 use Rattle.answer_findings.specs.declared.made.Made.{Made}
-use Rattle.answer_findings.specs.Found.{AreAskedFor, AreJudgements, ComesTo, IsFound, IsSoughtBehind}
-use Rattle.answer_findings.specs.Judgements.{AreAskedAside, IsMadeOf, alias_question, ds_question, first_question, ns_question}
+use Rattle.answer_findings.specs.Found.{AreAskedAtOnce, AreJudgements, AsksBehind, ComesTo, IsFound, IsFoundWithin, IsSoughtBehind}
+use Rattle.answer_findings.specs.Judgements.{AreAskedAside, AreWantedAside, IsMadeOf, alias_question, ds_question, first_question, ns_question}
 use Rattle.answer_findings.specs.Seen.{Seen, lead_found, seen}
 use Rattle.answer_findings.specs.Truth.{FindsTruly}
 use Rattle.answer_findings.proofs.Truly.{found_so}
+use Rattle.answer_findings.proofs.Within.{found_within}
 
 -- what is found is so of the zone
 pub found_truly : (table : List Checked) (h : JudgeInput) (found : Found) → IsFound table h found → FindsTruly table h found
 found_truly table h (f.Finds finding lasting verifications hashes) is = λ passes versions t x. found_so table h passes t versions x is.judgements is.are (seen finding) is.says
 found_truly table h (f.Refused refusal verifications hashes) is = tt
-found_truly table h (f.Asks asks) is = tt
+found_truly table h (f.Asks asks verifications hashes) is = tt
 
 -- what judgements come to is what is found
 pub comes_to : (table : List Checked) (h : JudgeInput) (js : Judgements) (found : Found) → AreJudgements table h js → ComesTo h js found → IsFound table h found
 comes_to table h js (f.Finds finding lasting verifications hashes) are to = record { judgements = js; are = are; says = sym to.0; lasts = to.1; verified = to.2; hashed = to.3 }
 comes_to table h js (f.Refused refusal verifications hashes) are to = record { judgements = js; are = are; says = sym to.0; lasts = refl; verified = to.1; hashed = to.2 }
-comes_to table h js (f.Asks asks) are to = absurd to
+comes_to table h js (f.Asks asks verifications hashes) are to = absurd to
 
 -- where memory sufficed
 pub found_in : (table : List Checked) (h : JudgeInput) (js : Judgements) (r : Result Found AllocError) → AreJudgements table h js → IfOk r (ComesTo h js) → IfOk r (IsFound table h)
@@ -44,6 +45,10 @@ found_in table h js (Err e) are to = tt
 pub truly_in : (table : List Checked) (h : JudgeInput) (r : Result Found AllocError) → IfOk r (IsFound table h) → IfOk r (FindsTruly table h)
 truly_in table h (Ok found) is = found_truly table h found is
 truly_in table h (Err e) is = tt
+
+pub within_in : (table : List Checked) (h : JudgeInput) (r : Result Found AllocError) → IfOk r (IsFound table h) → IfOk r (IsFoundWithin h)
+within_in table h (Ok found) is = found_within table h found is
+within_in table h (Err e) is = tt
 
 -- ---- judgements
 
@@ -78,6 +83,11 @@ pub sought : (table : List Checked) (h : JudgeInput) (r : Result (Result (Option
     → Asides table h r asked → Asides table h r wanted
 sought table h r asked wanted e is = subst (Asides table h r) e is
 
+-- what it wants
+pub wanted_alike : (table : List Checked) (h : JudgeInput) (r : Result (Vec Tried) AllocError) (asked wanted : Option Asked) → asked ≡ wanted
+    → IfOk r (λ v. AreWantedAside table h asked v.items) → IfOk r (λ v. AreWantedAside table h wanted v.items)
+wanted_alike table h r asked wanted e is = subst (λ o. IfOk r (λ v. AreWantedAside table h o v.items)) e is
+
 -- ---- signatures that are asked for
 
 -- a judgement that the table did not suffice for
@@ -86,28 +96,38 @@ pub asks_in : (table : List Checked) (h : JudgeInput) (wanted : Option Asked) (o
 asks_in table h wanted o asks e is = subst (λ r. MatchResult r (IsMadeOf table h wanted) (λ asks. AreAskedAside table h wanted asks.items)) e is
 
 -- what is asked for before the case itself is judged
-pub own_asked : (table : List Checked) (h : JudgeInput) (first : Option Made) (asks : List Tried) → AreAsked table h asks
-    → IsMadeOf table h (first_question pointer_limit h) first → AreAskedFor table h asks
-own_asked table h first asks are made = inl (record { are_asked = are; first = first; made = made })
+pub own_asked : (table : List Checked) (h : JudgeInput) (own first : List Tried) → AreAsked table h own → length first ≡ 0
+    → AreWantedAside table h (first_question pointer_limit h) first → AreAskedAtOnce table h own
+own_asked table h own [] are none wants = inl (record { are_asked = are; first_wants_none = wants })
+own_asked table h own (t ∷ ts) are none wants = absurd (omega (arith, none))
 
-pub first_asked : (table : List Checked) (h : JudgeInput) (own asks : List Tried) → AreAsked table h own → AreAskedAside table h (first_question pointer_limit h) asks → AreAskedFor table h asks
-first_asked table h own asks are aside =
-    inr (record { wanted = first_question pointer_limit h; sought = inl (record { own_asks = own; are_asked = are; is = refl }); are = aside })
+first_aside : (table : List Checked) (h : JudgeInput) (o : Option Asked) (first : List Tried) → 0 < length first → AreWantedAside table h o first → AreAskedAside table h o first
+first_aside table h None first some wants = absurd (omega (arith, some, ap length wants))
+first_aside table h (Some asked) [] some wants = absurd (omega (arith, some))
+first_aside table h (Some asked) (t ∷ ts) some wants = record { asked = asked; is = refl; are_asked = wants }
+
+pub first_asked : (table : List Checked) (h : JudgeInput) (own first : List Tried) → AreAsked table h own → 0 < length first
+    → AreWantedAside table h (first_question pointer_limit h) first → AreAskedAtOnce table h first
+first_asked table h own first are some wants =
+    inr (record { own_asks = own; own_asked = are; are = first_aside table h (first_question pointer_limit h) first some wants })
 
 -- and behind its judgement
-module _ (table : List Checked) (h : JudgeInput) (own : Result Judgement Refused) (judged : IsJudgedBy table h own) (asks : List Tried) where
-  behind : (wanted : Option Asked) → IsSoughtBehind table h (answer_of own) wanted → AreAskedAside table h wanted asks → AreAskedFor table h asks
-  behind wanted is aside = inr (record { wanted = wanted; sought = inr (record { own = own; judged = judged; is = is }); are = aside })
+module _ (table : List Checked) (h : JudgeInput) (js : Judgements) (judged : IsJudgedBy table h js.own) (none : js.ds ≡ None) (wanted : Option Asked) (sought : IsSoughtBehind table h js wanted) where
+  pub asked_behind : (asks : List Tried) → AreAskedAside table h wanted asks → (found : Found) → AsksBehind asks js found → IsFound table h found
+  asked_behind asks aside (f.Finds finding lasting verifications hashes) behind = absurd behind
+  asked_behind asks aside (f.Refused refusal verifications hashes) behind = absurd behind
+  asked_behind asks aside (f.Asks said verifications hashes) behind =
+      let are : AreAskedAside table h wanted said.items = subst (AreAskedAside table h wanted) (sym behind.0) aside in
+      inr (record { before = js; judged = judged; none_of_ds = none; wanted = wanted; sought = sought; are = are; verified = behind.1; hashed = behind.2 })
 
-  pub alias_asked : AreAskedAside table h (alias_question pointer_limit h (answer_of own)) asks → AreAskedFor table h asks
-  alias_asked aside = behind (alias_question pointer_limit h (answer_of own)) (inl refl) aside
+-- DS is sought where an alias, if any, leads nowhere
+pub sought_at_ds : (table : List Checked) (h : JudgeInput) (js : Judgements) → IsMadeOf table h (alias_question pointer_limit h (answer_of js.own)) js.alias
+    → IsMadeOf table h (ns_question pointer_limit h (answer_of js.own)) js.ns → (lead : Option Finding) (leads : Bool) → option_map seen lead ≡ lead_found h js.alias → leads ≡ is_some lead
+    → IsSoughtBehind table h js (ds_question pointer_limit h (answer_of js.own) leads)
+sought_at_ds table h js alias ns lead leads e f =
+    let alike : leads ≡ is_some (lead_found h js.alias) = f ∙ leads_alike lead (lead_found h js.alias) e in
+    inr (alias, inr (ns, ap (λ (b : Bool). ds_question pointer_limit h (answer_of js.own) b) alike))
 
-  module _ (alias : Option Made) (alias_is : IsMadeOf table h (alias_question pointer_limit h (answer_of own)) alias) where
-    pub ns_asked : AreAskedAside table h (ns_question pointer_limit h (answer_of own)) asks → AreAskedFor table h asks
-    ns_asked aside = behind (ns_question pointer_limit h (answer_of own)) (inr (alias, alias_is, inl refl)) aside
-
-    pub ds_asked : (ns : Option Made) → IsMadeOf table h (ns_question pointer_limit h (answer_of own)) ns → (lead : Option Finding) (leads : Bool)
-        → option_map seen lead ≡ lead_found h alias → leads ≡ is_some lead → AreAskedAside table h (ds_question pointer_limit h (answer_of own) leads) asks → AreAskedFor table h asks
-    ds_asked ns ns_is lead leads e f aside =
-        let alike : leads ≡ is_some (lead_found h alias) = f ∙ leads_alike lead (lead_found h alias) e in
-        behind (ds_question pointer_limit h (answer_of own) leads) (inr (alias, alias_is, inr (ns, ns_is, ap (λ (b : Bool). ds_question pointer_limit h (answer_of own) b) alike))) aside
+-- with the bounds of a call
+pub told : (table : List Checked) (h : JudgeInput) (found : Found) → IsFound table h found → IsFound table h found × FindsTruly table h found × IsFoundWithin h found
+told table h found is = (is, found_truly table h found is, found_within table h found is)

@@ -25,11 +25,11 @@ use Rattle.answer_findings.specs.declared.made.Judgements.{Judgements}
 use Rattle.answer_findings.specs.Found.{AreJudgements, IsBeside}
 use Rattle.answer_findings.specs.Judgements.{IsMade, alias_hint, alias_question, aside, asked_in, asking, cut_question, ds_question, is_delegated, is_no_type, is_not_proven, ns_question, question_of, says_delegated, seeks_delegation}
 use Rattle.answer_findings.specs.Laws.{AnswersDs}
-use Rattle.answer_findings.specs.Seen.{Seen, SeesVerdict, SeesAlias, SeesStarAlias, SeesDname, SeesReferral, answer_found, answers_ds, cut_found, delegates_found, delegates_said, first_found, found_by, found_or, lead_found, lead_said, named_lead, no_ds_found, one_name, own_lead, referral_found, referral_said, refusal_found, star_lead, verdict_found}
+use Rattle.answer_findings.specs.Seen.{Seen, SeesVerdict, SeesAlias, SeesStarAlias, SeesOpen, SeesDname, SeesReferral, answer_found, answers_ds, cut_found, delegates_found, delegates_said, first_found, found_by, found_or, lead_found, lead_said, named_lead, no_ds_found, one_name, own_lead, referral_found, referral_said, refusal_found, star_lead, verdict_found}
 use Rattle.answer_findings.specs.Truth.{AreHonestBeside, CutsAt, Delegates, IsSo}
 use Rattle.answer_findings.proofs.Cuts.{ds_verdicts_tell_delegations, own_ds_verdicts_cut}
 use Rattle.answer_findings.proofs.OneName.{one_name_is}
-use Rattle.answer_findings.proofs.Renamed.{dnames_redirect, own_cnames_rename, records_are_there, star_cnames_rename}
+use Rattle.answer_findings.proofs.Renamed.{dnames_redirect, open_whatever_asked, own_cnames_rename, records_are_there, star_cnames_rename}
 use Rattle.answer_findings.proofs.Beside.{SeeksCut, cname_beside, cut_above, cut_ds_beside, cut_ns_beside, dname_beside, name_ns_beside, seeks_alias, seeks_cut}
 
 -- ---- what answers say
@@ -103,7 +103,11 @@ module _ (table : List Checked) (h : JudgeInput) (passes : Tried → Bool) (trul
   cname_so other (Says NoName) said s e = absurd cc
   cname_so other (Says StarNoType) said s e = absurd cc
   cname_so other (Says Delegated) said s e = absurd cc
-  cname_so other (Says Open) said s e = absurd cc
+  cname_so other (Says Open) said s e =
+      let is : SeesOpen ≡ s = cc in
+      let v = said.version in
+      let left = open_whatever_asked (zone v) (optout_of v.mode) h.asked.name 5 h.asked.rtype said.verdict_is said.no_alias in
+      subst (IsSo h versions) is (record { version = v; there = said.there; verdict_is = left.0; no_alias = left.1 })
   cname_so other (Says Unsigned) said s e = absurd cc
   cname_so other (Refuses r) said s e = absurd cc
 

@@ -1,10 +1,10 @@
 -- What a search comes to.
-use Rattle.std.specs.Prelude.{◌≡◌, ◌⊎◌, ℕ, Bool, true, List, Option, None, Result, Ok, Err}
+use Rattle.std.specs.Prelude.{◌≡◌, ◌⊎◌, ℕ, ◌*◌, ◌≤◌, Bool, true, List, [], Option, None, Result, Ok, Err}
 use Rattle.std.specs.Option.{is_some}
 use Rattle.definitions.specs.Limits.{pointer_limit}
 use Rattle.definitions.specs.Name.{at_or_above}
 use Rattle.messages.specs.Message.{Asked}
-use Rattle.answer_judge_keys.specs.Judging.{Answer, JudgeInput, answer_of}
+use Rattle.answer_judge_keys.specs.Judging.{JudgeInput, answer_of, hash_bound, verification_bound}
 use Rattle.answer_judge_keys.specs.declared.verdict.Judgement.{Judgement}
 use Rattle.answer_judge_keys.specs.declared.verdict.Lasting.{Lasting}
 use Rattle.answer_judge_keys.specs.declared.verdict.Refusal.{Refusal}
@@ -16,7 +16,7 @@ use Rattle.answer_findings.specs.declared.finding.Found.{Found}
 use Rattle.answer_findings.specs.declared.finding.Found.TheVariants as f
 use Rattle.answer_findings.specs.declared.made.Judgements.{Judgements}
 use Rattle.answer_findings.specs.declared.made.Made.{Made}
-use Rattle.answer_findings.specs.Judgements.{AreAskedAside, IsMadeOf, alias_question, ds_question, first_question, ns_question}
+use Rattle.answer_findings.specs.Judgements.{AreAskedAside, AreWantedAside, IsMadeOf, alias_question, ds_question, first_question, ns_question}
 use Rattle.answer_findings.specs.Lasts.{lasting_by, lasting_found, lastings_of}
 use Rattle.answer_findings.specs.Seen.{Seen, found_by, hashed_by, lead_found, seen, verified_by}
 
@@ -40,7 +40,12 @@ pub record IsFoundBy (table : List Checked) (h : JudgeInput) (said : Result Seen
 abbrev pub ComesTo : JudgeInput → Judgements → Found → Type 0
 ComesTo h js (f.Finds finding lasting verifications hashes) = (found_by h js ≡ Ok (seen finding)) × (lasting ≡ lasting_by (lastings_of js) (seen finding)) × (verifications ≡ verified_by js) × (hashes ≡ hashed_by js)
 ComesTo h js (f.Refused refusal verifications hashes) = (found_by h js ≡ Err refusal) × (verifications ≡ verified_by js) × (hashes ≡ hashed_by js)
-ComesTo h js (f.Asks asks) = ⊥
+ComesTo h js (f.Asks asks verifications hashes) = ⊥
+
+-- signatures that are asked for behind some judgements, with the counts of these
+abbrev pub AsksBehind : List Tried → Judgements → Found → Type 0
+AsksBehind asks js (f.Asks said verifications hashes) = (said.items ≡ asks) × (verifications ≡ verified_by js) × (hashes ≡ hashed_by js)
+AsksBehind asks js _ = ⊥
 
 -- a question of the case's class at its name or above it, up to the apex, for NS, CNAME, DNAME or DS
 pub record IsBeside (h : JudgeInput) (asked : Asked) : Type 0 where
@@ -51,49 +56,66 @@ pub record IsBeside (h : JudgeInput) (asked : Asked) : Type 0 where
 
 -- ---- signatures that are asked for
 
--- of the case itself, where the question that may prove more, if there is one, is judged
+-- of the case itself, where the table has all that is due of the question that may prove more, if there is one
 pub record AreAskedOwn (table : List Checked) (h : JudgeInput) (asks : List Tried) : Type 0 where
   pub are_asked : AreAsked table h asks
-  pub first : Option Made
-  pub made : IsMadeOf table h (first_question pointer_limit h) first
+  pub first_wants_none : AreWantedAside table h (first_question pointer_limit h) []
 
--- the question that may prove more, which is sought where the case itself wants signatures
-pub record IsSoughtFirst (table : List Checked) (h : JudgeInput) (wanted : Option Asked) : Type 0 where
+-- of the question that may prove more, where the case itself wants signatures too
+pub record AreAskedFirst (table : List Checked) (h : JudgeInput) (asks : List Tried) : Type 0 where
   pub own_asks : List Tried
-  pub are_asked : AreAsked table h own_asks
-  pub is : wanted ≡ first_question pointer_limit h
+  pub own_asked : AreAsked table h own_asks
+  pub are : AreAskedAside table h (first_question pointer_limit h) asks
+
+-- where the case itself is not judged
+abbrev pub AreAskedAtOnce : List Checked → JudgeInput → List Tried → Type 0
+AreAskedAtOnce table h asks = AreAskedOwn table h asks ⊎ AreAskedFirst table h asks
 
 -- NS, or where that is judged DS
-abbrev pub IsSoughtAtCut : List Checked → JudgeInput → Answer → Bool → Option Asked → Type 0
-IsSoughtAtCut table h own leads wanted =
-    (wanted ≡ ns_question pointer_limit h own)
-    ⊎ ((ns : Option Made) × IsMadeOf table h (ns_question pointer_limit h own) ns × (wanted ≡ ds_question pointer_limit h own leads))
+abbrev pub IsSoughtAtCut : List Checked → JudgeInput → Judgements → Option Asked → Type 0
+IsSoughtAtCut table h js wanted =
+    ((wanted ≡ ns_question pointer_limit h (answer_of js.own)) × (js.ns ≡ None))
+    ⊎ (IsMadeOf table h (ns_question pointer_limit h (answer_of js.own)) js.ns × (wanted ≡ ds_question pointer_limit h (answer_of js.own) (is_some (lead_found h js.alias))))
 
 -- the question that proves an alias, or where that is judged NS or DS
-abbrev pub IsSoughtBehind : List Checked → JudgeInput → Answer → Option Asked → Type 0
-IsSoughtBehind table h own wanted =
-    (wanted ≡ alias_question pointer_limit h own)
-    ⊎ ((alias : Option Made) × IsMadeOf table h (alias_question pointer_limit h own) alias × IsSoughtAtCut table h own (is_some (lead_found h alias)) wanted)
+abbrev pub IsSoughtBehind : List Checked → JudgeInput → Judgements → Option Asked → Type 0
+IsSoughtBehind table h js wanted =
+    ((wanted ≡ alias_question pointer_limit h (answer_of js.own)) × (js.alias ≡ None) × (js.ns ≡ None))
+    ⊎ (IsMadeOf table h (alias_question pointer_limit h (answer_of js.own)) js.alias × IsSoughtAtCut table h js wanted)
 
--- a question that is sought where the case itself is judged
-pub record IsSoughtLater (table : List Checked) (h : JudgeInput) (wanted : Option Asked) : Type 0 where
-  pub own : Result Judgement Refused
-  pub judged : IsJudgedBy table h own
-  pub is : IsSoughtBehind table h (answer_of own) wanted
-
--- of a question beside the case's that is sought
-pub record AreAskedBeside (table : List Checked) (h : JudgeInput) (asks : List Tried) : Type 0 where
+-- of a question that is sought where the case itself is judged, behind these judgements, with their counts
+pub record AreAskedLater (table : List Checked) (h : JudgeInput) (asks : List Tried) (verifications hashes : ℕ) : Type 0 where
+  pub before : Judgements
+  pub judged : IsJudgedBy table h before.own
+  pub none_of_ds : before.ds ≡ None
   pub wanted : Option Asked
-  pub sought : IsSoughtFirst table h wanted ⊎ IsSoughtLater table h wanted
+  pub sought : IsSoughtBehind table h before wanted
   pub are : AreAskedAside table h wanted asks
+  pub verified : verifications ≡ verified_by before
+  pub hashed : hashes ≡ hashed_by before
 
 -- Signatures that are asked for: those that the first judgement wants for which the table does not suffice; where that is the
--- case's own, those of the question that may prove more, if that wants some.
-abbrev pub AreAskedFor : List Checked → JudgeInput → List Tried → Type 0
-AreAskedFor table h asks = AreAskedOwn table h asks ⊎ AreAskedBeside table h asks
+-- case's own, those of the question that may prove more, if that wants some. So often was verified and hashed before.
+abbrev pub AreAskedFor : List Checked → JudgeInput → List Tried → ℕ → ℕ → Type 0
+AreAskedFor table h asks verifications hashes =
+    (AreAskedAtOnce table h asks × (verifications ≡ 0) × (hashes ≡ 0))
+    ⊎ AreAskedLater table h asks verifications hashes
 
 -- what comes of a search
 abbrev pub IsFound : List Checked → JudgeInput → Found → Type 0
 IsFound table h (f.Finds finding lasting verifications hashes) = IsFoundBy table h (Ok (seen finding)) lasting verifications hashes
 IsFound table h (f.Refused refusal verifications hashes) = IsFoundBy table h (Err refusal) None verifications hashes
-IsFound table h (f.Asks asks) = AreAskedFor table h asks.items
+IsFound table h (f.Asks asks verifications hashes) = AreAskedFor table h asks.items verifications hashes
+
+-- ---- bounds of a call
+
+-- At most four judgements are made, each in the bounds of one: no more signatures than both messages have, no more names than the
+-- question's has labels, the root's counted, and one.
+pub record IsWithin (h : JudgeInput) (verifications hashes : ℕ) : Type 0 where
+  pub verifications_bound : verifications ≤ 4 * verification_bound pointer_limit h
+  pub hashes_bound : hashes ≤ 4 * hash_bound h
+
+abbrev pub IsFoundWithin : JudgeInput → Found → Type 0
+IsFoundWithin h (f.Finds finding lasting verifications hashes) = IsWithin h verifications hashes
+IsFoundWithin h (f.Refused refusal verifications hashes) = IsWithin h verifications hashes
+IsFoundWithin h (f.Asks asks verifications hashes) = IsWithin h verifications hashes

@@ -1,5 +1,5 @@
 -- Judgements of the same messages for other questions, and which are made.
-use Rattle.std.specs.Prelude.{◌≡◌, ℕ, Bool, true, false, not, ◌&&◌, ◌||◌, ◌==◌, List, Option, Some, None, IfSome, if◌then◌else◌}
+use Rattle.std.specs.Prelude.{◌≡◌, ℕ, Bool, true, false, not, ◌&&◌, ◌||◌, ◌==◌, List, [], Option, Some, None, IfSome, if◌then◌else◌}
 use Rattle.std.specs.Option.{option_map}
 use Rattle.definitions.specs.Name.{Name, at_or_above, strictly_above}
 use Rattle.definitions.specs.Zone.{Verdict, NoType, Delegated}
@@ -9,7 +9,7 @@ use Rattle.answer_judge_keys.specs.Judging.{Answer, Says, Refuses, JudgeInput, a
 use Rattle.answer_judge_keys.specs.declared.verdict.Refusal.{Refusal}
 use Rattle.answer_judge_keys.specs.declared.verdict.Refusal.TheVariants as r
 use Rattle.answer_judge_table.specs.Decided.{is_out_of_memory}
-use Rattle.answer_judge_table.specs.Asking.{AreAsked}
+use Rattle.answer_judge_table.specs.Asking.{AreAsked, AreWanted}
 use Rattle.answer_judge_table.specs.Outcomes.{IsJudgedBy}
 use Rattle.answer_judge_table.specs.Table.{Checked, Tried}
 use Rattle.answer_findings.specs.declared.hints.Hint.TheVariants as hint
@@ -49,6 +49,11 @@ pub record AreAskedAside (table : List Checked) (h : JudgeInput) (wanted : Optio
   pub asked : Asked
   pub is : wanted ≡ Some asked
   pub are_asked : AreAsked table (aside h asked) asks
+
+-- signatures that it wants beside a table, if it is to be made
+abbrev pub AreWantedAside : List Checked → JudgeInput → Option Asked → List Tried → Type 0
+AreWantedAside table h None asks = asks ≡ []
+AreWantedAside table h (Some asked) asks = AreWanted table (aside h asked) asks
 
 -- ---- what a judgement says
 

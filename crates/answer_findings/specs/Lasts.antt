@@ -7,7 +7,7 @@ use Rattle.answer_judge_keys.specs.declared.verdict.Refused.{Refused}
 use Rattle.answer_findings.specs.declared.lasting.Lastings.{Lastings}
 use Rattle.answer_findings.specs.declared.made.Judgements.{Judgements}
 use Rattle.answer_findings.specs.declared.made.Made.{Made}
-use Rattle.answer_findings.specs.Seen.{Seen, SeesVerdict, SeesDelegated, SeesNoDs, SeesAlias, SeesStarAlias, SeesDname, SeesReferral}
+use Rattle.answer_findings.specs.Seen.{Seen, SeesVerdict, SeesDelegated, SeesNoDs, SeesAlias, SeesStarAlias, SeesOpen, SeesDname, SeesReferral}
 
 -- ---- how long judgements last
 
@@ -35,7 +35,7 @@ least_of (Some a) (Some b) = Some (least a b)
 least_of (Some a) None = Some a
 least_of None other = other
 
--- A verdict lasts as its judgement does; an alias or a DNAME as the judgement that proves it, a referral as that of its DS records. A
+-- A verdict lasts as its judgement does; an alias, a name left open or a DNAME as the judgement that proves it, a referral as that of its DS records. A
 -- cut lasts as long as the verdict and the judgements of NS and DS there, and whether a name without DS is delegated as long as the
 -- verdict and the judgement of NS.
 abbrev pub lasting_by : Lastings → Seen → Option Lasting
@@ -45,6 +45,7 @@ lasting_by ls (SeesDelegated (Some c)) = least_of (least_of ls.own ls.ns) ls.ds
 lasting_by ls (SeesNoDs d) = least_of ls.own ls.ns
 lasting_by ls (SeesAlias n) = ls.alias
 lasting_by ls (SeesStarAlias n) = ls.alias
+lasting_by ls SeesOpen = ls.alias
 lasting_by ls (SeesDname owner leads) = ls.alias
 lasting_by ls (SeesReferral c ds) = ls.ds
 

@@ -1,7 +1,7 @@
 -- What the verdicts on other questions say of a name: of its CNAME, of a DNAME above it, of NS and DS at a delegation.
 use Rattle.std.specs.Prelude.{◌≡◌, ◌↔◌, ◌⊎◌, ℕ, Bool, true, false, ◌==◌, List, [], ◌∷◌, Some}
 use Rattle.definitions.specs.Name.{Name, low, wire, at_or_above, strictly_above}
-use Rattle.definitions.specs.Zone.{Zone, Records, StarRecords, NoType, Delegated, has, is_delegation, is_live, cut, data_at, verdict}
+use Rattle.definitions.specs.Zone.{Zone, Records, StarRecords, NoType, Delegated, Open, has, is_delegation, is_live, cut, data_at, verdict}
 use Rattle.denial_laws.specs.Aliases.{is_aliased}
 use Rattle.denial_laws.specs.Leading.{To, exchanged, IsRedirectedTo, IsRenamedTo}
 
@@ -20,6 +20,13 @@ StarCnamesRename =
     (z : Zone) (optout : Bool) (name target : Name) (t : ℕ)
     → verdict z optout name 5 ≡ StarRecords (wire target ∷ []) → is_aliased z optout name 5 ≡ false → (t == 5) ≡ false
     → IsRenamedTo z optout name t (To target)
+
+-- A name that opt-out leaves open is left open whatever is asked for. It is an alias for no type where it is none for one.
+abbrev pub OpenWhateverAsked : Type 0
+OpenWhateverAsked =
+    (z : Zone) (optout : Bool) (name : Name) (t u : ℕ)
+    → verdict z optout name t ≡ Open → is_aliased z optout name t ≡ false
+    → (verdict z optout name u ≡ Open) × (is_aliased z optout name u ≡ false)
 
 -- a DNAME strictly above a name
 abbrev pub DnamesRedirect : Type 0

@@ -1,14 +1,16 @@
 -- What is found, as contracts see it, and from which judgements it is found.
 use Rattle.std.specs.Prelude.{ℕ, ◌+◌, Bool, true, false, ◌&&◌, ◌==◌, List, [], ◌∷◌, Option, Some, None, Result, Ok, Err, if◌then◌else◌}
 use Rattle.definitions.specs.Name.{Name, same, strictly_above}
-use Rattle.definitions.specs.Zone.{Verdict, Records, StarRecords, NoType}
+use Rattle.definitions.specs.Zone.{Verdict, Records, StarRecords, NoType, Open}
 use Rattle.denial_laws.specs.Leading.{To, TooLong, exchanged}
 use Rattle.denial_laws.specs.Leading as leading
 use Rattle.messages.specs.Message.{Asked}
 use Rattle.messages.specs.NameOctets.{name_of_octets}
 use Rattle.answer_judge_rules.specs.Rules.{verdict_of}
 use Rattle.answer_judge_keys.specs.Judging.{Answer, Says, Refuses, JudgeInput, answer_of, hashes_of, verifications_of}
+use Rattle.answer_judge_keys.specs.declared.verdict.Judgement.{Judgement}
 use Rattle.answer_judge_keys.specs.declared.verdict.Refusal.{Refusal}
+use Rattle.answer_judge_keys.specs.declared.verdict.Refused.{Refused}
 use Rattle.answer_findings.specs.declared.finding.Finding.{Finding}
 use Rattle.answer_findings.specs.declared.finding.Finding.TheVariants as f
 use Rattle.answer_findings.specs.declared.finding.Lead.{Lead}
@@ -24,6 +26,7 @@ pub data Seen : Type 0 where
   SeesNoDs : Bool → Seen
   SeesAlias : Name → Seen
   SeesStarAlias : Name → Seen
+  SeesOpen : Seen
   SeesDname : Name → leading.Lead → Seen
   SeesReferral : Name → List (List ℕ) → Seen
 
@@ -37,6 +40,7 @@ seen (f.Delegated c) = SeesDelegated c
 seen (f.NoDs d) = SeesNoDs d
 seen (f.Alias n) = SeesAlias n
 seen (f.WildcardAlias n) = SeesStarAlias n
+seen f.LeftOpen = SeesOpen
 seen (f.Dname owner leads) = SeesDname owner (lead_seen leads)
 seen (f.Referral c ds) = SeesReferral c ds
 
@@ -63,12 +67,17 @@ abbrev pub named_lead : (Name → Option Seen) → Option Name → Option Seen
 named_lead lead None = None
 named_lead lead (Some target) = lead target
 
+-- a name that opt-out leaves open, by its CNAME's question
+abbrev pub open_lead : Asked → Option Seen
+open_lead asked = if asked.rtype == 5 then Some SeesOpen else None
+
 abbrev pub lead_said : JudgeInput → Asked → Answer → Option Seen
 lead_said h asked (Says (Records ds)) = named_lead (own_lead h asked) (one_name ds)
 lead_said h asked (Says (StarRecords ds)) = named_lead (star_lead asked) (one_name ds)
+lead_said h asked (Says Open) = open_lead asked
 lead_said h asked _ = None
 
--- where a name leads that a judgement shows to be an alias, if it does
+-- where a name leads that a judgement shows to be an alias, or that opt-out leaves it open, if it does
 abbrev pub lead_found : JudgeInput → Option Made → Option Seen
 lead_found h None = None
 lead_found h (Some m) = lead_said h (question_of m) (answer_of m.said)
@@ -146,6 +155,10 @@ verified_in (Some m) = verifications_of m.said
 abbrev pub hashed_in : Option Made → ℕ
 hashed_in None = 0
 hashed_in (Some m) = hashes_of m.said
+
+-- those that are made before that of DS
+abbrev pub judgements_up_to : Result Judgement Refused → Option Made → Option Made → Judgements
+judgements_up_to own alias ns = record { own = own; alias = alias; ns = ns; ds = None }
 
 -- over all judgements, at most four
 abbrev pub verified_by : Judgements → ℕ

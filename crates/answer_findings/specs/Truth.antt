@@ -2,7 +2,7 @@
 use Rattle.std.specs.Prelude.{◌≡◌, ◌↔◌, ℕ, Bool, true, List, [], ◌∷◌, Option, Some, None, Contains}
 use Rattle.definitions.specs.Limits.{pointer_limit}
 use Rattle.definitions.specs.Name.{Name, low, wire, at_or_above, strictly_above}
-use Rattle.definitions.specs.Zone.{Verdict, Records, StarRecords, NoType, Delegated, cut, is_delegation, verdict}
+use Rattle.definitions.specs.Zone.{Verdict, Records, StarRecords, NoType, Delegated, Open, cut, is_delegation, verdict}
 use Rattle.definitions.specs.ZoneChain.{optout_of}
 use Rattle.denial_laws.specs.Leading.{Lead, To, LeadsTo, exchanged}
 use Rattle.messages.specs.Message.{Asked}
@@ -16,7 +16,7 @@ use Rattle.answer_findings.specs.declared.finding.Found.TheVariants as f
 use Rattle.answer_findings.specs.Found.{IsBeside}
 use Rattle.answer_findings.specs.Judgements.{aside}
 use Rattle.answer_findings.specs.Laws.{HasRecords}
-use Rattle.answer_findings.specs.Seen.{Seen, SeesVerdict, SeesDelegated, SeesNoDs, SeesAlias, SeesStarAlias, SeesDname, SeesReferral, seen}
+use Rattle.answer_findings.specs.Seen.{Seen, SeesVerdict, SeesDelegated, SeesNoDs, SeesAlias, SeesStarAlias, SeesOpen, SeesDname, SeesReferral, seen}
 
 -- Nothing is forged in the messages, whichever of these questions they are judged for: the case's own, and those beside it.
 pub record AreHonestBeside (a : Answers) (k : ℕ) (h : JudgeInput) (versions : List Version) : Type 0 where
@@ -65,6 +65,7 @@ IsSo h versions (SeesDelegated c) = IsSaidByOne h versions Delegated × CutsAt h
 IsSo h versions (SeesNoDs d) = IsSaidByOne h versions NoType × Delegates h versions d
 IsSo h versions (SeesAlias target) = IsAliasInOne h versions (Records (wire target ∷ [])) target
 IsSo h versions (SeesStarAlias target) = IsAliasInOne h versions (StarRecords (wire target ∷ [])) target
+IsSo h versions SeesOpen = IsSaidByOne h versions Open
 IsSo h versions (SeesDname owner lead) = IsRedirectedInOne h versions owner lead
 IsSo h versions (SeesReferral c ds) = HasDsInOne h versions c ds
 

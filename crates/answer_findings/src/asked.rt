@@ -22,7 +22,7 @@ use std::alloc::{AllocError, Global};
 
 /// The question that may prove more than the case itself, if the answer suggests one: that of an
 /// alias, else for DS at a cut.
-pub(crate) fn first_question(alloc: Global, case: &Case) -> Result<Option<Question>, AllocError>
+pub fn first_question(alloc: Global, case: &Case) -> Result<Option<Question>, AllocError>
     ensures { IfOk result
         (λ q. option_map asked_of q ≡ first_question pointer_limit case.now) }
 {

@@ -24,6 +24,9 @@ pub enum Finding {
     Alias(Name<Vec<u8>>),
     /// A wildcard with a CNAME record stands for the name, and leads to this name.
     WildcardAlias(Name<Vec<u8>>),
+    /// Opt-out leaves the name open: the answer has a CNAME of a wildcard for it, which stands for
+    /// the name only where no insecure delegation is there.
+    LeftOpen,
     /// A DNAME record stands above the name.
     Dname { owner: Name<Vec<u8>>, leads: Lead },
     /// The zone has these DS records at a name at or above the question's.
@@ -47,6 +50,11 @@ pub enum Found {
         verifications: u64,
         hashes: u64,
     },
-    /// The table does not have these signatures: with them in it the search goes on.
-    Asks(Vec<Ask>),
+    /// The table does not have these signatures: with them in it the search goes on. How often was
+    /// verified and hashed by the judgements that were made before.
+    Asks {
+        asks: Vec<Ask>,
+        verifications: u64,
+        hashes: u64,
+    },
 }

@@ -1,14 +1,14 @@
 //! A search for what an answer says beyond a verdict.
 ghost use Rattle.std.specs.Prelude.{IfOk};
 ghost use Rattle.answer_judge_table.specs.Asking.{AreAsked};
-ghost use Rattle.answer_findings.specs.Found.{AreAskedFor, IsFound};
+ghost use Rattle.answer_findings.specs.Found.{AreAskedAtOnce, IsFound, IsFoundWithin};
 ghost use Rattle.answer_findings.specs.Truth.{FindsTruly};
 
 use crate::finding::Found;
 use crate::leads::lead_found;
 use crate::made::Judgements;
-use crate::sought::{judged_alias, judged_ds, judged_first, judged_ns};
-use crate::weighed::weighed;
+use crate::sought::{first_asks, judged_alias, judged_ds, judged_ns};
+use crate::weighed::{asks_behind, weighed};
 use answer_judge_table::{Ask, Case, CheckedSignature, Outcome, judge_by_table};
 use std::alloc::{AllocError, Global};
 
@@ -20,9 +20,9 @@ use std::alloc::{AllocError, Global};
 /// What goes beyond the verdict is what the judge says of the same messages for other questions:
 /// for the CNAME or the DNAME that the answer holds, for NS and DS at the cut that its NS records
 /// suggest. So there are at most four judgements a call, each bounded as one is; the counts are
-/// their sums. Signatures are asked for by the first judgement that the table does not suffice for;
+/// their sums, also where signatures are asked for behind judgements that were made. Signatures are asked for by the first judgement that the table does not suffice for;
 /// where that is the case's own, by the one that the answer suggests besides, which wants those of
-/// the case too where the answer is one about an alias or a referral.
+/// the case too where the answer is one about an alias or a referral: then no name is hashed.
 ///
 /// What is found in messages in which nothing is forged, whichever of these questions they are
 /// judged for, is so of a version of the zone: an alias leads there, the DS records are at the cut.
@@ -31,39 +31,48 @@ use std::alloc::{AllocError, Global};
 pub fn find(alloc: Global, case: &Case, table: &[CheckedSignature]) -> Result<Found, AllocError>
     ensures found { IfOk result (λ f. IsFound table.now case.now f) }
     ensures honest { IfOk result (λ f. FindsTruly table.now case.now f) }
+    ensures within { IfOk result (λ f. IsFoundWithin case.now f) }
 {
     let own = match judge_by_table(alloc, case, table)? {
         Outcome::Judged(own) => own,
-        Outcome::Asks(asks) => return Ok(Found::Asks(first_asks(alloc, case, table, asks)?)),
+        Outcome::Asks(asks) => {
+            let asks = asks_first(alloc, case, table, asks)?;
+            return Ok(Found::Asks {
+                asks,
+                verifications: 0,
+                hashes: 0,
+            });
+        }
     };
     let alias = match judged_alias(alloc, case, table, &own)? {
         Ok(alias) => alias,
-        Err(asks) => return Ok(Found::Asks(asks)),
+        Err(asks) => return Ok(asks_behind(asks, Judgements::up_to(own, None, None))),
     };
     let lead = lead_found(alloc, case, &alias)?;
     let ns = match judged_ns(alloc, case, table, &own)? {
         Ok(ns) => ns,
-        Err(asks) => return Ok(Found::Asks(asks)),
+        Err(asks) => return Ok(asks_behind(asks, Judgements::up_to(own, alias, None))),
     };
     let ds = match judged_ds(alloc, case, table, &own, lead.is_some())? {
         Ok(ds) => ds,
-        Err(asks) => return Ok(Found::Asks(asks)),
+        Err(asks) => return Ok(asks_behind(asks, Judgements::up_to(own, alias, ns))),
     };
     weighed(alloc, case, Judgements { own, alias, ns, ds }, lead)
 }
 
 /// The signatures that are asked for before the case itself is judged, which wants some.
-fn first_asks(
+fn asks_first(
     alloc: Global,
     case: &Case,
     table: &[CheckedSignature],
     own: Vec<Ask>,
 ) -> Result<Vec<Ask>, AllocError>
     requires own { AreAsked table.now case.now own.items }
-    ensures { IfOk result (λ v. AreAskedFor table.now case.now v.items) }
+    ensures { IfOk result (λ v. AreAskedAtOnce table.now case.now v.items) }
 {
-    match judged_first(alloc, case, table)? {
-        Ok(_) => Ok(own),
-        Err(asks) => Ok(asks),
+    let first = first_asks(alloc, case, table)?;
+    if first.is_empty() {
+        return Ok(own);
     }
+    Ok(first)
 }

@@ -37,7 +37,8 @@ impl Lastings {
             Finding::Verdict(_) | Finding::Delegated(None) => self.own,
             Finding::Delegated(Some(_)) => least_of(least_of(self.own, self.ns), self.ds),
             Finding::NoDs(_) => least_of(self.own, self.ns),
-            Finding::Alias(_) | Finding::WildcardAlias(_) | Finding::Dname { .. } => self.alias,
+            Finding::Alias(_) | Finding::WildcardAlias(_) => self.alias,
+            Finding::LeftOpen | Finding::Dname { .. } => self.alias,
             Finding::Referral { .. } => self.ds,
         }
     }

@@ -1,7 +1,8 @@
 //! Laws of what verdicts on other questions say of a name. Each is the contract of a function that
 //! does nothing.
 ghost use Rattle.answer_findings.specs.Laws.{DnamesRedirect, DsVerdictsTellDelegations};
-ghost use Rattle.answer_findings.specs.Laws.{OwnCnamesRename, OwnDsVerdictsCut, RecordsAreThere};
+ghost use Rattle.answer_findings.specs.Laws.{OpenWhateverAsked, OwnCnamesRename};
+ghost use Rattle.answer_findings.specs.Laws.{OwnDsVerdictsCut, RecordsAreThere};
 ghost use Rattle.answer_findings.specs.Laws.{StarCnamesRename};
 
 /// A name whose CNAME a zone answers is an alias for each other type, and leads to the CNAME's
@@ -10,6 +11,12 @@ ghost use Rattle.answer_findings.specs.Laws.{StarCnamesRename};
 pub fn cnames_rename()
     ensures own { OwnCnamesRename }
     ensures by_wildcard { StarCnamesRename }
+{}
+
+/// A name that opt-out leaves open for one type is left open for each (RFC 5155, 6), and where it is
+/// no alias for the one it is none for any.
+pub fn open_names_are_open()
+    ensures { OpenWhateverAsked }
 {}
 
 /// A DNAME that a zone answers redirects each name below its owner, whatever the type: to the name

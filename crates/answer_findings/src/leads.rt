@@ -4,8 +4,8 @@ ghost use Rattle.std.specs.Option.{option_map};
 ghost use Rattle.definitions.specs.Name.{at_or_above};
 ghost use Rattle.denial_laws.specs.Leading.{exchanged};
 ghost use Rattle.answer_findings.specs.Judgements.{question_of};
-ghost use Rattle.answer_findings.specs.Seen.{lead_found, lead_seen, named_lead, one_name, own_lead};
-ghost use Rattle.answer_findings.specs.Seen.{seen, star_lead};
+ghost use Rattle.answer_findings.specs.Seen.{lead_found, lead_seen, named_lead, one_name, open_lead};
+ghost use Rattle.answer_findings.specs.Seen.{own_lead, seen, star_lead};
 
 use crate::finding::{Finding, Lead};
 use crate::made::Made;
@@ -15,7 +15,8 @@ use names_rdata::rtype::Rtype;
 use names_traits::chain::Chain;
 use std::alloc::{AllocError, Global};
 
-/// Where the name leads that a judgement shows to be an alias, if it does.
+/// Where the name leads that a judgement shows to be an alias, or that opt-out leaves it open, if it
+/// does.
 pub(crate) fn lead_found(
     alloc: Global,
     case: &Case,
@@ -30,6 +31,7 @@ pub(crate) fn lead_found(
         Ok(judgement) => match &judgement.verdict {
             Verdict::Records(datas) => own_lead(alloc, case, made, datas),
             Verdict::StarRecords(datas) => wildcard_lead(alloc, made, datas),
+            Verdict::Open => Ok(open_lead(made)),
             _ => Ok(None),
         },
         Err(_) => Ok(None),
@@ -79,6 +81,17 @@ fn wildcard_lead(
         return Ok(Some(Finding::WildcardAlias(target)));
     }
     Ok(None)
+}
+
+/// That opt-out leaves the name open, where a judgement for its CNAME says so. It is so of each
+/// type.
+fn open_lead(made: &Made) -> Option<Finding>
+    ensures { option_map seen result ≡ open_lead (question_of made.now) }
+{
+    if made.question.rtype == Rtype::CNAME {
+        return Some(Finding::LeftOpen);
+    }
+    None
 }
 
 /// The name that a list of one datum spells.

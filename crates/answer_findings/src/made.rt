@@ -3,12 +3,15 @@ ghost use Rattle.std.specs.Prelude.{◌≡◌, IfOk, MatchResult};
 ghost use Rattle.std.specs.Option.{option_map};
 ghost use Rattle.messages.specs.Questions.{asked_of};
 ghost use Rattle.answer_judge_keys.specs.Judging.{answer_of};
+ghost use Rattle.answer_judge_table.specs.Asking.{AreWanted};
 ghost use Rattle.answer_judge_table.specs.Decided.{is_out_of_memory};
 ghost use Rattle.answer_judge_table.specs.Outcomes.{IsOutcome};
-ghost use Rattle.answer_findings.specs.Judgements.{AreAskedAside, IsMadeOf, aside};
+ghost use Rattle.answer_findings.specs.Judgements.{AreAskedAside, AreWantedAside, IsMadeOf, aside};
+ghost use Rattle.answer_findings.specs.Seen.{judgements_up_to};
 
 use answer_judge_table::{
-    Ask, Case, CheckedSignature, Judgement, Outcome, Refusal, Refused, judge_by_table,
+    Ask, Case, CheckedSignature, Judgement, Outcome, Refusal, Refused, asks_by_table,
+    judge_by_table,
 };
 use messages::question::Question;
 use std::alloc::{AllocError, Global};
@@ -28,6 +31,24 @@ pub(crate) struct Judgements {
     pub(crate) alias: Option<Made>,
     pub(crate) ns: Option<Made>,
     pub(crate) ds: Option<Made>,
+}
+
+impl Judgements {
+    /// Those that were made before one of NS or DS: none yet of DS.
+    pub(crate) fn up_to(
+        own: Result<Judgement, Refused>,
+        alias: Option<Made>,
+        ns: Option<Made>,
+    ) -> Self
+        ensures { result ≡ judgements_up_to own alias ns }
+    {
+        Judgements {
+            own,
+            alias,
+            ns,
+            ds: None,
+        }
+    }
 }
 
 /// Judges a case's messages for another question, if there is one; or says which signatures that
@@ -63,6 +84,36 @@ fn ran_out(said: &Result<Judgement, Refused>) -> bool
     }
 }
 
+/// The signatures that a judgement of a case's messages for another question wants, if there is
+/// one; none where the table has all that is due. No name is hashed for it.
+pub(crate) fn asks_aside(
+    alloc: Global,
+    case: &Case,
+    table: &[CheckedSignature],
+    question: Option<Question>,
+) -> Result<Vec<Ask>, AllocError>
+    ensures { let wanted = option_map asked_of question in
+        IfOk result (λ v. AreWantedAside table.now case.now wanted v.items) }
+{
+    let Some(question) = question else {
+        return Ok(Vec::new(alloc));
+    };
+    wanted_aside(alloc, case, table, &question)
+}
+
+/// The signatures that a judgement of a case's messages for another question wants.
+fn wanted_aside(
+    alloc: Global,
+    case: &Case,
+    table: &[CheckedSignature],
+    question: &Question,
+) -> Result<Vec<Ask>, AllocError>
+    ensures { let h = aside case.now (asked_of question.now) in
+        IfOk result (λ v. AreWanted table.now h v.items) }
+{
+    asks_by_table(alloc, &case_for(case, question), table)
+}
+
 /// What comes of a judgement of a case's messages for another question.
 fn outcome_aside(
     alloc: Global,
@@ -73,7 +124,14 @@ fn outcome_aside(
     ensures { let h = aside case.now (asked_of question.now) in
         IfOk result (λ o. IsOutcome table.now h o) }
 {
-    let beside = Case {
+    judge_by_table(alloc, &case_for(case, question), table)
+}
+
+/// The same messages, to be judged for another question.
+pub fn case_for<'a>(case: &Case<'a>, question: &'a Question) -> Case<'a>
+    ensures { result ≡ aside case.now (asked_of question.now) }
+{
+    Case {
         apex: case.apex,
         ds: case.ds,
         dnskey: case.dnskey,
@@ -83,6 +141,5 @@ fn outcome_aside(
         limit: case.limit,
         one_moment: case.one_moment,
         other_question: true,
-    };
-    judge_by_table(alloc, &beside, table)
+    }
 }

@@ -2,27 +2,27 @@
 ghost use Rattle.std.specs.Prelude.{IfOk, MatchResult};
 ghost use Rattle.definitions.specs.Limits.{pointer_limit};
 ghost use Rattle.answer_judge_keys.specs.Judging.{answer_of};
-ghost use Rattle.answer_findings.specs.Judgements.{AreAskedAside, IsMadeOf, alias_question};
+ghost use Rattle.answer_findings.specs.Judgements.{AreAskedAside, AreWantedAside, IsMadeOf};
+ghost use Rattle.answer_findings.specs.Judgements.{alias_question};
 ghost use Rattle.answer_findings.specs.Judgements.{ds_question, first_question, ns_question};
 
 use crate::asked::{alias_question, ds_question, first_question, ns_question};
-use crate::made::{Made, judged_aside};
+use crate::made::{Made, asks_aside, judged_aside};
 use answer_judge_table::{Ask, Case, CheckedSignature, Judgement, Refused};
 use std::alloc::{AllocError, Global};
 
-/// The judgement that may prove more than the case itself, if one is suggested; or the signatures
-/// that it wants.
-pub(crate) fn judged_first(
+/// The signatures that the judgement wants which may prove more than the case itself, if one is
+/// suggested; none where the table has all that is due.
+pub(crate) fn first_asks(
     alloc: Global,
     case: &Case,
     table: &[CheckedSignature],
-) -> Result<Result<Option<Made>, Vec<Ask>>, AllocError>
+) -> Result<Vec<Ask>, AllocError>
     ensures { let wanted = first_question pointer_limit case.now in
-        IfOk result (λ r. MatchResult r (IsMadeOf table.now case.now wanted)
-        (λ asks. AreAskedAside table.now case.now wanted asks.items)) }
+        IfOk result (λ v. AreWantedAside table.now case.now wanted v.items) }
 {
     let question = first_question(alloc, case)?;
-    judged_aside(alloc, case, table, question)
+    asks_aside(alloc, case, table, question)
 }
 
 /// The judgement that proves an alias, if one is sought; or the signatures that it wants.

@@ -3,7 +3,7 @@ ghost use Rattle.std.specs.Prelude.{◌≡◌, IfOk, MatchResult};
 ghost use Rattle.std.specs.Option.{option_map};
 ghost use Rattle.answer_judge_keys.specs.Judging.{answer_of, hashes_of, verifications_of};
 ghost use Rattle.answer_judge_rules.specs.Rules.{verdict_of};
-ghost use Rattle.answer_findings.specs.Found.{ComesTo};
+ghost use Rattle.answer_findings.specs.Found.{AsksBehind, ComesTo};
 ghost use Rattle.answer_findings.specs.Seen.{answers_ds, cut_found, delegates_found};
 ghost use Rattle.answer_findings.specs.Seen.{delegates_said, found_by, hashed_by, hashed_in};
 ghost use Rattle.answer_findings.specs.Seen.{lead_found, no_ds_found, referral_found};
@@ -14,7 +14,7 @@ use crate::asked::{is_delegated, is_no_type, says_delegated};
 use crate::finding::{Finding, Found};
 use crate::lasting::Lastings;
 use crate::made::{Judgements, Made};
-use answer_judge_table::{Case, Judgement, Refusal, Refused, Verdict};
+use answer_judge_table::{Ask, Case, Judgement, Refusal, Refused, Verdict};
 use messages::names::{Name, ToName, copy_name};
 use names_rdata::rtype::Rtype;
 use std::alloc::{AllocError, Global};
@@ -45,6 +45,17 @@ pub(crate) fn weighed(
             verifications,
             hashes,
         }),
+    }
+}
+
+/// Signatures that are asked for behind judgements, with the counts of these.
+pub(crate) fn asks_behind(asks: Vec<Ask>, before: Judgements) -> Found
+    ensures { AsksBehind asks.items before result }
+{
+    Found::Asks {
+        asks,
+        verifications: verified_by(&before),
+        hashes: hashed_by(&before),
     }
 }
 

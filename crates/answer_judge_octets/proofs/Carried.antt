@@ -9,7 +9,7 @@ use Rattle.definitions.specs.Dnskey.{Dnskey}
 use Rattle.definitions.specs.Limits.{pointer_limit}
 use Rattle.definitions.specs.Name.{Name, low, wire}
 use Rattle.definitions.specs.Signing.{Fields, signed_octets}
-use Rattle.messages.specs.Message.{Message, Spelled, behind, fits, if_true, message, name_in, rrsig_at, rrsig_fields}
+use Rattle.messages.specs.Message.{Asked, Message, Spelled, behind, fits, if_true, message, name_in, rrsig_at, rrsig_fields}
 use Rattle.messages.specs.declared.error.MessageError.{MessageError}
 use Rattle.answer_scheme.specs.Answers.{Answers}
 use Rattle.answer_judge_facts.specs.Asked as asked
@@ -22,7 +22,7 @@ use Rattle.answer_judge_keys.specs.Trusted.{is_trusted, is_usable}
 use Rattle.answer_judge_keys.specs.declared.verdict.Refusal.{Refusal}
 use Rattle.answer_findings.specs.Asking.{AreAsked, IsTriedBy}
 use Rattle.answer_findings.specs.Table.{Checked, Tried, answers_with, may_pass_in}
-use Rattle.answer_findings.specs.Judgements.{aside}
+use Rattle.answer_findings.specs.Judgements.{AreAskedAside, aside, first_question}
 use Rattle.answer_judge_octets.specs.Laws.{AsksStayFew, StaysFew}
 use Rattle.answer_judge_octets.specs.Replying.{are_too_many, is_carried, most_of, stands_in}
 use Rattle.answer_judge_octets.proofs.Standing.{stands_cut}
@@ -193,8 +193,13 @@ stay_few most h table answered asks few =
     record { counted = counts; few = omega (arith, counts, room) }
 
 -- A question beside the case's is asked of the same messages.
-pub asks_stay_few : AsksStayFew
-asks_stay_few most h table answered (inl own) few = stay_few most h table answered own.are_asked few
-asks_stay_few most h table answered (inr beside) few =
-    let stays = stay_few most (aside h beside.are.asked) table answered beside.are.are_asked few in
+aside_stay_few : (most : ℕ) (h : JudgeInput) (table answered : List Checked) (wanted : Option Asked) → AreAskedAside table h wanted (map tried_in answered)
+    → are_too_many most h table (length answered) ≡ false → StaysFew most h table answered
+aside_stay_few most h table answered wanted are few =
+    let stays = stay_few most (aside h are.asked) table answered are.are_asked few in
     record { counted = stays.counted; few = stays.few }
+
+pub asks_stay_few : AsksStayFew
+asks_stay_few most h table answered verifications hashes (inl (inl own, v, n)) few = stay_few most h table answered own.are_asked few
+asks_stay_few most h table answered verifications hashes (inl (inr first, v, n)) few = aside_stay_few most h table answered (first_question pointer_limit h) first.are few
+asks_stay_few most h table answered verifications hashes (inr later) few = aside_stay_few most h table answered later.wanted later.are few

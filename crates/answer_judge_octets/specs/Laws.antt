@@ -47,8 +47,8 @@ pub record StaysFew (most : ℕ) (h : JudgeInput) (table answered : List Checked
 -- case no more are checked.
 abbrev pub AsksStayFew : Type 0
 AsksStayFew =
-    (most : ℕ) (h : JudgeInput) (table answered : List Checked)
-    → AreAskedFor table h (map (λ c. c.tried) answered) → are_too_many most h table (length answered) ≡ false → StaysFew most h table answered
+    (most : ℕ) (h : JudgeInput) (table answered : List Checked) (verifications hashes : ℕ)
+    → AreAskedFor table h (map (λ c. c.tried) answered) verifications hashes → are_too_many most h table (length answered) ≡ false → StaysFew most h table answered
 
 -- the data of an RRset are in form, each by itself
 abbrev pub is_group_in_form : Group → Bool

@@ -8,7 +8,7 @@ use Rattle.definitions.specs.Name.{Name, same}
 use Rattle.definitions.specs.Sorting.{sort_by}
 use Rattle.definitions.specs.Zone.{Unsigned}
 use Rattle.answer_findings.specs.Judgements.{aside, asking}
-use Rattle.answer_findings.specs.Seen.{Seen, SeesVerdict, SeesDelegated, SeesNoDs, SeesAlias, SeesStarAlias, SeesDname, SeesReferral}
+use Rattle.answer_findings.specs.Seen.{Seen, SeesVerdict, SeesDelegated, SeesNoDs, SeesAlias, SeesStarAlias, SeesOpen, SeesDname, SeesReferral}
 use Rattle.answer_judge_keys.specs.Judging.{JudgeInput}
 use Rattle.answer_findings.specs.Table.{Checked, answers_with, passes_in}
 use Rattle.answer_verified_records.specs.Records.{verified_records}
@@ -18,7 +18,7 @@ abbrev pub beside : JudgeInput → Name → ℕ → JudgeInput
 beside h name t = aside h (asking h name t)
 
 -- What is judged for what is found: the case itself for a verdict, and NS and DS at the cut of a delegation, or NS at a name without
--- DS, of which the apex is known to be no delegation; CNAME at the name of an alias, the DNAME, or the DS records of a referral.
+-- DS, of which the apex is known to be no delegation; CNAME at the name of an alias or of one left open, the DNAME, or the DS records of a referral.
 abbrev pub rests_on : JudgeInput → Seen → List JudgeInput
 rests_on h (SeesVerdict v) = h ∷ []
 rests_on h (SeesDelegated None) = h ∷ []
@@ -26,6 +26,7 @@ rests_on h (SeesDelegated (Some cut)) = h ∷ beside h cut 2 ∷ beside h cut 43
 rests_on h (SeesNoDs d) = if same h.asked.name h.apex then h ∷ [] else h ∷ beside h h.asked.name 2 ∷ []
 rests_on h (SeesAlias target) = beside h h.asked.name 5 ∷ []
 rests_on h (SeesStarAlias target) = beside h h.asked.name 5 ∷ []
+rests_on h SeesOpen = beside h h.asked.name 5 ∷ []
 rests_on h (SeesDname owner leads) = beside h owner 39 ∷ []
 rests_on h (SeesReferral cut ds) = beside h cut 43 ∷ []
 

@@ -8,6 +8,7 @@ use Rattle.definitions.specs.Zone.{Verdict, Records, NoType, NoName, StarRecords
 use Rattle.denial_laws.specs.Leading.{Lead, To, TooLong}
 use Rattle.messages_canonical.specs.InForm.{GrowsTooLong, IsInForm}
 use Rattle.names_rdata.specs.Composing.{with_length}
+use Rattle.messages.specs.Message.{Asked}
 use Rattle.messages.specs.NameOctets.{name_of_octets}
 use Rattle.answer_judge_keys.specs.declared.verdict.Lasting.{Lasting}
 use Rattle.answer_judge_keys.specs.declared.verdict.Refusal.{Refusal}
@@ -15,8 +16,9 @@ use Rattle.answer_judge_keys.specs.declared.verdict.Refusal.TheVariants as r
 use Rattle.answer_judge_keys.specs.Judging.{JudgeInput}
 use Rattle.answer_findings.specs.declared.finding.Found.{Found}
 use Rattle.answer_findings.specs.declared.finding.Found.TheVariants as f
-use Rattle.answer_findings.specs.Found.{IsFound}
-use Rattle.answer_findings.specs.Seen.{Seen, SeesVerdict, SeesDelegated, SeesNoDs, SeesAlias, SeesStarAlias, SeesDname, SeesReferral, seen}
+use Rattle.answer_findings.specs.Found.{IsFound, IsFoundWithin}
+use Rattle.answer_findings.specs.Judgements.{aside, first_question}
+use Rattle.answer_findings.specs.Seen.{Seen, SeesVerdict, SeesDelegated, SeesNoDs, SeesAlias, SeesStarAlias, SeesOpen, SeesDname, SeesReferral, seen}
 use Rattle.answer_findings.specs.Truth.{FindsTruly}
 use Rattle.answer_extended_errors.specs.Codes.{code_of}
 use Rattle.answer_extended_errors.specs.Extended.{extended_error_of}
@@ -180,6 +182,7 @@ code_found (SeesDelegated cut) = c.Delegated
 code_found (SeesNoDs d) = c.NoType
 code_found (SeesAlias target) = c.Alias
 code_found (SeesStarAlias target) = c.WildcardAlias
+code_found SeesOpen = c.Open
 code_found (SeesDname owner leads) = c.Dname
 code_found (SeesReferral cut ds) = c.Referral
 
@@ -285,6 +288,7 @@ octets_found (SeesDelegated (Some cut)) = wire cut
 octets_found (SeesNoDs d) = []
 octets_found (SeesAlias target) = wire target
 octets_found (SeesStarAlias target) = wire target
+octets_found SeesOpen = []
 octets_found (SeesDname owner leads) = octets_of_dname owner leads
 octets_found (SeesReferral cut ds) = wire cut ++ flat_map with_length ds
 
@@ -327,9 +331,18 @@ found_reply second error s lasting = record {
   delegates = delegates_found s;
 }
 
--- Why a case is refused, as an extended error: of signatures those pass that pass in the table (RFC 8914).
+-- Why a case is refused, as an extended error, of its own question: of signatures those pass that pass in the table (RFC 8914).
+abbrev pub own_error : JudgeInput → List Checked → Refusal → ℕ
+own_error h table refusal = code_of (extended_error_of (answers_with (passes_in table)) pointer_limit h refusal)
+
+-- where nothing is proven, of the question that may prove more, if the answer suggests one
+abbrev pub unproven_error : JudgeInput → List Checked → Option Asked → ℕ
+unproven_error h table None = own_error h table r.NotProven
+unproven_error h table (Some asked) = own_error (aside h asked) table r.NotProven
+
 abbrev pub error_of : JudgeInput → List Checked → Refusal → ℕ
-error_of h table refusal = code_of (extended_error_of (answers_with (passes_in table)) pointer_limit h refusal)
+error_of h table r.NotProven = unproven_error h table (first_question pointer_limit h)
+error_of h table refusal = own_error h table refusal
 
 -- what is replied to a refusal with an error
 abbrev pub refusal_reply : Refusal → ℕ → Replied
@@ -371,6 +384,12 @@ abbrev pub AsksOrStops : Bool → List Tried → Replied → Type 0
 AsksOrStops true asks said = said ≡ only c.TooManySignatures
 AsksOrStops false asks said = (said ≡ record (only c.Ask) { octets = entries_of asks }) × AllByRecursion FitsChecked (map unchecked asks)
 
+-- the same, beside how often was verified and hashed before
+pub record IsAskReplied (stops : Bool) (asks : List Tried) (verifications hashes : ℕ) (said : Replied) : Type 0 where
+  pub reply : Replied
+  pub asks_or_stops : AsksOrStops stops asks reply
+  pub counts : said ≡ counted verifications hashes reply
+
 -- ---- what comes of a search
 
 -- The octets in front of those of what is found, where places are wanted: which records it vouches for.
@@ -383,14 +402,17 @@ abbrev pub IsRepliedTo : OctetCase → ℕ → Bool → JudgeInput → List Chec
 IsRepliedTo case error places h table (f.Finds finding lasting verifications hashes) said =
     said ≡ behind (front_of places table h (seen finding)) (counted verifications hashes (found_reply case.moment error (seen finding) lasting))
 IsRepliedTo case error places h table (f.Refused refusal verifications hashes) said = said ≡ counted verifications hashes (refusal_reply refusal (error_of h table refusal))
-IsRepliedTo case error places h table (f.Asks asks) said = AsksOrStops (are_too_many case.max_signatures h table (length asks.items)) asks.items said
+IsRepliedTo case error places h table (f.Asks asks verifications hashes) said =
+    IsAskReplied (are_too_many case.max_signatures h table (length asks.items)) asks.items verifications hashes said
 
 -- What is found by a table, and what it is replied as. Of messages in which nothing is forged nothing is found but what is so of a
--- version of the zone, whichever signatures pass beside those of the table.
+-- version of the zone, whichever signatures pass beside those of the table. Whatever is found, also signatures that are asked for,
+-- the counts of the call are within those of four judgements.
 pub record SaysFound (case : OctetCase) (error : ℕ) (places : Bool) (h : JudgeInput) (table : List Checked) (said : Replied) : Type 0 where
   pub found : Found
   pub is_found : IsFound table h found
   pub honest : FindsTruly table h found
+  pub within : IsFoundWithin h found
   pub replied : IsRepliedTo case error places h table found said
 
 -- What is said of a case: that one of its messages would cost too much work, or what is found in them.

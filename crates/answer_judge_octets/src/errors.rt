@@ -1,16 +1,22 @@
 //! Why a case is refused, as an extended error (RFC 8914).
 ghost use Rattle.std.specs.Prelude.{◌≡◌, ◌<◌, IfOk};
-ghost use Rattle.answer_judge_octets.specs.Replying.{error_of};
+ghost use Rattle.messages.specs.Questions.{asked_of};
+ghost use Rattle.answer_findings.specs.Judgements.{aside};
+ghost use Rattle.answer_judge_octets.specs.Replying.{error_of, own_error};
 
 use crate::table_alone::TableAlone;
 use answer_extended_errors::extended_error;
-use answer_findings::{Case, CheckedSignature, Refusal};
+use answer_findings::{Case, CheckedSignature, Refusal, case_for, first_question};
+use messages::question::Question;
 use std::alloc::{AllocError, Global};
 use std::marker::Brand;
 use std::sync::ledger::{Blank, Ledger};
 
 /// The code of the extended error that says why a case is refused beside a table; 0 where no other
 /// says it than the first one, which says nothing.
+///
+/// Where nothing is proven it says why of the question that may prove more, if the answer suggests
+/// one: of an alias, or of DS at a cut.
 ///
 /// A refusal is said once the table has all signatures that are wanted. One that it doesn't have
 /// does not pass.
@@ -21,6 +27,38 @@ pub fn error_of(
     refusal: Refusal,
 ) -> Result<u16, AllocError>
     ensures { IfOk result (λ e. e ≡ error_of case.now table.now refusal) }
+{
+    if refusal != Refusal::NotProven {
+        return own_error(alloc, case, table, refusal);
+    }
+    match first_question(alloc, case)? {
+        Some(question) => error_aside(alloc, case, &question, table, refusal),
+        None => own_error(alloc, case, table, refusal),
+    }
+}
+
+/// The code of the extended error that says why a case is refused, of another question.
+fn error_aside(
+    alloc: Global,
+    case: &Case,
+    question: &Question,
+    table: &[CheckedSignature],
+    refusal: Refusal,
+) -> Result<u16, AllocError>
+    ensures { let h = aside case.now (asked_of question.now) in
+        IfOk result (λ e. e ≡ own_error h table.now refusal) }
+{
+    own_error(alloc, &case_for(case, question), table, refusal)
+}
+
+/// The code of the extended error that says why a case is refused, of its own question.
+fn own_error(
+    alloc: Global,
+    case: &Case,
+    table: &[CheckedSignature],
+    refusal: Refusal,
+) -> Result<u16, AllocError>
+    ensures { IfOk result (λ e. e ≡ own_error case.now table.now refusal) }
 {
     let (first, second) = (Blank::new(1), Blank::new(1));
     error_by::<Brand, Brand>(alloc, case, table, refusal, first, second)
@@ -41,7 +79,7 @@ fn error_by<L: Ledger, M: Ledger>(
     requires second_name { second.name ≡ M.name }
     requires second_parts { second.parts ≡ M.parts }
     requires second_some { 0 < M.parts }
-    ensures { IfOk result (λ e. e ≡ error_of case.now table.now refusal) }
+    ensures { IfOk result (λ e. e ≡ own_error case.now table.now refusal) }
 {
     let mut checks = TableAlone::<L, M>::new(table, first, second);
     let error = extended_error(alloc, case, refusal, &mut checks)?;

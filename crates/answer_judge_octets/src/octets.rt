@@ -271,9 +271,13 @@ fn searched(
             let error = error_of(alloc, handed, &read.table, refusal)?;
             Ok(reply_of_refusal(alloc, refusal, error).counted(verifications, hashes))
         }
-        Found::Asks(asks) => {
+        Found::Asks {
+            asks,
+            verifications,
+            hashes,
+        } => {
             let stops = are_too_many(case.max_signatures, handed, &read.table, asks.len());
-            reply_of_asks(alloc, &asks, stops)
+            Ok(reply_of_asks(alloc, &asks, stops)?.counted(verifications, hashes))
         }
     }
 }

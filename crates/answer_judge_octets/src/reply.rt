@@ -342,6 +342,7 @@ fn code_of_finding(finding: &Finding) -> ReplyCode
         Finding::NoDs(_) => ReplyCode::NoType,
         Finding::Alias(_) => ReplyCode::Alias,
         Finding::WildcardAlias(_) => ReplyCode::WildcardAlias,
+        Finding::LeftOpen => ReplyCode::Open,
         Finding::Dname { .. } => ReplyCode::Dname,
         Finding::Referral { .. } => ReplyCode::Referral,
     }
@@ -389,7 +390,7 @@ fn octets_of_finding(alloc: Global, finding: &Finding) -> Result<Vec<u8>, AllocE
 {
     match finding {
         Finding::Verdict(verdict) => octets_of_verdict(alloc, verdict),
-        Finding::Delegated(None) | Finding::NoDs(_) => Ok(Vec::new(alloc)),
+        Finding::Delegated(None) | Finding::NoDs(_) | Finding::LeftOpen => Ok(Vec::new(alloc)),
         Finding::Delegated(Some(cut)) => octets_of_name(alloc, cut),
         Finding::Alias(target) | Finding::WildcardAlias(target) => octets_of_name(alloc, target),
         Finding::Dname { owner, leads } => octets_of_dname(alloc, owner, leads),

@@ -13,7 +13,7 @@ use Rattle.answer_judge_keys.specs.declared.verdict.Judgement.{Judgement}
 use Rattle.answer_judge_keys.specs.declared.verdict.Refused.{Refused}
 use Rattle.answer_judge.specs.Decided.{HashesDecided, IsDecided, is_out_of_memory}
 use Rattle.answer_judge.specs.Meeting.{IsJudgement, JudgesSo}
-use Rattle.answer_judge_table.specs.Asking.{AgreesAsking, AreAsked, PassesEach, are_new, due_by, is_cut_short}
+use Rattle.answer_judge_table.specs.Asking.{AgreesAsking, AreAll, AreAsked, AreWanted, PassesEach, are_new, due_by, is_cut_short}
 use Rattle.answer_judge_table.specs.Outcomes.{IsJudgedBy}
 use Rattle.answer_judge_table.specs.Table.{AgreesWith, Checked, Tried, answers_with, may_pass_in, passes_in, tried}
 use Rattle.answer_judge_table.proofs.HonestTable.{stays_honest}
@@ -74,6 +74,18 @@ module _ {E : Type 0} (table : List Checked) (h : JudgeInput) (held : List Tried
     pub whole : is_cut_short answer hashes ≡ false → HashesDecided own agrees pointer_limit h verifications hashes → IsDecided own agrees pointer_limit h verifications
     whole on is = either (is_out_of_memory answer) refl on is
 
+  -- all that is due is held then
+  pub are_all : (verifications : ℕ) → IsDecided own agrees pointer_limit h verifications → IsOk kept → (asks : List Tried) → asks ≡ held → AreAll table h asks
+  are_all verifications is kept_is asks same = record {
+    answer = is.answer;
+    verifications = verifications;
+    hashes = is.hashes;
+    in_memory = is.in_memory;
+    made = λ passes agrees_with each.
+        let test : SignatureTest = λ key octets signature. passes (tried key octets signature) in
+        is.made test (inr (kept_is, agrees_with, subst (λ xs. PassesEach xs test) same each));
+  }
+
   -- what is asked for then
   pub are_asked : (verifications : ℕ) → IsDecided own agrees pointer_limit h verifications → IsOk kept → (asks : List Tried) → asks ≡ held → (n : ℕ) → 0 < length asks → are_new table asks ≡ true → length asks ≤ n → n ≡ verifications
       → verifications ≤ verification_bound pointer_limit h → PassesEach asks (is_tried_signature own pointer_limit h) → AreAsked table h asks
@@ -84,13 +96,12 @@ module _ {E : Type 0} (table : List Checked) (h : JudgeInput) (held : List Tried
         are_new = new;
         few = omega (arith, counts, all, bound);
         tried = record { each = of_case; due = omega (arith, counts, all, due) };
-        all = record {
-          answer = is.answer;
-          verifications = verifications;
-          hashes = is.hashes;
-          in_memory = is.in_memory;
-          made = λ passes agrees_with each.
-              let test : SignatureTest = λ key octets signature. passes (tried key octets signature) in
-              is.made test (inr (kept_is, agrees_with, subst (λ xs. PassesEach xs test) same each));
-        };
+        all = are_all verifications is kept_is asks same;
       }
+
+  -- what is wanted, be it nothing
+  pub are_wanted : (verifications : ℕ) → IsDecided own agrees pointer_limit h verifications → IsOk kept → (asks : List Tried) → asks ≡ held → (n : ℕ) → are_new table asks ≡ true → length asks ≤ n → n ≡ verifications
+      → verifications ≤ verification_bound pointer_limit h → PassesEach asks (is_tried_signature own pointer_limit h) → AreWanted table h asks
+  are_wanted verifications is kept_is [] same n new counts all bound of_case = are_all verifications is kept_is [] same
+  are_wanted verifications is kept_is (t ∷ ts) same n new counts all bound of_case =
+      are_asked verifications is kept_is (t ∷ ts) same n (omega arith) new counts all bound of_case

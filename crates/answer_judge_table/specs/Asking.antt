@@ -59,6 +59,11 @@ pub record AreAsked (table : List Checked) (h : JudgeInput) (asks : List Tried) 
   pub tried : AreTried (may_pass_in table) h asks
   pub all : AreAll table h asks
 
+-- Signatures that a judgement wants beside a table: none where the table has all that is due, or those that are asked for.
+abbrev pub AreWanted : List Checked → JudgeInput → List Tried → Type 0
+AreWanted table h [] = AreAll table h []
+AreWanted table h (t ∷ ts) = AreAsked table h (t ∷ ts)
+
 -- ---- what checks know of a judgement
 
 -- a test passes for all that is asked for

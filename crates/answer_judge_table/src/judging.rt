@@ -1,12 +1,12 @@
 //! Judging by a table.
-ghost use Rattle.std.specs.Prelude.{◌≡◌, ◌<◌, IfOk};
+ghost use Rattle.std.specs.Prelude.{◌≡◌, ◌<◌, IfOk, true, false};
 ghost use Rattle.answer_judge_keys.specs.Judging.{answer_of, hashes_of};
 ghost use Rattle.answer_judge.specs.Decided.{is_out_of_memory};
-ghost use Rattle.answer_judge_table.specs.Asking.{is_cut_short};
+ghost use Rattle.answer_judge_table.specs.Asking.{AreWanted, is_cut_short};
 ghost use Rattle.answer_judge_table.specs.Outcomes.{CountsHashes, IsOutcome};
 
 use crate::checked::CheckedSignature;
-use crate::outcome::{Counted, Outcome};
+use crate::outcome::{Ask, Counted, Outcome};
 use crate::table_checks::{GhostTable, Lacking, TableChecks};
 use answer_judge::{Case, Judgement, Refusal, Refused};
 use answer_scheme::steps::Steps;
@@ -71,6 +71,40 @@ pub fn judge_counted<N: Ledger>(
     outcome_by_table::<Brand, Brand, Brand, N>(alloc, case, table, hashed, first, second)
 }
 
+/// The signatures that a judgement wants beside a table, as [`judge_by_table`] asks for them; none
+/// where the table has all that is due. No name is hashed for it.
+pub fn asks_by_table(
+    alloc: Global,
+    case: &Case,
+    table: &[CheckedSignature],
+) -> Result<Vec<Ask>, AllocError>
+    ensures { IfOk result (λ v. AreWanted table.now case.now v.items) }
+{
+    let blank = Blank::new(1);
+    wanted_unhashed::<Brand>(alloc, case, table, blank)
+}
+
+/// The signatures that a judgement wants, without the count of names.
+fn wanted_unhashed<N: Ledger>(
+    alloc: Global,
+    case: &Case,
+    table: &[CheckedSignature],
+    blank: Blank,
+) -> Result<Vec<Ask>, AllocError>
+    requires name { blank.name ≡ N.name }
+    requires parts { blank.parts ≡ N.parts }
+    requires some { 0 < N.parts }
+    ensures { IfOk result (λ v. AreWanted table.now case.now v.items) }
+{
+    let hashed = Steps::<N>::new(blank);
+    let (first, second) = (Blank::new(1), Blank::new(1));
+    let lacking = wanted_by_table::<Brand, Brand, Brand, N>(
+        alloc, case, table, hashed, first, second,
+    )?;
+    let Lacking { asks, .. } = lacking;
+    Ok(asks)
+}
+
 /// What comes of a judgement by a table. Its calls are counted from 0 on.
 fn outcome_by_table<T: GhostTable, L: Ledger, M: Ledger, N: Ledger>(
     alloc: Global,
@@ -82,6 +116,7 @@ fn outcome_by_table<T: GhostTable, L: Ledger, M: Ledger, N: Ledger>(
 ) -> Result<Counted<N>, AllocError>
     requires table { table.now ≡ T.table }
     requires before { hashed ≡ T.before }
+    requires may { T.may_hash ≡ true }
     requires name { first.name ≡ L.name }
     requires parts { first.parts ≡ L.parts }
     requires some { 0 < L.parts }
@@ -91,7 +126,7 @@ fn outcome_by_table<T: GhostTable, L: Ledger, M: Ledger, N: Ledger>(
     ensures outcome { IfOk result (λ r. IsOutcome T.table case.now r.outcome) }
     ensures counted { IfOk result (λ r. CountsHashes r.outcome hashed r.hashed) }
 {
-    let mut checks = TableChecks::<T, L, M, N>::new(alloc, table, hashed, first, second);
+    let mut checks = TableChecks::<T, L, M, N>::new(alloc, table, hashed, true, first, second);
     let said = case.judge(alloc, &mut checks);
     let lacking = checks.into_lacking()?;
     let Lacking { asks, hashed } = lacking;
@@ -104,6 +139,36 @@ fn outcome_by_table<T: GhostTable, L: Ledger, M: Ledger, N: Ledger>(
     }
     let outcome = Outcome::Asks(asks);
     Ok(Counted { outcome, hashed })
+}
+
+/// The signatures that a judgement by a table wants. Its calls are counted from 0 on.
+fn wanted_by_table<T: GhostTable, L: Ledger, M: Ledger, N: Ledger>(
+    alloc: Global,
+    case: &Case,
+    table: &[CheckedSignature],
+    hashed: Steps<N>,
+    first: Blank,
+    second: Blank,
+) -> Result<Lacking<N>, AllocError>
+    requires table { table.now ≡ T.table }
+    requires before { hashed ≡ T.before }
+    requires may { T.may_hash ≡ false }
+    requires name { first.name ≡ L.name }
+    requires parts { first.parts ≡ L.parts }
+    requires some { 0 < L.parts }
+    requires second_name { second.name ≡ M.name }
+    requires second_parts { second.parts ≡ M.parts }
+    requires second_some { 0 < M.parts }
+    ensures asks { IfOk result (λ v. AreWanted T.table case.now v.asks.items) }
+    ensures unhashed { IfOk result (λ v. v.hashed ≡ hashed) }
+{
+    let mut checks = TableChecks::<T, L, M, N>::new(alloc, table, hashed, false, first, second);
+    let said = case.judge(alloc, &mut checks);
+    let lacking = checks.into_lacking()?;
+    if is_cut_short(&said) {
+        return Err(AllocError);
+    }
+    Ok(lacking)
 }
 
 /// Whether a judgement ended for want of memory before a name was to be hashed: then more

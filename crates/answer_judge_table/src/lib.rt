@@ -11,6 +11,6 @@ mod table_checks;
 
 pub use crate::checked::{CheckedSignature, entry_of};
 pub use crate::digests::digest;
-pub use crate::judging::{judge_by_table, judge_counted};
+pub use crate::judging::{asks_by_table, judge_by_table, judge_counted};
 pub use crate::outcome::{Ask, Counted, Outcome};
 pub use answer_judge::{Case, DataList, Judgement, Lasting, Refusal, Refused, Verdict};

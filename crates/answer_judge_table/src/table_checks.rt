@@ -15,22 +15,27 @@ use std::alloc::{AllocError, Global};
 use std::marker::{Brand, PhantomData};
 use std::sync::ledger::{Blank, Ledger};
 
-/// What a table says, and how many names were hashed before: names for proofs alone.
+/// What a table says, how many names were hashed before, and whether any may be: names for proofs
+/// alone.
 pub(crate) trait GhostTable {
-    ghost use Rattle.std.specs.Prelude.{List, ℕ};
+    ghost use Rattle.std.specs.Prelude.{Bool, List, ℕ};
     ghost use Rattle.answer_judge_table.specs.Table.{Checked};
 
     ghost table: { List Checked };
 
     ghost before: { ℕ };
+
+    ghost may_hash: { Bool };
 }
 
 impl GhostTable for Brand {
-    ghost use Rattle.std.specs.Prelude.{[]};
+    ghost use Rattle.std.specs.Prelude.{[], true};
 
     ghost table = { [] };
 
     ghost before = { 0 };
+
+    ghost may_hash = { true };
 }
 
 /// The checks of a judge that knows the signatures of a table, makes digests by SHA-2, and hashes
@@ -38,7 +43,7 @@ impl GhostTable for Brand {
 /// with the table and passes what was kept agrees with all that was answered.
 ///
 /// While something is kept no name is hashed: a message's NSEC3 records cost hashes only once their
-/// signatures have passed (CVE-2023-50868).
+/// signatures have passed (CVE-2023-50868). Checks that may not hash hash none at all.
 #[derive(Drop)]
 pub(crate) struct TableChecks<'t, 's, T: GhostTable, L: Ledger, M: Ledger, N: Ledger> {
     alloc: Global,
@@ -50,6 +55,8 @@ pub(crate) struct TableChecks<'t, 's, T: GhostTable, L: Ledger, M: Ledger, N: Le
     hashed: Steps<M>,
     /// The names that were hashed. Beside them `hashed` counts those that were to be.
     made: Steps<N>,
+    /// Whether names may be hashed where nothing is kept.
+    may_hash: bool,
     /// Whether a name was hashed.
     has_hashed: bool,
     told: PhantomData<T>,
@@ -59,6 +66,8 @@ pub(crate) struct TableChecks<'t, 's, T: GhostTable, L: Ledger, M: Ledger, N: Le
     ghost none_yet: { has_hashed ≡ false → made ≡ T.before },
     ghost unhashed: { 0 < length asks.items → made ≡ T.before },
     ghost few: { made ≤ T.before + hashed },
+    ghost may: { may_hash ≡ T.may_hash },
+    ghost never: { T.may_hash ≡ false → made ≡ T.before },
 }
 
 impl<'t, 's, T: GhostTable, L: Ledger, M: Ledger, N: Ledger> TableChecks<'t, 's, T, L, M, N> {
@@ -67,11 +76,13 @@ impl<'t, 's, T: GhostTable, L: Ledger, M: Ledger, N: Ledger> TableChecks<'t, 's,
         alloc: Global,
         table: &'t [CheckedSignature<'s>],
         made: Steps<N>,
+        may_hash: bool,
         first: Blank,
         second: Blank,
     ) -> Self
         requires table { table.now ≡ T.table }
         requires before { made ≡ T.before }
+        requires may { may_hash ≡ T.may_hash }
         requires name { first.name ≡ L.name }
         requires parts { first.parts ≡ L.parts }
         requires some { 0 < L.parts }
@@ -90,6 +101,7 @@ impl<'t, 's, T: GhostTable, L: Ledger, M: Ledger, N: Ledger> TableChecks<'t, 's,
             verified: Steps::<L>::new(first),
             hashed: Steps::<M>::new(second),
             made,
+            may_hash,
             has_hashed: false,
             told: PhantomData,
         }
@@ -104,6 +116,7 @@ impl<'t, 's, T: GhostTable, L: Ledger, M: Ledger, N: Ledger> TableChecks<'t, 's,
         ensures kept { IfOk result (λ _. IsOk self.entry.kept) }
         ensures unhashed { IfOk result (λ v. 0 < length v.asks.items → v.hashed ≡ T.before) }
         ensures few { IfOk result (λ v. v.hashed ≤ T.before + self.entry.hashed) }
+        ensures never { IfOk result (λ v. T.may_hash ≡ false → v.hashed ≡ T.before) }
     {
         let TableChecks {
             asks,
@@ -175,7 +188,7 @@ impl<'t, 's, T: GhostTable, L: Ledger, M: Ledger, N: Ledger> Checks
         salt: &[u8],
     ) -> Result<Vec<u8>, HashError> {
         self.hashed.tick();
-        if !self.asks.is_empty() {
+        if !self.may_hash || !self.asks.is_empty() {
             return Err(HashError::Memory);
         }
         self.has_hashed = true;

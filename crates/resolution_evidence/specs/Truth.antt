@@ -14,6 +14,7 @@ use Rattle.resolution_tree.specs.Tree.{Tree, TreeZone, Said, Resolves, is_bound,
 use Rattle.resolution_tree.specs.Orderly.{IsOrderlyZone}
 use Rattle.resolution_step.specs.KnownDs.{known_ds, knows}
 use Rattle.resolution_step.specs.Truth.{zone_of_version}
+pub use Rattle.resolution_step.specs.Truth.{IsUnbound}
 use Rattle.resolution_evidence.specs.Given.{Given, IsOf}
 use Rattle.resolution_evidence.specs.Walking.{Follows}
 

@@ -23,7 +23,7 @@ abbrev pub onward : Name → StepSeen → Onward
 onward zone (TellsVerdict v) = EndsIn (Secure zone v)
 onward zone (TellsLead lead) = EndsIn (Leads lead)
 onward zone (TellsDown c ds) = GoesDown c ds
-onward zone (TellsUnsigned c) = EndsIn (Unsigned c)
+onward zone (TellsUnsigned c datas) = EndsIn (Unsigned c)
 onward zone TellsOpen = EndsIn (LeftOpen zone)
 onward zone _ = Stops
 

@@ -6,6 +6,6 @@
 pub mod laws;
 
 pub use resolution_step::{
-    Ask, Case, CheckedSignature, Counts, Lasting, Lead, Refusal, Step, Telling, Verdict, cut_step,
-    least_of, step,
+    Ask, Case, CheckedSignature, Counts, DataList, Lasting, Lead, Refusal, Step, Telling, Verdict,
+    cut_step, least_of, step,
 };

@@ -4,6 +4,7 @@ pub mod Spelling
 pub mod ReadMessages
 pub mod ReadEvidence
 pub mod Limiting
+pub mod Cuts
 pub mod Saying
 pub mod Replying
 pub mod Laws

@@ -18,6 +18,7 @@ use Rattle.resolution_walk.specs.declared.ending.Ending.{Ending}
 use Rattle.resolution_walk.specs.declared.ending.Ending.TheVariants as ends
 use Rattle.resolution_walk.specs.declared.ending.Walk.{Walk}
 use Rattle.resolution_walk.specs.declared.ending.Wanted.{Wanted}
+use Rattle.resolution_octets.specs.Cuts.{error_of_cut}
 
 -- a zone and what it is asked: two names in wire form, and a type in two octets
 abbrev pub question_octets : Name → Name → ℕ → List ℕ
@@ -35,7 +36,7 @@ abbrev pub code_of_end : Ending → ReplyCode
 code_of_end (ends.Secure zone v) = code_of_verdict (verdict_of v)
 code_of_end (ends.Leads (lead.To n)) = c.Alias
 code_of_end (ends.Leads lead.TooLong) = c.Dname
-code_of_end (ends.Unsigned cut) = c.Unsigned
+code_of_end (ends.Unsigned cut datas) = c.Unsigned
 code_of_end (ends.LeftOpen zone) = c.Open
 code_of_end (ends.Untold zone ds name t (Some e)) = code_of_refusal e
 code_of_end (ends.Untold zone ds name t None) = c.NothingTold
@@ -52,7 +53,7 @@ abbrev pub octets_of_end : Ending → List ℕ
 octets_of_end (ends.Secure zone v) = wire zone ++ octets_of_verdict (verdict_of v)
 octets_of_end (ends.Leads (lead.To n)) = wire n
 octets_of_end (ends.Leads lead.TooLong) = []
-octets_of_end (ends.Unsigned cut) = wire cut
+octets_of_end (ends.Unsigned cut datas) = wire cut
 octets_of_end (ends.LeftOpen zone) = wire zone
 octets_of_end (ends.Untold zone ds name t e) = question_octets zone name t
 octets_of_end (ends.Asks asks) = []
@@ -81,9 +82,10 @@ abbrev pub IsErrorOf : Given → Name → List Ds → Asked → Refusal → ℕ 
 IsErrorOf e zone ds sought refusal error =
     ((h : JudgeInput) × IsOf e zone ds sought h × (error ≡ error_of h e.table refusal)) ⊎ ((is_lacking e zone sought ≡ true) × (error ≡ 0))
 
--- an end that is a refusal brings its error, and no other end one
+-- an end that is a refusal brings its error, one at a delegation that is not signed that of its DS records, and no other end one
 abbrev pub IsErrorOfEnd : Given → Asked → Ending → ℕ → Type 0
 IsErrorOfEnd e asked (ends.Untold zone ds name t (Some refusal)) error = IsErrorOf e zone ds.items (sought_of asked name t) refusal error
+IsErrorOfEnd e asked (ends.Unsigned cut datas) error = error ≡ error_of_cut datas
 IsErrorOfEnd e asked _ error = error ≡ 0
 
 -- ---- replies

@@ -2,6 +2,7 @@
 //! question, and the reply to it in octets, for callers in other languages.
 #![tactic(auto)]
 
+mod cuts;
 mod handed;
 pub mod laws;
 pub mod octets;

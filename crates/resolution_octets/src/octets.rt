@@ -110,7 +110,8 @@ struct ReadEvidence<'a> {
 /// each zone's step of the way and through all aliases; nothing where it is neither secure nor
 /// insecure. It says how often was verified and hashed for all judgements of the walk. Where an
 /// answer is refused it says the extended error of that, for which the signatures of the answer may
-/// be looked up once more.
+/// be looked up once more; and of a delegation below which nothing is signed why none of its DS
+/// records counts, if it has some.
 ///
 /// Each message is judged with names in its data in full and in lower case (RFC 4034, 6.2), as
 /// every validator does: put in canonical form where it has to be. Evidence with one that would cost

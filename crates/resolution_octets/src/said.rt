@@ -9,6 +9,7 @@ ghost use Rattle.resolution_octets.specs.Saying.{code_of_end, most_of, names_oct
 ghost use Rattle.resolution_octets.specs.Saying.{octets_of_end, question_octets, sought_of};
 ghost use Rattle.resolution_octets.specs.Saying.{wanted_octets};
 
+use crate::cuts::error_of_cut;
 use answer_findings::Lead;
 use answer_judge_octets::ReplyCode;
 use answer_judge_octets::errors::error_of;
@@ -52,8 +53,7 @@ pub(crate) fn reply_of_walk(
     }
 }
 
-/// The reply to an end: how long it lasts and what was counted for it, and the extended error of a
-/// refusal.
+/// The reply to an end: how long it lasts, what was counted for it, and its extended error.
 fn end_replied(
     alloc: Global,
     second: u64,
@@ -78,7 +78,8 @@ fn end_replied(
     })
 }
 
-/// The extended error of an end that is a refusal; 0 of another end.
+/// The extended error of an end that is a refusal, or a delegation whose DS records are of no known
+/// kind; 0 of another end.
 fn error_of_end(
     alloc: Global,
     evidence: &Evidence,
@@ -96,6 +97,7 @@ fn error_of_end(
             rtype,
             refusal: Some(refusal),
         } => error_of_answer(alloc, evidence, question, zone, ds, name, *rtype, *refusal),
+        Ending::Unsigned { ds, .. } => Ok(error_of_cut(ds)),
         _ => Ok(0),
     }
 }
@@ -188,7 +190,7 @@ fn code_of_end(ending: &Ending) -> ReplyCode
         Ending::Secure { verdict, .. } => code_of_verdict(verdict),
         Ending::Leads(Lead::To(_)) => ReplyCode::Alias,
         Ending::Leads(Lead::TooLong) => ReplyCode::Dname,
-        Ending::Unsigned(_) => ReplyCode::Unsigned,
+        Ending::Unsigned { .. } => ReplyCode::Unsigned,
         Ending::LeftOpen(_) => ReplyCode::Open,
         Ending::Untold {
             refusal: Some(refusal),
@@ -241,9 +243,8 @@ fn put_end(alloc: Global, ending: &Ending, octets: &mut Vec<u8>) -> Result<(), A
             zone.compose(octets)?;
             octets.extend_from_slice(&data)
         }
-        Ending::Leads(Lead::To(name)) | Ending::Unsigned(name) | Ending::LeftOpen(name) => {
-            name.compose(octets)
-        }
+        Ending::Leads(Lead::To(name)) | Ending::LeftOpen(name) => name.compose(octets),
+        Ending::Unsigned { cut, .. } => cut.compose(octets),
         Ending::Untold {
             zone,
             name,

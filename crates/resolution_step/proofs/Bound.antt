@@ -30,13 +30,13 @@ module _ (algorithms : List ℕ) (z : TreeZone) (datas : List (List ℕ)) where
   pub bound_at_cut : (n : Name) → cut z.zone (low n) ≡ Some (low n) → datas ≡ data_at z.zone (low n) 43 → IsCutSo algorithms z n (bound_told algorithms n datas)
   bound_at_cut n k e = go (known_ds algorithms datas) refl
     where
-      go : (ds : List Ds) → known_ds algorithms datas ≡ ds → IsCutSo algorithms z n (by_known (low n) ds)
-      go [] f = (refl, k, bound_is (low n) e ∙ ap has_some f)
+      go : (ds : List Ds) → known_ds algorithms datas ≡ ds → IsCutSo algorithms z n (by_known (low n) datas ds)
+      go [] f = (refl, k, record { unbound = bound_is (low n) e ∙ ap has_some f; datas_are = e })
       go (d ∷ ds) f = (refl, k, record { bound = bound_is (low n) e ∙ ap has_some f; ds_are = sym f ∙ ap (known_ds algorithms) e })
 
   pub bound_below : (q : Name) (t : ℕ) (c : Name) → refers_to z.zone q t ≡ Some (low c) → datas ≡ data_at z.zone (low c) 43 → IsToldSo algorithms z q t (bound_told algorithms c datas)
   bound_below q t c k e = go (known_ds algorithms datas) refl
     where
-      go : (ds : List Ds) → known_ds algorithms datas ≡ ds → IsToldSo algorithms z q t (by_known (low c) ds)
-      go [] f = (k, bound_is (low c) e ∙ ap has_some f)
+      go : (ds : List Ds) → known_ds algorithms datas ≡ ds → IsToldSo algorithms z q t (by_known (low c) datas ds)
+      go [] f = (k, record { unbound = bound_is (low c) e ∙ ap has_some f; datas_are = e })
       go (d ∷ ds) f = (k, record { bound = bound_is (low c) e ∙ ap has_some f; ds_are = sym f ∙ ap (known_ds algorithms) e })

@@ -25,12 +25,12 @@ use Rattle.answer_findings.specs.declared.finding.Found.TheVariants as f
 use Rattle.answer_findings.specs.Found.{IsFound}
 use Rattle.answer_findings.specs.Judgements.{aside, asking}
 use Rattle.answer_findings.specs.Laws.{HasRecords}
-use Rattle.answer_findings.specs.Seen.{Seen, SeesVerdict, SeesDelegated, SeesNoDs, SeesAlias, SeesStarAlias, SeesDname, SeesReferral, seen}
+use Rattle.answer_findings.specs.Seen.{Seen, SeesVerdict, SeesDelegated, SeesNoDs, SeesAlias, SeesStarAlias, SeesOpen, SeesDname, SeesReferral, seen}
 use Rattle.answer_findings.specs.Truth.{HasDsInOne, IsSo}
 use Rattle.answer_findings.proofs.Searched.{found_truly}
 use Rattle.resolution_tree.specs.Tree.{TreeZone, refers_to}
 use Rattle.resolution_tree.specs.Orderly.{IsOrderlyZone}
-use Rattle.resolution_tree.proofs.Trees.{lead_uncut, referred, refers}
+use Rattle.resolution_tree.proofs.Trees.{lead_uncut, no_data, referred, refers}
 use Rattle.resolution_tree.proofs.Verdicts.{cut_down, delegated_refers, ds_cut, no_ds_cut, no_ds_uncut, open_down, own_cut, own_verdict, unaliased_down, unbound, verdict_told}
 use Rattle.resolution_step.specs.KnownDs.{knows}
 use Rattle.resolution_step.specs.Told.{StepSeen, TellsVerdict, TellsLead, TellsDown, TellsUnsigned, TellsOpen, TellsNoCut, TellsNoneBelow, TellsNothing, AsksFor, Search, Sees, Refuses, Wants, IsCutFound, IsCutTelling, IsCutTold, IsFoundTelling, IsSearched, IsSearchTold, IsSeenTold, IsTelling, IsTold, IsToldAt, at_cut, counts_of, cut_said, cut_searched, cut_told, lasting_of, referral_told, search_of, seen_told, told, bound_told}
@@ -124,12 +124,13 @@ module _ (algorithms : List ℕ) (h : JudgeInput) (v : Version) (o : IsOrderlyZo
   cut_so ds (SeesDelegated c) s = tt
   cut_so ds (SeesNoDs true) s =
       let at = no_ds_cut z.zone z.optout q (ds_said ds NoType s.0) ((s.1 v refl).0 refl) in
-      (refl, at.0, unbound (knows algorithms) z.zone (low q) at.1)
+      (refl, at.0, record { unbound = unbound (knows algorithms) z.zone (low q) at.1; datas_are = sym (no_data z.zone (low q) 43 at.1) })
   cut_so ds (SeesNoDs false) s = no_ds_uncut z.zone z.optout q (ds_said ds NoType s.0) (λ d. false≢true ((s.1 v refl).1 d))
   cut_so ds (SeesAlias target) s = uncut s.version (leading.To target) s.there s.leads
   cut_so ds (SeesStarAlias target) s =
       let is = ap (λ u. verdict (zone_in h.apex u) (optout_of u.mode) q 5) (only v s.version s.there) ∙ s.says in
       missing_below z.zone q (verdict_told z.zone z.optout q 5 (StarRecords (wire target ∷ [])) is).1.1.missing
+  cut_so ds SeesOpen s = verdict_so ds Open s
   cut_so ds (SeesDname owner lead) s =
       let has = subst (λ u. HasRecords (zone_in h.apex u) owner 39 (wire s.target ∷ [])) (sym (only v s.version s.there)) s.has in
       redirected_below z.zone q owner (wire s.target ∷ []) o.servable.aliases has s.above
@@ -163,6 +164,7 @@ module _ (algorithms : List ℕ) (h : JudgeInput) (v : Version) (o : IsOrderlyZo
   seen_so (SeesNoDs d) s = own_so NoType s.0
   seen_so (SeesAlias target) s = leads_is s.version (leading.To target) s.there s.leads
   seen_so (SeesStarAlias target) s = leads_is s.version (leading.To target) s.there s.leads
+  seen_so SeesOpen s = own_so Open s
   seen_so (SeesDname owner lead) s = leads_is s.version lead s.there s.leads
   seen_so (SeesReferral c datas) s = referral_so c datas s
 
@@ -172,7 +174,7 @@ module _ (algorithms : List ℕ) (h : JudgeInput) (v : Version) (o : IsOrderlyZo
   pub lowered_so : (n : Name) (x : StepSeen) → at_or_above (apex_of z.zone) n ≡ true → at_or_above n q ≡ true → (same n q && (t == 43)) ≡ false → IsCutSo algorithms z n x → IsToldSo algorithms z q t (at_cut x)
   lowered_so n (TellsDown c ds) inside a other s =
       (refers z.zone q t (low n) (cut_down z.zone n q s.1 a) other ∙ ap (λ d. Some d) (sym s.0), s.2)
-  lowered_so n (TellsUnsigned c) inside a other s =
+  lowered_so n (TellsUnsigned c datas) inside a other s =
       (refers z.zone q t (low n) (cut_down z.zone n q s.1 a) other ∙ ap (λ d. Some d) (sym s.0), s.2)
   lowered_so n TellsOpen inside a other s =
       let at : at_or_above (apex_of z.zone) (low n) ≡ true = above_lowered (apex_of z.zone) n ∙ inside in
@@ -195,7 +197,7 @@ sees_so table h v x l n s of = go s.found s.is_found s.is
         let same_is : seen finding ≡ x = (let both : Sees x ≡ Sees (seen finding) = e in cc) in
         subst (IsSo h (v ∷ [])) same_is (found_truly table h (f.Finds finding lasting verifications hashes) is of.passes (v ∷ []) of.true_are of.honest)
     go (f.Refused refusal verifications hashes) is e = absurd cc
-    go (f.Asks asks) is e = absurd cc
+    go (f.Asks asks verifications hashes) is e = absurd cc
 
 -- what is so of a delegation
 pub cut_truly : (algorithms : List ℕ) (table : List Checked) (h : JudgeInput) (said : StepSeen) (l : Option Lasting) (n : Counts) → IsCutTold algorithms table h said l n → TellsCutTruly algorithms table h said
@@ -246,6 +248,7 @@ module _ (algorithms : List ℕ) (table : List Checked) (h : JudgeInput) (v : Ve
   seen_truly (SeesNoDs d) s of is = by_seen (SeesNoDs d) s of.in_order is.0
   seen_truly (SeesAlias target) s of is = by_seen (SeesAlias target) s of.in_order is.0
   seen_truly (SeesStarAlias target) s of is = by_seen (SeesStarAlias target) s of.in_order is.0
+  seen_truly SeesOpen s of is = by_seen SeesOpen s of.in_order is.0
   seen_truly (SeesDname owner lead) s of is = by_seen (SeesDname owner lead) s of.in_order is.0
   seen_truly (SeesReferral c datas) s of is = by_seen (SeesReferral c datas) s of.in_order is.0
 

@@ -15,7 +15,7 @@ use Rattle.answer_findings.specs.declared.finding.Found.TheVariants as f
 use Rattle.answer_findings.specs.Found.{IsFound}
 use Rattle.answer_findings.specs.Judgements.{aside, asking}
 use Rattle.answer_findings.specs.Lasts.{least_of}
-use Rattle.answer_findings.specs.Seen.{Seen, SeesVerdict, SeesDelegated, SeesNoDs, SeesAlias, SeesStarAlias, SeesDname, SeesReferral, lead_seen, seen}
+use Rattle.answer_findings.specs.Seen.{Seen, SeesVerdict, SeesDelegated, SeesNoDs, SeesAlias, SeesStarAlias, SeesOpen, SeesDname, SeesReferral, lead_seen, seen}
 use Rattle.resolution_step.specs.Counted.{no_counts, plus}
 use Rattle.resolution_step.specs.KnownDs.{known_ds}
 use Rattle.resolution_step.specs.declared.telling.Counts.{Counts}
@@ -28,7 +28,7 @@ pub data StepSeen : Type 0 where
   TellsVerdict : Verdict → StepSeen
   TellsLead : Lead → StepSeen
   TellsDown : Name → List Ds → StepSeen
-  TellsUnsigned : Name → StepSeen
+  TellsUnsigned : Name → List (List ℕ) → StepSeen
   TellsOpen : StepSeen
   TellsNoCut : StepSeen
   TellsNoneBelow : StepSeen
@@ -39,7 +39,7 @@ abbrev pub told : Step → StepSeen
 told (s.Answer v) = TellsVerdict (verdict_of v)
 told (s.Leads l) = TellsLead (lead_seen l)
 told (s.Down c ds) = TellsDown c ds.items
-told (s.Unsigned c) = TellsUnsigned c
+told (s.Unsigned c datas) = TellsUnsigned c datas
 told s.LeftOpen = TellsOpen
 told s.NoCut = TellsNoCut
 told s.NoneBelow = TellsNoneBelow
@@ -57,19 +57,19 @@ pub data Search : Type 0 where
 abbrev pub search_of : Found → Search
 search_of (f.Finds finding lasting verifications hashes) = Sees (seen finding)
 search_of (f.Refused refusal verifications hashes) = Refuses refusal
-search_of (f.Asks asks) = Wants asks.items
+search_of (f.Asks asks verifications hashes) = Wants asks.items
 
 -- how long what is found lasts; where nothing is found nothing lasts
 abbrev pub lasting_of : Found → Option Lasting
 lasting_of (f.Finds finding lasting verifications hashes) = lasting
 lasting_of (f.Refused refusal verifications hashes) = None
-lasting_of (f.Asks asks) = None
+lasting_of (f.Asks asks verifications hashes) = None
 
 -- how often was verified and hashed for it; what is asked for is not counted
 abbrev pub counts_of : Found → Counts
 counts_of (f.Finds finding lasting verifications hashes) = record { verifications = verifications; hashes = hashes }
 counts_of (f.Refused refusal verifications hashes) = record { verifications = verifications; hashes = hashes }
-counts_of (f.Asks asks) = no_counts
+counts_of (f.Asks asks verifications hashes) = no_counts
 
 -- A search of a case's messages comes to this, which lasts so long and for which so often was verified and hashed.
 pub record IsSearched (table : List Checked) (h : JudgeInput) (came : Search) (lasting : Option Lasting) (counts : Counts) : Type 0 where
@@ -81,13 +81,14 @@ pub record IsSearched (table : List Checked) (h : JudgeInput) (came : Search) (l
 
 -- ---- DS at a name
 
--- the delegation at a name with these DS data: the way down by those of a known kind, or without one nothing that is signed
-abbrev pub by_known : Name → List Ds → StepSeen
-by_known c [] = TellsUnsigned c
-by_known c (d ∷ ds) = TellsDown c (d ∷ ds)
+-- the delegation at a name with these DS data: the way down by those of a known kind, or without one nothing that is signed, beside
+-- all these data
+abbrev pub by_known : Name → List (List ℕ) → List Ds → StepSeen
+by_known c datas [] = TellsUnsigned c datas
+by_known c datas (d ∷ ds) = TellsDown c (d ∷ ds)
 
 abbrev pub bound_told : List ℕ → Name → List (List ℕ) → StepSeen
-bound_told algorithms c datas = by_known (low c) (known_ds algorithms datas)
+bound_told algorithms c datas = by_known (low c) datas (known_ds algorithms datas)
 
 abbrev pub cut_said : List ℕ → Name → Verdict → StepSeen
 cut_said algorithms n (Records datas) = bound_told algorithms n datas
@@ -101,10 +102,11 @@ cut_said algorithms n _ = TellsNothing None
 -- a name that does not exist, nor below a DNAME.
 abbrev pub cut_told : List ℕ → Name → Seen → StepSeen
 cut_told algorithms n (SeesVerdict v) = cut_said algorithms n v
-cut_told algorithms n (SeesNoDs true) = TellsUnsigned (low n)
+cut_told algorithms n (SeesNoDs true) = TellsUnsigned (low n) []
 cut_told algorithms n (SeesNoDs false) = TellsNoCut
 cut_told algorithms n (SeesAlias target) = TellsNoCut
 cut_told algorithms n (SeesStarAlias target) = TellsNoneBelow
+cut_told algorithms n SeesOpen = TellsOpen
 cut_told algorithms n (SeesDname owner lead) = TellsNoneBelow
 cut_told algorithms n _ = TellsNothing None
 
@@ -137,13 +139,14 @@ seen_told algorithms asked (SeesDelegated c) = TellsNothing None
 seen_told algorithms asked (SeesNoDs d) = TellsVerdict NoType
 seen_told algorithms asked (SeesAlias target) = TellsLead (To target)
 seen_told algorithms asked (SeesStarAlias target) = TellsLead (To target)
+seen_told algorithms asked SeesOpen = TellsOpen
 seen_told algorithms asked (SeesDname owner lead) = TellsLead lead
 seen_told algorithms asked (SeesReferral c datas) = referral_told algorithms asked c datas
 
 -- at a delegation that is proved, what the message tells of its DS
 abbrev pub at_cut : StepSeen → StepSeen
 at_cut (TellsDown c ds) = TellsDown c ds
-at_cut (TellsUnsigned c) = TellsUnsigned c
+at_cut (TellsUnsigned c datas) = TellsUnsigned c datas
 at_cut TellsOpen = TellsOpen
 at_cut (TellsNothing e) = TellsNothing e
 at_cut (AsksFor asks) = AsksFor asks

@@ -10,7 +10,7 @@ use Rattle.answer_findings.specs.Versions.{Version, zone_in}
 use Rattle.answer_judge_keys.specs.Judging.{JudgeInput}
 use Rattle.answer_findings.specs.Table.{AreTrue, Checked, Tried, answers_with, passes_in}
 pub use Rattle.answer_findings.specs.Truth.{AreHonestBeside}
-use Rattle.resolution_tree.specs.Tree.{TreeZone, Secure, Unsigned, LeftOpen, Leads, SaysItself, is_bound, refers_to}
+use Rattle.resolution_tree.specs.Tree.{TreeZone, Secure, LeftOpen, Leads, SaysItself, is_bound, refers_to}
 use Rattle.resolution_tree.specs.Orderly.{IsOrderlyZone}
 use Rattle.resolution_step.specs.KnownDs.{known_ds, knows}
 use Rattle.resolution_step.specs.Told.{StepSeen, TellsVerdict, TellsLead, TellsDown, TellsUnsigned, TellsOpen, TellsNoCut, TellsNoneBelow}
@@ -24,6 +24,11 @@ pub record IsWayDown (algorithms : List ℕ) (z : TreeZone) (c : Name) (ds : Lis
   pub bound : is_bound (knows algorithms) z.zone c ≡ true
   pub ds_are : ds ≡ known_ds algorithms (data_at z.zone c 43)
 
+-- the zone has a delegation with these DS data, none of them of a known kind, or with none
+pub record IsUnbound (algorithms : List ℕ) (z : TreeZone) (c : Name) (datas : List (List ℕ)) : Type 0 where
+  pub unbound : is_bound (knows algorithms) z.zone c ≡ false
+  pub datas_are : datas ≡ data_at z.zone c 43
+
 -- The zone has no delegation at a name or above it, nor, below its apex, at any name below it.
 pub record HasNoCutBelow (z : Zone) (n : Name) : Type 0 where
   pub uncut : cut z (low n) ≡ None
@@ -32,7 +37,7 @@ pub record HasNoCutBelow (z : Zone) (n : Name) : Type 0 where
 -- of a name at which a delegation is sought
 abbrev pub IsCutSo : List ℕ → TreeZone → Name → StepSeen → Type 0
 IsCutSo algorithms z n (TellsDown c ds) = (c ≡ low n) × (cut z.zone (low n) ≡ Some (low n)) × IsWayDown algorithms z c ds
-IsCutSo algorithms z n (TellsUnsigned c) = (c ≡ low n) × (cut z.zone (low n) ≡ Some (low n)) × (is_bound (knows algorithms) z.zone c ≡ false)
+IsCutSo algorithms z n (TellsUnsigned c datas) = (c ≡ low n) × (cut z.zone (low n) ≡ Some (low n)) × IsUnbound algorithms z c datas
 IsCutSo algorithms z n TellsOpen = (is_open z.zone z.optout (low n) ≡ true) × (is_aliased z.zone z.optout n 43 ≡ false)
 IsCutSo algorithms z n TellsNoCut = cut z.zone (low n) ≡ None
 IsCutSo algorithms z n TellsNoneBelow = HasNoCutBelow z.zone n
@@ -43,7 +48,7 @@ abbrev pub IsToldSo : List ℕ → TreeZone → Name → ℕ → StepSeen → Ty
 IsToldSo algorithms z q t (TellsVerdict v) = SaysItself (knows algorithms) q t z (Secure z.zone.name v)
 IsToldSo algorithms z q t (TellsLead lead) = SaysItself (knows algorithms) q t z (Leads lead)
 IsToldSo algorithms z q t (TellsDown c ds) = (refers_to z.zone q t ≡ Some c) × IsWayDown algorithms z c ds
-IsToldSo algorithms z q t (TellsUnsigned c) = SaysItself (knows algorithms) q t z (Unsigned c)
+IsToldSo algorithms z q t (TellsUnsigned c datas) = (refers_to z.zone q t ≡ Some c) × IsUnbound algorithms z c datas
 IsToldSo algorithms z q t TellsOpen = SaysItself (knows algorithms) q t z (LeftOpen z.zone.name)
 IsToldSo algorithms z q t _ = Unit {0}
 

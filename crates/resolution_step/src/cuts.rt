@@ -1,14 +1,16 @@
 //! What a message tells of a delegation at a name.
-ghost use Rattle.std.specs.Prelude.{◌≡◌, IfOk};
+ghost use Rattle.std.specs.Prelude.{◌≡◌, [], IfOk};
+ghost use Rattle.definitions.specs.Name.{low};
 ghost use Rattle.answer_judge_rules.specs.Rules.{verdict_of};
 ghost use Rattle.answer_findings.specs.Seen.{seen};
-ghost use Rattle.resolution_step.specs.Told.{IsCutFound, IsCutTelling, cut_said, cut_told, told};
+ghost use Rattle.resolution_step.specs.Told.{IsCutFound, IsCutTelling, TellsUnsigned};
+ghost use Rattle.resolution_step.specs.Told.{cut_said, cut_told, told};
 ghost use Rattle.resolution_step.specs.Truth.{TellsCutTruly};
 
 use crate::canonical::canonical_name;
 use crate::known::bound;
 use crate::telling::{Counts, Step, Telling};
-use answer_findings::{Case, CheckedSignature, Finding, Found, Verdict, find};
+use answer_findings::{Case, CheckedSignature, DataList, Finding, Found, Verdict, find};
 use messages::names::Name;
 use std::alloc::{AllocError, Global};
 
@@ -76,7 +78,7 @@ fn searched_cut(
                 hashes,
             },
         }),
-        Found::Asks(asks) => Ok(Telling {
+        Found::Asks { asks, .. } => Ok(Telling {
             step: Step::Asks(asks),
             lasting: None,
             counts: Counts::none(),
@@ -95,11 +97,22 @@ fn cut_found(
 {
     match finding {
         Finding::Verdict(verdict) => cut_said(alloc, algorithms, name, verdict),
-        Finding::NoDs(true) => Ok(Step::Unsigned(canonical_name(alloc, name)?)),
+        Finding::NoDs(true) => without_ds(alloc, name),
         Finding::NoDs(false) | Finding::Alias(_) => Ok(Step::NoCut),
+        Finding::LeftOpen => Ok(Step::LeftOpen),
         Finding::WildcardAlias(_) | Finding::Dname { .. } => Ok(Step::NoneBelow),
         Finding::Delegated(_) | Finding::Referral { .. } => Ok(Step::Untold(None)),
     }
+}
+
+/// A delegation that has no DS record.
+fn without_ds(alloc: Global, name: &Name<Vec<u8>>) -> Result<Step, AllocError>
+    ensures { IfOk result (λ s. told s ≡ TellsUnsigned (low name.now) []) }
+{
+    Ok(Step::Unsigned {
+        cut: canonical_name(alloc, name)?,
+        ds: DataList::new(Vec::new(alloc)),
+    })
 }
 
 /// A verdict on DS at a name tells this of a delegation there.
@@ -112,7 +125,7 @@ fn cut_said(
     ensures { IfOk result (λ s. told s ≡ cut_said algorithms.now name.now (verdict_of verdict)) }
 {
     match verdict {
-        Verdict::Records(datas) => bound(alloc, algorithms, name, &datas),
+        Verdict::Records(datas) => bound(alloc, algorithms, name, datas),
         Verdict::NoName | Verdict::StarRecords(_) | Verdict::StarNoType => Ok(Step::NoneBelow),
         Verdict::Open => Ok(Step::LeftOpen),
         Verdict::NoType | Verdict::Delegated | Verdict::Unsigned => Ok(Step::Untold(None)),

@@ -18,20 +18,20 @@ const LONGEST_DIGEST: usize = 65_531;
 const SHA384: u8 = 4;
 
 /// What DS records at a delegation tell: the way down by those of known algorithms and digests, or
-/// that what is below is not signed. A record of another algorithm or digest leads to no key that
-/// can be checked (RFC 4035, 5.2).
+/// that what is below is not signed, with the data of all. A record of another algorithm or digest
+/// leads to no key that can be checked (RFC 4035, 5.2).
 pub(crate) fn bound(
     alloc: Global,
     algorithms: &[u8],
     cut: &Name<Vec<u8>>,
-    datas: &DataList,
+    datas: DataList,
 ) -> Result<Step, AllocError>
-    ensures { IfOk result (λ s. told s ≡ bound_told algorithms.now cut.now datas.now) }
+    ensures { IfOk result (λ s. told s ≡ bound_told algorithms.now cut.now datas) }
 {
     let ds = known_ds(alloc, algorithms, datas.as_slice())?;
     let cut = canonical_name(alloc, cut)?;
     if ds.is_empty() {
-        return Ok(Step::Unsigned(cut));
+        return Ok(Step::Unsigned { cut, ds: datas });
     }
     Ok(Step::Down { cut, ds })
 }

@@ -13,4 +13,4 @@ pub mod telling;
 pub use crate::cuts::cut_step;
 pub use crate::steps::step;
 pub use crate::telling::{Counts, Step, Telling, least_of};
-pub use answer_findings::{Ask, Case, CheckedSignature, Lasting, Lead, Refusal, Verdict};
+pub use answer_findings::{Ask, Case, CheckedSignature, DataList, Lasting, Lead, Refusal, Verdict};

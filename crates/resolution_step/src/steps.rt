@@ -80,7 +80,7 @@ fn searched_step(
                 hashes,
             },
         }),
-        Found::Asks(asks) => Ok(Telling {
+        Found::Asks { asks, .. } => Ok(Telling {
             step: Step::Asks(asks),
             lasting: None,
             counts: Counts::none(),
@@ -111,9 +111,10 @@ fn finding_step(
         Finding::NoDs(_) => Ok(lasts(Step::Answer(Verdict::NoType), lasting, counts)),
         Finding::Alias(target) => Ok(lasts(Step::Leads(Lead::To(target)), lasting, counts)),
         Finding::WildcardAlias(target) => Ok(lasts(Step::Leads(Lead::To(target)), lasting, counts)),
+        Finding::LeftOpen => Ok(lasts(Step::LeftOpen, lasting, counts)),
         Finding::Dname { leads, .. } => Ok(lasts(Step::Leads(leads), lasting, counts)),
         Finding::Referral { cut, ds } => {
-            let step = referral_step(alloc, case.question, algorithms, &cut, &ds)?;
+            let step = referral_step(alloc, case.question, algorithms, &cut, ds)?;
             Ok(lasts(step, lasting, counts))
         }
     }
@@ -197,9 +198,9 @@ fn referral_step(
     question: &Question,
     algorithms: &[u8],
     cut: &Name<Vec<u8>>,
-    ds: &DataList,
+    ds: DataList,
 ) -> Result<Step, AllocError>
-    ensures { let told_is = referral_told algorithms.now (asked_of question.now) cut.now ds.now in
+    ensures { let told_is = referral_told algorithms.now (asked_of question.now) cut.now ds in
         IfOk result (λ s. told s ≡ told_is) }
 {
     if cut.name_eq(&question.name) && question.rtype == Rtype::DS {

@@ -3,7 +3,7 @@ ghost use Rattle.std.specs.Prelude.{◌≡◌};
 ghost use Rattle.answer_findings.specs.Lasts.{least, least_of};
 ghost use Rattle.resolution_step.specs.Counted.{no_counts, plus};
 
-use answer_findings::{Ask, Lasting, Lead, Refusal, Verdict};
+use answer_findings::{Ask, DataList, Lasting, Lead, Refusal, Verdict};
 use denial_data::Ds;
 use messages::names::Name;
 
@@ -21,8 +21,12 @@ pub enum Step {
         ds: Vec<Ds<Vec<u8>>>,
     },
     /// The zone delegates the name here, and has no DS record of a known algorithm and digest: what
-    /// is below is insecure (RFC 4035, 5.2). The name of the delegation is in lower case.
-    Unsigned(Name<Vec<u8>>),
+    /// is below is insecure (RFC 4035, 5.2). The name of the delegation is in lower case. With it
+    /// come the data of the DS records that it has; none where it has no DS record.
+    Unsigned {
+        cut: Name<Vec<u8>>,
+        ds: DataList,
+    },
     /// Opt-out leaves the name open: it is insecure (RFC 5155, 6).
     LeftOpen,
     /// No delegation is at the name or above it.

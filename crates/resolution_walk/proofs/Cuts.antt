@@ -9,7 +9,7 @@ use Rattle.answer_judge_keys.specs.declared.verdict.Lasting.{Lasting}
 use Rattle.resolution_evidence.specs.Counts.{Counts}
 use Rattle.resolution_evidence.specs.Given.{Given}
 use Rattle.resolution_evidence.specs.KnownDs.{known_ds}
-use Rattle.resolution_evidence.specs.Seen.{Seen, SeesVerdict, SeesDelegated, SeesNoDs, SeesAlias, SeesStarAlias, SeesDname, SeesReferral}
+use Rattle.resolution_evidence.specs.Seen.{Seen, SeesVerdict, SeesDelegated, SeesNoDs, SeesAlias, SeesStarAlias, SeesOpen, SeesDname, SeesReferral}
 use Rattle.resolution_evidence.specs.Told.{StepSeen, Search, Sees, Refuses, Wants, at_cut, by_known, cut_said, cut_searched, cut_told}
 use Rattle.resolution_evidence.specs.Walking.{IsNameStep}
 use Rattle.resolution_walk.specs.Judged.{is_uncut}
@@ -19,12 +19,12 @@ abbrev IsOfCut : StepSeen → Type 0
 IsOfCut said = is_uncut said ≡ false → said ≡ at_cut said
 
 module _ (algorithms : List ℕ) (n : Name) where
-  known_cut : (ds : List Ds) → IsOfCut (by_known (low n) ds)
-  known_cut [] other = refl
-  known_cut (d ∷ ds) other = refl
+  known_cut : (datas : List (List ℕ)) (ds : List Ds) → IsOfCut (by_known (low n) datas ds)
+  known_cut datas [] other = refl
+  known_cut datas (d ∷ ds) other = refl
 
   said_cut : (v : Verdict) → IsOfCut (cut_said algorithms n v)
-  said_cut (Records datas) other = known_cut (known_ds algorithms datas) other
+  said_cut (Records datas) other = known_cut datas (known_ds algorithms datas) other
   said_cut NoType other = refl
   said_cut NoName other = absurd (false≢true (sym other))
   said_cut (StarRecords datas) other = absurd (false≢true (sym other))
@@ -40,6 +40,7 @@ module _ (algorithms : List ℕ) (n : Name) where
   seen_cut (SeesNoDs false) other = absurd (false≢true (sym other))
   seen_cut (SeesAlias target) other = absurd (false≢true (sym other))
   seen_cut (SeesStarAlias target) other = absurd (false≢true (sym other))
+  seen_cut SeesOpen other = refl
   seen_cut (SeesDname owner lead) other = absurd (false≢true (sym other))
   seen_cut (SeesReferral c datas) other = refl
 

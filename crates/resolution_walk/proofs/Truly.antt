@@ -1,20 +1,94 @@
 -- What a walk ends in is what the tree says.
-use Rattle.std.proofs.Common.{List, [], Option, Some, None, sym, subst}
-use Rattle.std.specs.Prelude.{IfSome}
+use Rattle.std.proofs.Common.{◌≡◌, ℕ, length, Bool, true, false, List, [], Option, Some, None, inl, refl, sym, subst}
+use Rattle.std.specs.Prelude.{nat_lt, if◌then◌else◌, IfSome}
+use Rattle.definitions.specs.Dnskey.{Ds}
+use Rattle.definitions.specs.Name.{Name}
 use Rattle.messages.specs.Message.{Asked}
-use Rattle.resolution_tree.specs.Tree.{Said, Resolves}
+use Rattle.resolution_tree.specs.Tree.{Said, Resolves, is_bound, refers_to, zone_at}
 use Rattle.resolution_evidence.specs.KnownDs.{knows}
+use Rattle.resolution_evidence.specs.Counted.{no_counts}
+use Rattle.resolution_evidence.specs.Counts.{Counts}
 use Rattle.resolution_evidence.specs.Given.{Given}
-use Rattle.resolution_evidence.specs.Truth.{IsOfTree, SignedZone, tree_of, zone_of}
-use Rattle.resolution_evidence.proofs.Truly.{follows_so}
+use Rattle.resolution_evidence.specs.Told.{TellsUnsigned}
+use Rattle.resolution_evidence.specs.Truth.{IsAnchored, IsOfTree, SignedZone, tree_of, zone_of}
+use Rattle.resolution_evidence.specs.Walking.{IsNameStep, renamed}
+use Rattle.resolution_evidence.proofs.Truly.{IsDown, down_so, follows_so, named_so, own_so}
 use Rattle.resolution_walk.specs.Ended.{IsFollowed, IsWalked, said_of}
-use Rattle.resolution_walk.specs.Truth.{WalksTruly}
+use Rattle.resolution_walk.specs.Judged.{IsHeard, OfAnswer, OfName}
+use Rattle.resolution_walk.specs.Stopping.{EndsAt, Stops, Here, Below, TooDeep, StopsBehind, AtOnce, Elsewhere, TooMany, Led, StopsWithin, ending_within}
+use Rattle.resolution_walk.specs.Truth.{AreOfCut, HasDsTruly, LeadsDown, There, Further, WalksTruly, last_of}
+use Rattle.resolution_walk.specs.declared.ending.Ending.{Ending}
+use Rattle.resolution_walk.specs.declared.ending.Ending.TheVariants as ends
 use Rattle.resolution_walk.specs.declared.ending.Walk.{Walk}
+use Rattle.resolution_walk.specs.declared.walk.Limits.{Limits}
 
-pub walked_so : (e : Given) (asked : Asked) (w : Walk) → IsWalked e asked [] w → WalksTruly e asked w
-walked_so e asked w is = go (said_of w.ending) is
+says_so : (e : Given) (asked : Asked) (w : Walk) → IsWalked e asked [] w
+    → IfSome (said_of w.ending) (λ said. (zones : List SignedZone) (anchor : SignedZone) → IsOfTree e zones anchor → Resolves (knows e.algorithms) (tree_of zones) (zone_of anchor) asked.rtype said asked.name w.through.items)
+says_so e asked w is = go (said_of w.ending) is
   where
     go : (o : Option Said) → IfSome o (IsFollowed e asked [] w.through.items w.lasting)
         → IfSome o (λ said. (zones : List SignedZone) (anchor : SignedZone) → IsOfTree e zones anchor → Resolves (knows e.algorithms) (tree_of zones) (zone_of anchor) asked.rtype said asked.name w.through.items)
     go None is = tt
     go (Some said) is = λ zones anchor of. subst (Resolves (knows e.algorithms) (tree_of zones) (zone_of anchor) asked.rtype said asked.name) (sym is.through_are) (follows_so e zones anchor of said asked is.names w.lasting is.follows)
+
+-- ---- DS data of a delegation that is not signed
+
+module _ (e : Given) (zones : List SignedZone) (anchor : SignedZone) (of : IsOfTree e zones anchor) where
+  abbrev HasDs : Asked → SignedZone → Ending → Type 0
+  HasDs asked s ending = HasDsTruly e.algorithms (tree_of zones) (zone_of s) asked.name asked.rtype ending
+
+  heard_ds : (asked sought : Asked) (s : SignedZone) (ds : List Ds) (c : Name) (datas : List (List ℕ)) → IsAnchored e zones anchor s ds → IsHeard e asked s.apex ds sought (TellsUnsigned c datas)
+      → AreOfCut e.algorithms (tree_of zones) (zone_of s) asked.name asked.rtype c datas
+  heard_ds asked sought s ds c datas a (OfAnswer l n same step) =
+      let so = own_so e zones anchor of asked s ds (TellsUnsigned c datas) l n a step in
+      record { zone = zone_of s; leads = There; refers = so.0; unbound = so.1 }
+  heard_ds asked sought s ds c datas a (OfName l n between step cut) =
+      let told = subst (λ (q : Asked). IsNameStep e s.apex ds q (TellsUnsigned c datas) l n) between.is step in
+      let so = named_so e zones anchor of asked between.name s ds (TellsUnsigned c datas) l n between.reached.lies.0 between.reached.lies.1 between.other a told in
+      record { zone = zone_of s; leads = There; refers = so.0; unbound = so.1 }
+
+  ends_ds : (asked : Asked) (s : SignedZone) (ds : List Ds) (ending : Ending) → IsAnchored e zones anchor s ds → EndsAt e asked s.apex ds ending → HasDs asked s ending
+  ends_ds asked s ds (ends.Unsigned c datas) a k = heard_ds asked k.1.sought s ds c datas a k.1.heard
+  ends_ds asked s ds _ a k = tt
+
+  -- those that a zone below has are reached from the zone above too
+  above_ds : (asked : Asked) (s child : SignedZone) (c : Name) (ending : Ending) → refers_to (zone_of s).zone asked.name asked.rtype ≡ Some c → is_bound (knows e.algorithms) (zone_of s).zone c ≡ true
+      → zone_at (tree_of zones) c ≡ Some (zone_of child) → HasDs asked child ending → HasDs asked s ending
+  above_ds asked s child c (ends.Unsigned cut datas) refers bound found k = record { zone = k.zone; leads = Further refers bound found k.leads; refers = k.refers; unbound = k.unbound }
+  above_ds asked s child c _ refers bound found k = tt
+
+  stops_ds : (asked : Asked) (ending : Ending) (cuts : ℕ) (zone : Name) (ds : List Ds) (before after : Counts) (s : SignedZone) → s.apex ≡ zone → IsAnchored e zones anchor s ds
+      → Stops e asked ending cuts zone ds before after → HasDs asked s ending
+  stops_ds asked ending cuts zone ds before after s at a (Here judged stops) = ends_ds asked s ds ending a (subst (λ (n : Name). EndsAt e asked n ds ending) (sym at) stops)
+  stops_ds asked ending cuts zone ds before after s at a (Below {cuts = less} {c = c} {below = below} {between = between} lasting judged way more) =
+      let d : IsDown e zones anchor asked s c below = down_so e zones anchor of asked zone c ds below lasting s at a way in
+      above_ds asked s d.child c ending d.refers d.bound d.found (stops_ds asked ending less c below between after d.child d.child_is d.anchored more)
+  stops_ds asked ending cuts zone ds before after s at a (TooDeep lasting judged way same) = subst (HasDs asked s) (sym same) tt
+
+  -- through aliases
+  behind_ds : (cuts : ℕ) (ending : Ending) (aliases : ℕ) (asked : Asked) (ns : List Name) (before after : Counts) → StopsBehind e cuts ending aliases asked ns before after
+      → HasDsTruly e.algorithms (tree_of zones) (zone_of anchor) (last_of asked.name ns) asked.rtype ending
+  behind_ds cuts ending aliases asked ns before after (AtOnce w stops) = stops_ds asked ending cuts e.anchor e.ds before after anchor of.anchor_is (record { there = of.anchor_there; by = inl (refl, refl) }) stops
+  behind_ds cuts ending aliases asked ns before after (Elsewhere w same is) = subst (HasDs asked anchor) (sym same) tt
+  behind_ds cuts ending aliases asked ns before after (TooMany t led same is) = subst (HasDs asked anchor) (sym same) tt
+  behind_ds cuts ending aliases asked ns before after (Led {aliases = less} {ns = more} t led stops) = behind_ds cuts ending less (renamed asked t.name) more t.counts after stops
+
+  -- a limit of messages is none of a delegation
+  within_ds : (asked : Asked) (s : SignedZone) (most : ℕ) (ending : Ending) → HasDs asked s ending → HasDs asked s (ending_within most e ending)
+  within_ds asked s most (ends.Wants ws) k = go (nat_lt (length e.messages) most)
+    where
+      go : (b : Bool) → HasDs asked s (if b then ends.Wants ws else ends.TooManyMessages)
+      go true = tt
+      go false = tt
+  within_ds asked s most _ k = k
+
+pub walked_so : (e : Given) (asked : Asked) (limits : Limits) (w : Walk) → IsWalked e asked [] w → StopsWithin e asked limits w → WalksTruly e asked w
+walked_so e asked limits w is stops = record {
+  says = says_so e asked w is;
+  ds = λ zones anchor of.
+      let more : List Name = stops.stops.more in
+      let last : Asked = renamed asked (last_of asked.name more) in
+      let by_end : HasDs e zones anchor of last anchor stops.ending = behind_ds e zones anchor of limits.cuts stops.ending limits.aliases asked more no_counts w.counts stops.stops.stops in
+      let by_limit : HasDs e zones anchor of last anchor w.ending = subst (HasDs e zones anchor of last anchor) (sym stops.is) (within_ds e zones anchor of last anchor limits.messages stops.ending by_end) in
+      subst (λ (ns : List Name). HasDsTruly e.algorithms (tree_of zones) (zone_of anchor) (last_of asked.name ns) asked.rtype w.ending) (sym stops.stops.through_are) by_limit;
+}

@@ -29,7 +29,7 @@ nothing_onward zone TellsNoneBelow r k = refl
 nothing_onward zone (TellsVerdict v) r k = absurd k
 nothing_onward zone (TellsLead l) r k = absurd k
 nothing_onward zone (TellsDown c ds) r k = absurd k
-nothing_onward zone (TellsUnsigned c) r k = absurd k
+nothing_onward zone (TellsUnsigned c datas) r k = absurd k
 nothing_onward zone TellsOpen r k = absurd k
 nothing_onward zone (AsksFor asks) r k = absurd k
 
@@ -41,7 +41,7 @@ something TellsNoneBelow r tells k = false≢true (sym tells)
 something (TellsVerdict v) r tells k = k
 something (TellsLead l) r tells k = k
 something (TellsDown c ds) r tells k = k
-something (TellsUnsigned c) r tells k = k
+something (TellsUnsigned c datas) r tells k = k
 something TellsOpen r tells k = k
 something (AsksFor asks) r tells k = k
 
@@ -51,7 +51,7 @@ module _ (zone : Name) (ds : List Ds) (sought : Asked) (said : StepSeen) where
   turned_onward (turns.Down c below) k = sym (ap (onward zone) k)
   turned_onward (turns.Ends (ends.Secure of v)) k = ap (λ (n : Name). EndsIn (Secure n (verdict_of v))) k.0 ∙ sym (ap (onward zone) k.1)
   turned_onward (turns.Ends (ends.Leads lead)) k = sym (ap (onward zone) k)
-  turned_onward (turns.Ends (ends.Unsigned c)) k = sym (ap (onward zone) k)
+  turned_onward (turns.Ends (ends.Unsigned c datas)) k = sym (ap (onward zone) k)
   turned_onward (turns.Ends (ends.LeftOpen of)) k = ap (λ (n : Name). EndsIn (LeftOpen n)) k.0 ∙ sym (ap (onward zone) k.1)
   turned_onward (turns.Ends (ends.Untold of by name t r)) k = nothing_onward zone said r k.4
   turned_onward (turns.Ends (ends.Asks asks)) k = sym (ap (onward zone) k)
@@ -82,7 +82,8 @@ module _ (e : Given) (asked : Asked) (zone : Name) (ds : List Ds) where
   turn_stops sought said l (turns.Down c below) on heard last k = tt
   turn_stops sought said l (turns.Ends (ends.Secure of v)) on heard last k = record { lasting = l; way = on }
   turn_stops sought said l (turns.Ends (ends.Leads lead)) on heard last k = record { lasting = l; way = on }
-  turn_stops sought said l (turns.Ends (ends.Unsigned c)) on heard last k = record { lasting = l; way = on }
+  turn_stops sought said l (turns.Ends (ends.Unsigned c datas)) on heard last k =
+      (record { lasting = l; way = on }, record { sought = sought; heard = subst (IsHeard e asked zone ds sought) k heard })
   turn_stops sought said l (turns.Ends (ends.LeftOpen of)) on heard last k = record { lasting = l; way = on }
   turn_stops sought said l (turns.Ends (ends.Untold of by name t r)) on heard last k =
       record { zone_is = k.0; ds_are = k.1; sought = sought; name_is = k.2; type_is = k.3; said = said; heard = heard; nothing = k.4; last = last r k.4 }

@@ -22,7 +22,7 @@ use Rattle.resolution_walk.specs.declared.ending.Walk.{Walk}
 abbrev pub said_of : Ending → Option Said
 said_of (ends.Secure zone v) = Some (Secure zone (verdict_of v))
 said_of (ends.Leads lead) = Some (Leads (lead_seen lead))
-said_of (ends.Unsigned c) = Some (Unsigned c)
+said_of (ends.Unsigned c datas) = Some (Unsigned c)
 said_of (ends.LeftOpen zone) = Some (LeftOpen zone)
 said_of _ = None
 

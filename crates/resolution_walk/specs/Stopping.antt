@@ -33,12 +33,13 @@ pub record IsSaidIn (e : Given) (asked : Asked) (zone : Name) (ds : List Ds) (sa
   pub lasting : Option Lasting
   pub way : IsOnward e asked zone ds (EndsIn said) lasting
 
--- An ending in a zone: what the zone's messages tell there; an answer that tells nothing is its own; the signatures that are asked for
--- lack of an answer of it; and the messages that are wanted are exactly those that lack of it. A limit ends nothing in a zone.
+-- An ending in a zone: what the zone's messages tell there, of a delegation that is not signed with its DS data; an answer that tells
+-- nothing is its own; the signatures that are asked for lack of an answer of it; and the messages that are wanted are exactly those that
+-- lack of it. A limit ends nothing in a zone.
 abbrev pub EndsAt : Given → Asked → Name → List Ds → Ending → Type 0
 EndsAt e asked zone ds (ends.Secure of v) = IsSaidIn e asked zone ds (Secure of (verdict_of v))
 EndsAt e asked zone ds (ends.Leads lead) = IsSaidIn e asked zone ds (Leads (lead_seen lead))
-EndsAt e asked zone ds (ends.Unsigned c) = IsSaidIn e asked zone ds (Unsigned c)
+EndsAt e asked zone ds (ends.Unsigned c datas) = IsSaidIn e asked zone ds (Unsigned c) × IsHeardThere e asked zone ds (TellsUnsigned c datas)
 EndsAt e asked zone ds (ends.LeftOpen of) = IsSaidIn e asked zone ds (LeftOpen of)
 EndsAt e asked zone ds (ends.Untold of by name t refusal) = IsUntold e asked zone ds of by.items name t refusal
 EndsAt e asked zone ds (ends.Asks asks) = IsHeardThere e asked zone ds (AsksFor asks.items)
@@ -90,7 +91,7 @@ abbrev pub IsTurnedTo : Name → List Ds → Asked → StepSeen → Turn → Typ
 IsTurnedTo zone ds sought said (turns.Down c below) = said ≡ TellsDown c below.items
 IsTurnedTo zone ds sought said (turns.Ends (ends.Secure of v)) = (of ≡ zone) × (said ≡ TellsVerdict (verdict_of v))
 IsTurnedTo zone ds sought said (turns.Ends (ends.Leads lead)) = said ≡ TellsLead (lead_seen lead)
-IsTurnedTo zone ds sought said (turns.Ends (ends.Unsigned c)) = said ≡ TellsUnsigned c
+IsTurnedTo zone ds sought said (turns.Ends (ends.Unsigned c datas)) = said ≡ TellsUnsigned c datas
 IsTurnedTo zone ds sought said (turns.Ends (ends.LeftOpen of)) = (of ≡ zone) × (said ≡ TellsOpen)
 IsTurnedTo zone ds sought said (turns.Ends (ends.Untold of by name t r)) = (of ≡ zone) × (by.items ≡ ds) × (name ≡ sought.name) × (t ≡ sought.rtype) × IsNothing said r
 IsTurnedTo zone ds sought said (turns.Ends (ends.Asks asks)) = said ≡ AsksFor asks.items

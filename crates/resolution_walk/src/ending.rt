@@ -5,7 +5,7 @@ ghost use Rattle.resolution_walk.specs.Judged.{counts_of};
 use denial_data::Ds;
 use messages::names::Name;
 use names_rdata::rtype::Rtype;
-use resolution_evidence::{Ask, Counts, Lasting, Lead, Refusal, Verdict};
+use resolution_evidence::{Ask, Counts, DataList, Lasting, Lead, Refusal, Verdict};
 
 /// A message that is wanted: of which zone, and the answer to which question.
 #[derive(Debug, Drop)]
@@ -26,8 +26,11 @@ pub enum Ending {
     /// The name is an alias that leads to none: what a DNAME makes of it is too long.
     Leads(Lead),
     /// The delegation of this name has no DS record of a known algorithm and digest: what is below
-    /// is insecure (RFC 4035, 5.2).
-    Unsigned(Name<Vec<u8>>),
+    /// is insecure (RFC 4035, 5.2). These are the data of the DS records that it has.
+    Unsigned {
+        cut: Name<Vec<u8>>,
+        ds: DataList,
+    },
     /// Opt-out of this zone leaves the name open: it is insecure (RFC 5155, 6).
     LeftOpen(Name<Vec<u8>>),
     /// The zone's answer to this question tells nothing of the way: it is bogus, where it was

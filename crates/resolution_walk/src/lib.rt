@@ -15,4 +15,4 @@ pub use crate::ending::{Ending, Walk, Wanted};
 pub use crate::evidence::{Evidence, Message};
 pub use crate::place::case_of;
 pub use crate::walk::{Limits, resolve};
-pub use resolution_evidence::{Ask, CheckedSignature, Counts, Lasting, Refusal, Verdict};
+pub use resolution_evidence::{Ask, CheckedSignature, Counts, DataList, Lasting, Refusal, Verdict};

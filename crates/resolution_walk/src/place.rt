@@ -206,7 +206,7 @@ fn turned(
         }
         Step::Leads(lead) => Ok(Turn::Ends(Ending::Leads(lead))),
         Step::Down { cut, ds } => Ok(Turn::Down { zone: cut, ds }),
-        Step::Unsigned(cut) => Ok(Turn::Ends(Ending::Unsigned(cut))),
+        Step::Unsigned { cut, ds } => Ok(Turn::Ends(Ending::Unsigned { cut, ds })),
         Step::LeftOpen => {
             let zone = copy_name(alloc, zone)?;
             Ok(Turn::Ends(Ending::LeftOpen(zone)))

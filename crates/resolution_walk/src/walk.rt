@@ -156,7 +156,7 @@ fn says(ending: &Ending) -> bool
 {
     match ending {
         Ending::Secure { .. } | Ending::Leads(_) => true,
-        Ending::Unsigned(_) | Ending::LeftOpen(_) => true,
+        Ending::Unsigned { .. } | Ending::LeftOpen(_) => true,
         _ => false,
     }
 }

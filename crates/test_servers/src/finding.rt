@@ -62,7 +62,7 @@ fn found(alloc: Global, signatures: &Signatures, case: &Case) -> Option<Found> {
         let said = find(alloc, case, &table).ok()?;
         drop(table);
         match said {
-            Found::Asks(asks) => {
+            Found::Asks { asks, .. } => {
                 for ask in asks {
                     asked.push(ask).ok()?;
                 }
@@ -133,7 +133,7 @@ fn printed(alloc: Global, found: &Found) -> Option<String> {
     match found {
         Found::Finds { finding, .. } => finding_text(alloc, finding),
         Found::Refused { refusal, .. } => format!(in alloc; "refused {refusal:?}").ok(),
-        Found::Asks(_) => None,
+        Found::Asks { .. } => None,
     }
 }
 
@@ -146,6 +146,7 @@ fn finding_text(alloc: Global, finding: &Finding) -> Option<String> {
         Finding::NoDs(false) => format!(in alloc; "NoDs of no delegation").ok(),
         Finding::Alias(target) => format!(in alloc; "Alias {target}").ok(),
         Finding::WildcardAlias(target) => format!(in alloc; "WildcardAlias {target}").ok(),
+        Finding::LeftOpen => format!(in alloc; "Open").ok(),
         Finding::Dname { owner, leads } => dname_text(alloc, owner, leads),
         Finding::Referral { cut, ds } => {
             let data = data_text(alloc, ds.as_slice())?;

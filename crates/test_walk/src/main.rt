@@ -25,8 +25,7 @@
 //!
 //! Each line is printed without octets of messages, keys and signatures, or not at all where it has
 //! nothing else, and behind it what is said; behind that, of what is secure or insecure, how many
-//! seconds it may be kept and the last one in which it stands; and from octets the extended error of
-//! a refusal.
+//! seconds it may be kept and the last one in which it stands; and from octets the extended error.
 #![tactic(auto)]
 
 mod desk;

@@ -31,16 +31,15 @@ pub fn reply_text(alloc: Global, code: ReplyCode, octets: &[u8]) -> Option<Strin
     format!(in alloc; "{ending}; through {through}").ok()
 }
 
-/// What a report says beside a reply: how long it lasts, if it says so, and an extended error.
+/// What a report says beside a reply: how long it lasts, and an extended error, if it says so.
 pub fn report_text(alloc: Global, report: &Report) -> Option<String> {
     let (ttl, until, ede) = (report.ttl, report.until, report.ede);
-    if ede != 0 {
-        return format!(in alloc; "; EDE {ede}").ok();
+    match (until, ede) {
+        (0, 0) => Some(String::new(alloc)),
+        (0, _) => format!(in alloc; "; EDE {ede}").ok(),
+        (_, 0) => format!(in alloc; "; TTL {ttl} until {until}").ok(),
+        _ => format!(in alloc; "; TTL {ttl} until {until}; EDE {ede}").ok(),
     }
-    if until == 0 {
-        return Some(String::new(alloc));
-    }
-    format!(in alloc; "; TTL {ttl} until {until}").ok()
 }
 
 fn ending_text(alloc: Global, code: ReplyCode, octets: &[u8]) -> Option<String> {

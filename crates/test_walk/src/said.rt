@@ -35,7 +35,7 @@ fn ending_text(alloc: Global, ending: &Ending) -> Option<String> {
             format!(in alloc; "secure {zone} {verdict}").ok()
         }
         Ending::Leads(_) => text(alloc, "an alias of no name"),
-        Ending::Unsigned(cut) => format!(in alloc; "insecure below {cut}").ok(),
+        Ending::Unsigned { cut, .. } => format!(in alloc; "insecure below {cut}").ok(),
         Ending::LeftOpen(zone) => format!(in alloc; "insecure, left open by {zone}").ok(),
         Ending::Untold {
             zone,
@@ -110,7 +110,7 @@ pub enum Kind {
 pub fn kind_of(ending: &Ending) -> Kind {
     match ending {
         Ending::Secure { .. } | Ending::Leads(_) => Kind::Secure,
-        Ending::Unsigned(_) | Ending::LeftOpen(_) => Kind::Insecure,
+        Ending::Unsigned { .. } | Ending::LeftOpen(_) => Kind::Insecure,
         _ => Kind::Nothing,
     }
 }

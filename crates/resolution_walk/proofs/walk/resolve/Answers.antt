@@ -6,7 +6,7 @@ use Rattle.messages.specs.Questions.{asked_of}
 use Rattle.resolution_evidence.specs.Counted.{no_counts}
 use Rattle.resolution_evidence.specs.Counts.{Counts}
 use Rattle.resolution_walk.specs.Ended.{IsWalked, said_of}
-use Rattle.resolution_walk.specs.Stopping.{WalkStops}
+use Rattle.resolution_walk.specs.Stopping.{StopsWithin, WalkStops}
 use Rattle.resolution_walk.proofs.Onward.{said_within, settled_lasts, settled_walked, within_walked}
 use Rattle.resolution_walk.proofs.Stopping.{stops_within}
 use Rattle.resolution_walk.proofs.Truly.{walked_so}
@@ -34,9 +34,10 @@ returns c =
     subst (λ (n : Counts). WalkStops e copy cuts aliases [] n walk) c.none-counts.ensures (subst (λ (ns : List Name). WalkStops e copy cuts aliases ns c.none-counts.result walk) c.new-through.ensures.items c.in_ok-walk.ensures.stops) in
     let stops : WalkStops e asked cuts aliases [] no_counts walk = subst (λ (q : Asked). WalkStops e q cuts aliases [] no_counts walk) c.in_ok-asked.ensures stops_first in
     let settled = settled_walked less w kept.ending kept.lasts e asked through within in
+    let within_limits : StopsWithin e asked c.args.limits w = stops_within e asked c.args.limits walk w stops (kept.ending ∙ fewer.ending) (through ∙ first) (kept.counts ∙ fewer.counts) in
     record {
       walked = settled;
-      stops = stops_within e asked c.args.limits walk w stops (kept.ending ∙ fewer.ending) (through ∙ first) (kept.counts ∙ fewer.counts);
+      stops = within_limits;
       lasts = settled_lasts less w kept.ending kept.lasts;
-      honest = walked_so e asked w settled;
+      honest = walked_so e asked c.args.limits w settled within_limits;
     }
