@@ -175,20 +175,22 @@ enum zermuita_delegates {
 };
 
 /*
- * What is said beside a reply. A verdict may be kept for `ttl` seconds, and not beyond the second `until`; both are 0 with
- * ZERMUITA_INSECURE of a case, which no record says, and without a verdict. Where a verdict rests on several judgements of the
- * answer, as the cut of ZERMUITA_DELEGATED and `delegates` do, they are the least of all; zermuita_resolve has the least of all
- * that its way rests on.
+ * What is said beside a reply. A verdict may be kept for `ttl` seconds, and not beyond the second `until`. Up to there the same
+ * case has the same verdict of 0 to 7, but for ZERMUITA_DELEGATED without a name and ZERMUITA_OPTOUT of a wildcard's alias; what
+ * these, an alias, a DNAME record and a referral say of the zone stays proved up to there, but another signature of the message
+ * that begins to hold may bring another reply. Both are 0 with ZERMUITA_INSECURE of a case, which no record says, and without a
+ * verdict. Where a verdict rests on several judgements of the answer, as the cut of ZERMUITA_DELEGATED and `delegates` do, they are
+ * the least of all; zermuita_resolve has the least of all that its way rests on.
  *
- * `ede` is 1 or 2 with ZERMUITA_INSECURE of a case where there are DS records (RFC 8914, 4.2 and 4.3); with a refusal it says what
- * to tell the client (7: a signature expired, 10: there is none, 12: a denial is missing, ..), 0 where there is nothing to tell.
+ * `ede` is 1 or 2 with ZERMUITA_INSECURE where there are DS records (RFC 8914, 4.2 and 4.3); with a refusal it says what to tell
+ * the client (7: a signature expired, 10: there is none, 12: a denial is missing, ..), 0 where there is nothing to tell.
  */
 struct zermuita_report {
     size_t size;            /* sizeof(struct zermuita_report), set before the call */
     size_t len;             /* how many octets the output has, even if there is no room for it; all below is about it too */
-    uint64_t until;         /* the last second, since 1970, in which the verdict stands */
-    uint64_t verifications; /* with a verdict or a refusal: how many signatures were looked up in `checked`, not for places */
-    uint64_t hashes;        /* with a verdict or a refusal: how many names were hashed */
+    uint64_t until;         /* the last second, since 1970, in which the verdict stands, as said above */
+    uint64_t verifications; /* how many signatures were looked up in `checked` by judgements that were made, not for places */
+    uint64_t hashes;        /* how many names these hashed, also where signatures are asked for behind them */
     uint32_t ttl;           /* for how many seconds from its message's arrival the verdict may be kept (RFC 4035, 5.3.3) */
     uint16_t ede;           /* the code of an extended error (RFC 8914); 0: none, since code 0 says nothing and is never meant */
     uint16_t delegates;     /* with ZERMUITA_NODATA for DS: a number of enum zermuita_delegates; else 0 */
@@ -295,7 +297,8 @@ static inline enum zermuita_reply zermuita_judge(const struct zermuita_case *han
  * the second `until`: both are the least of each zone's step of the way, through all aliases. With other replies they are 0.
  * `verifications` and `hashes` are those of all judgements of the walk, in this call; with ZERMUITA_WANT, ZERMUITA_ASK and replies
  * that write nothing they are 0. With a refusal up to 27 `ede` says why, as with zermuita_judge of that answer; with
- * ZERMUITA_INSECURE it is 0. `delegates` is 0.
+ * ZERMUITA_INSECURE it is that of zermuita_judge beside the delegation's DS records: 0 where it is proved that there is none.
+ * `delegates` is 0.
  */
 static inline enum zermuita_reply zermuita_resolve(const struct zermuita_evidence *handed, uint8_t *out, size_t out_len,
                                                    struct zermuita_report *report) {
