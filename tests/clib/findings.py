@@ -10,8 +10,8 @@ import pathlib
 import sys
 from collections.abc import Iterator
 
-from answers import ALIAS, CNAME_TYPE, DELEGATED, DNAME, DNAME_TYPE, DS_TYPE, INSECURE, NODATA, NOT_PROVEN, NS_TYPE, RECORDS, REFERRAL
-from answers import WILDCARD, WILDCARD_ALIAS, Answered, Reply, above, beyond, entries, found, labels, part
+from answers import ALIAS, CNAME_TYPE, DELEGATED, DNAME, DNAME_TYPE, DS_TYPE, INSECURE, NODATA, NOT_PROVEN, NS_TYPE, OPTOUT, RECORDS
+from answers import REFERRAL, WILDCARD, WILDCARD_ALIAS, Answered, Reply, above, beyond, entries, found, labels, part
 from lasting import IN, Passing, Record, records
 
 sys.path.append(str(pathlib.Path(__file__).resolve().parents[1] / "aliases"))
@@ -176,7 +176,9 @@ def questions(it: Answered) -> list[Answered]:
     """The case for each question that its reply rests on: its own, and that of an alias, of NS, of DS."""
     first = first_name(it.reply.octets) if it.reply.number >= DELEGATED else b""
     own = dataclasses.replace(it, other_question=1)
-    if it.reply.number in (ALIAS, WILDCARD_ALIAS):
+    is_alias = (it.name.lower(), CNAME_TYPE) in rrsets(it.answer)
+    if it.reply.number in (ALIAS, WILDCARD_ALIAS) or it.reply.number == OPTOUT and is_alias:
+        # A wildcard's alias shows that opt-out leaves the name open.
         return [dataclasses.replace(own, rtype=CNAME_TYPE)]
     if it.reply.number == DNAME:
         return [dataclasses.replace(own, name=first, rtype=DNAME_TYPE)]
