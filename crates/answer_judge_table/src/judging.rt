@@ -96,13 +96,25 @@ fn wanted_unhashed<N: Ledger>(
     requires some { 0 < N.parts }
     ensures { IfOk result (λ v. AreWanted table.now case.now v.items) }
 {
-    let hashed = Steps::<N>::new(blank);
-    let (first, second) = (Blank::new(1), Blank::new(1));
-    let lacking = wanted_by_table::<Brand, Brand, Brand, N>(
-        alloc, case, table, hashed, first, second,
-    )?;
+    let lacking = asks_counted(alloc, case, table, Steps::<N>::new(blank))?;
     let Lacking { asks, .. } = lacking;
     Ok(asks)
+}
+
+/// Says which signatures a judgement wants, as [`asks_by_table`] does, and goes on with a count of
+/// the names that are hashed. It stays as it was: to find out what is wanted no name is hashed
+/// (CVE-2023-50868).
+pub fn asks_counted<N: Ledger>(
+    alloc: Global,
+    case: &Case,
+    table: &[CheckedSignature],
+    hashed: Steps<N>,
+) -> Result<Lacking<N>, AllocError>
+    ensures asks { IfOk result (λ v. AreWanted table.now case.now v.asks.items) }
+    ensures unhashed { IfOk result (λ v. v.hashed ≡ hashed) }
+{
+    let (first, second) = (Blank::new(1), Blank::new(1));
+    wanted_by_table::<Brand, Brand, Brand, N>(alloc, case, table, hashed, first, second)
 }
 
 /// What comes of a judgement by a table. Its calls are counted from 0 on.

@@ -11,6 +11,7 @@ mod table_checks;
 
 pub use crate::checked::{CheckedSignature, entry_of};
 pub use crate::digests::digest;
-pub use crate::judging::{asks_by_table, judge_by_table, judge_counted};
+pub use crate::judging::{asks_by_table, asks_counted, judge_by_table, judge_counted};
 pub use crate::outcome::{Ask, Counted, Outcome};
+pub use crate::table_checks::Lacking;
 pub use answer_judge::{Case, DataList, Judgement, Lasting, Refusal, Refused, Verdict};

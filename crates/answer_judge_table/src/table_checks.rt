@@ -129,11 +129,13 @@ impl<'t, 's, T: GhostTable, L: Ledger, M: Ledger, N: Ledger> TableChecks<'t, 's,
     }
 }
 
-/// What a table lacked, and how many names have been hashed.
+/// The signatures that a table lacks, and how many names have been hashed.
 #[derive(Drop)]
-pub(crate) struct Lacking<N: Ledger> {
-    pub(crate) asks: Vec<Ask>,
-    pub(crate) hashed: Steps<N>,
+pub struct Lacking<N: Ledger> {
+    /// The signatures that are to be checked.
+    pub asks: Vec<Ask>,
+    /// The count of the names that were hashed.
+    pub hashed: Steps<N>,
 }
 
 impl<'t, 's, T: GhostTable, L: Ledger, M: Ledger, N: Ledger> Checks

@@ -1,5 +1,5 @@
 use Rattle.std.proofs.Common.{false}
-use Rattle.answer_judge_table.proofs.judging.wanted_unhashed.Given as goal
+use Rattle.answer_judge_table.proofs.judging.asks_counted.Given as goal
 
 abbrev pub ghosts-wanted_by_table-T-GhostTable : goal.ghosts-wanted_by_table-T-GhostTable
 ghosts-wanted_by_table-T-GhostTable g a = record { table = a.table.now; before = a.hashed; may_hash = false }
