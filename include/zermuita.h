@@ -287,7 +287,8 @@ static inline enum zermuita_reply zermuita_judge(const struct zermuita_case *han
  *   ZERMUITA_INSECURE                        the name of the delegation below which nothing is signed
  *   ZERMUITA_OPTOUT                          the name of the zone whose opt-out leaves the name open: insecure
  *   refusals up to 27, ZERMUITA_NOTHING_TOLD the zone, the name and the type of the answer that is refused, or that tells nothing, in
- *                                            the form of a message that is wanted; with ZERMUITA_OUT_OF_MEMORY nothing
+ *                                            the form of a message that is wanted; with ZERMUITA_OUT_OF_MEMORY nothing. With 17 and
+ *                                            19 to 21 the zone's DNSKEY answer is refused, by which that answer is judged
  *   others                                   nothing
  *
  * With each reply that says something of the name, the names that aliases led through stand in front of that (zermuita_take_aliases):

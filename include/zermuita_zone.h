@@ -55,9 +55,10 @@ struct zermuita_zone_report {
 /*
  * Opens a zone that is closed, from its journal: lines as docs/use/SESSIONS.md has them, those of the zone, its records, calls on
  * keys and replacements. ZERMUITA_ZONE_DONE, or ZERMUITA_ZONE_REFUSED at the report's line with what the bench prints in `out`; then
- * the zone stays closed. Octets behind `whole` are a line that is not finished, and were not applied. Between `settled` and `whole`
- * stand records whose replacement is missing: cut the journal at `settled`, and open it again, if no other line was written between
- * them. A call on keys that stands there was accepted, and a cut would lose it: then take the `rr` lines alone out.
+ * the zone stays closed; either comes whether there is room in `out` or not. Octets behind `whole` are a line that is not finished,
+ * and were not applied: cut the journal there before a line is written behind it. Between `settled` and `whole` stand records whose
+ * replacement is missing: cut the journal at `settled`, and open it again, if no other line was written between them. A call on keys
+ * that stands there was accepted, and a cut would lose it: then take the `rr` lines alone out.
  */
 uint32_t zermuita_zone_open(struct zermuita_zone *zone, const uint8_t *journal, size_t journal_len, uint8_t *out, size_t out_len,
                             struct zermuita_zone_report *report);
@@ -65,15 +66,18 @@ uint32_t zermuita_zone_open(struct zermuita_zone *zone, const uint8_t *journal, 
 /*
  * Applies a line, without its line feed: a call on keys, a record for the next replacement, or a replacement. `out` gets what the
  * bench prints of it. ZERMUITA_ZONE_DONE and ZERMUITA_ZONE_UNTOLD: it is accepted, whether there is room in `out` or not, and belongs
- * behind the journal, with a line feed. Any other reply: nothing has changed.
+ * behind the journal, with a line feed. Any other reply: nothing has changed, so where a replacement is refused its records still wait.
  */
 uint32_t zermuita_zone_apply(struct zermuita_zone *zone, const uint8_t *line, size_t line_len, uint8_t *out, size_t out_len,
                              struct zermuita_zone_report *report);
 
-/* Drops the records that wait for their replacement, as though their lines had not been applied. */
+/*
+ * Drops the records that wait for their replacement, as though their lines had not been applied. Where these lines are in the journal
+ * already, cut them off.
+ */
 uint32_t zermuita_zone_forget(struct zermuita_zone *zone);
 
-/* Closes a zone, and frees all that it holds. One that is closed stays so. */
+/* Closes a zone, and frees all that it holds. One that is closed stays so. Always ZERMUITA_ZONE_DONE. */
 uint32_t zermuita_zone_close(struct zermuita_zone *zone);
 
 /* The rolls, in the order of docs/use/ROLLS.md. */
@@ -109,8 +113,8 @@ struct zermuita_due {
 uint32_t zermuita_zone_due(struct zermuita_zone *zone, uint32_t roll, uint8_t *out, size_t out_len, struct zermuita_due *due);
 
 /*
- * Tells a set by its type: 43, the DS set that the parent is to have; 59 and 60, the CDS and CDNSKEY sets that ask it for that.
- * `out` gets the data of its records (zermuita_next_record).
+ * Tells a set by its type: 43, the DS set that the parent is to have; 59 and 60, the CDS and CDNSKEY sets that ask it for that; any
+ * other is ZERMUITA_ZONE_BAD_CALL. `out` gets the data of its records (zermuita_next_record).
  */
 uint32_t zermuita_zone_records(struct zermuita_zone *zone, uint16_t rtype, uint8_t *out, size_t out_len,
                                struct zermuita_zone_report *report);
@@ -130,7 +134,9 @@ struct zermuita_request {
 /*
  * Answers a request: ZERMUITA_ZONE_RESPONSE, with the octets to send in `out`; ZERMUITA_ZONE_NO_RESPONSE to what is a reply itself or
  * too short for a header; or ZERMUITA_ZONE_SIGN, with entries of signatures in `out` that the answer lacks, all of them at once. Make
- * each (zermuita_next_sign), put the octets of `out` at the end of `made`, and call again at the same moment.
+ * each (zermuita_next_sign), put the octets of `out` at the end of `made`, and call again at the same moment. Where one cannot be made,
+ * or the reply is one that a larger `out` does not change, the caller writes an answer of SERVFAIL itself. The zone is as it was, but
+ * the moment may count as answered.
  */
 uint32_t zermuita_zone_respond_to(struct zermuita_zone *zone, const struct zermuita_request *request, uint8_t *out, size_t out_len,
                                   struct zermuita_zone_report *report);
