@@ -11,7 +11,7 @@
 #include <stdio.h>
 #include <time.h>
 
-enum { DS_TYPE = 43, DNSKEY_TYPE = 48, ROOM = 65536, SLOTS = 256, QUESTIONS = 128, ALIASES = 16 };
+enum { DS_TYPE = 43, DNSKEY_TYPE = 48, ROOM = 65536, SLOTS = 512, QUESTIONS = 128, ALIASES = 16 };
 
 /* A zone, the DS set that vouches for its keys, and a server. */
 struct zone {
@@ -29,7 +29,7 @@ static struct kept {
     time_t end;
 } cache[SLOTS];
 
-/* How many answers were judged, each in the next slot; for one question of a client fewer than there are slots. */
+/* How many answers were judged, each in the next slot. A slot that one question of a client may come to is not read for it. */
 static size_t judged;
 
 /* What a zone says of a question: what is kept, or of a new answer. The library is called until it asks for nothing more. */
@@ -37,8 +37,8 @@ static const struct kept *said(const struct zone *zone, struct zermuita_octets n
     static uint8_t dnskey[MESSAGE_ROOM], answer[MESSAGE_ROOM], checked[ROOM];
     time_t now = time(NULL);
     for (struct kept *it = cache; it < cache + SLOTS; it++) {
-        if (now < it->end && it->rtype == rtype && memcmp(it->name, name.data, name.len) == 0
-            && memcmp(it->apex, zone->apex.data, zone->apex.len) == 0) {
+        if (((size_t)(it - cache) - judged) % SLOTS >= QUESTIONS + ALIASES && now < it->end && it->rtype == rtype
+            && memcmp(it->name, name.data, name.len) == 0 && memcmp(it->apex, zone->apex.data, zone->apex.len) == 0) {
             return it;
         }
     }
