@@ -43,11 +43,21 @@ static bool read_answered(int fd, uint64_t *moment) {
     return is_read;
 }
 
-/* Notes a moment. */
-static bool note_answered(int fd, uint64_t moment) {
+static bool write_answered(int fd, uint64_t moment) {
     char text[ANSWERED_LEN + 1];
     snprintf(text, sizeof text, "%020" PRIu64 "\n", moment);
-    return pwrite(fd, text, ANSWERED_LEN, 0) == ANSWERED_LEN && fdatasync(fd) == 0;
+    return pwrite(fd, text, ANSWERED_LEN, 0) == ANSWERED_LEN;
+}
+
+/* Notes a moment. Where it does not get to the disk, the file has the one before again: what other servers read there is noted. */
+static bool note_answered(int fd, uint64_t moment, uint64_t before) {
+    if (write_answered(fd, moment) && fdatasync(fd) == 0) {
+        return true;
+    }
+    int why = errno;
+    write_answered(fd, before);
+    errno = why;
+    return false;
 }
 
 /* Locks a place: F_RDLCK shares it, F_WRLCK has it alone, F_UNLCK gives it up. */

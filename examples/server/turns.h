@@ -81,7 +81,7 @@ static bool read_note(struct served *served) {
 static bool write_note(struct served *served, uint64_t moment) {
     int fd = served->answered_fd;
     bool is_locked = !served->is_shared || (lock_place(fd, NOTES, F_WRLCK, true) && read_answered(fd, &served->answered));
-    bool is_noted = is_locked && (moment <= served->answered || note_answered(fd, moment));
+    bool is_noted = is_locked && (moment <= served->answered || note_answered(fd, moment, served->answered));
     int why = errno;
     if (is_noted && moment > served->answered) {
         served->answered = moment;
