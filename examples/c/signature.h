@@ -13,9 +13,9 @@
 /* The algorithms of the signatures that are checked here. */
 static const uint8_t signature_algorithms[] = {8, 10, 13, 14, 15, 16};
 
-/* A key of an OpenSSL type and parameters, which are freed. */
-static EVP_PKEY *key_of(const char *type, OSSL_PARAM_BLD *build) {
-    OSSL_PARAM *params = OSSL_PARAM_BLD_to_param(build);
+/* A key of an OpenSSL type and parameters, which are freed; none where they are not whole. */
+static EVP_PKEY *key_of(const char *type, OSSL_PARAM_BLD *build, bool is_whole) {
+    OSSL_PARAM *params = is_whole ? OSSL_PARAM_BLD_to_param(build) : NULL;
     EVP_PKEY_CTX *context = EVP_PKEY_CTX_new_from_name(NULL, type, NULL);
     EVP_PKEY *key = NULL;
     if (params != NULL && context != NULL && EVP_PKEY_fromdata_init(context) > 0) {
@@ -37,9 +37,9 @@ static EVP_PKEY *ecdsa_key(const char *curve, size_t width, struct zermuita_octe
     }
     memcpy(point + 1, key.data, key.len);
     OSSL_PARAM_BLD *build = OSSL_PARAM_BLD_new();
-    OSSL_PARAM_BLD_push_utf8_string(build, OSSL_PKEY_PARAM_GROUP_NAME, curve, 0);
-    OSSL_PARAM_BLD_push_octet_string(build, OSSL_PKEY_PARAM_PUB_KEY, point, 1 + key.len);
-    return key_of("EC", build);
+    bool is_whole = build != NULL && OSSL_PARAM_BLD_push_utf8_string(build, OSSL_PKEY_PARAM_GROUP_NAME, curve, 0) == 1
+        && OSSL_PARAM_BLD_push_octet_string(build, OSSL_PKEY_PARAM_PUB_KEY, point, 1 + key.len) == 1;
+    return key_of("EC", build, is_whole);
 }
 
 /* An exponent behind its length in one octet, or in three, and the modulus (RFC 3110, 2). */
@@ -55,9 +55,10 @@ static EVP_PKEY *rsa_key(struct zermuita_octets key) {
     BIGNUM *exponent = BN_bin2bn(key.data + head, (int)len, NULL);
     BIGNUM *modulus = BN_bin2bn(key.data + head + len, (int)(key.len - head - len), NULL);
     OSSL_PARAM_BLD *build = OSSL_PARAM_BLD_new();
-    OSSL_PARAM_BLD_push_BN(build, OSSL_PKEY_PARAM_RSA_N, modulus);
-    OSSL_PARAM_BLD_push_BN(build, OSSL_PKEY_PARAM_RSA_E, exponent);
-    EVP_PKEY *made = key_of("RSA", build);
+    bool is_whole = build != NULL && exponent != NULL && modulus != NULL
+        && OSSL_PARAM_BLD_push_BN(build, OSSL_PKEY_PARAM_RSA_N, modulus) == 1
+        && OSSL_PARAM_BLD_push_BN(build, OSSL_PKEY_PARAM_RSA_E, exponent) == 1;
+    EVP_PKEY *made = key_of("RSA", build, is_whole);
     BN_free(exponent);
     BN_free(modulus);
     return made;
@@ -79,8 +80,14 @@ static bool ecdsa_verifies(const char *curve, size_t width, const EVP_MD *digest
         return false;
     }
     const uint8_t *numbers = ask->signature.data;
+    BIGNUM *first = BN_bin2bn(numbers, (int)width, NULL), *second = BN_bin2bn(numbers + width, (int)width, NULL);
     ECDSA_SIG *pair = ECDSA_SIG_new();
-    ECDSA_SIG_set0(pair, BN_bin2bn(numbers, (int)width, NULL), BN_bin2bn(numbers + width, (int)width, NULL));
+    if (pair == NULL || ECDSA_SIG_set0(pair, first, second) != 1) {
+        BN_free(first);
+        BN_free(second);
+        ECDSA_SIG_free(pair);
+        return false;
+    }
     uint8_t *der = NULL;
     int len = i2d_ECDSA_SIG(pair, &der);
     struct zermuita_octets written = {der, len < 0 ? 0 : (size_t)len};
