@@ -142,7 +142,7 @@ void print_octet(FILE *file, uint8_t octet, const char *escaped) {
 }
 
 size_t print_name(FILE *file, struct zermuita_octets octets, size_t at) {
-    size_t taken = 0, start = at;
+    size_t taken = 0, start = at, whole = 1; /* a name has 255 octets at most, in whole */
     for (int labels = 0; at < octets.len && labels < 256; labels++) {
         uint8_t len = octets.data[at];
         if (len >= 0xc0 && at + 1 < octets.len) {
@@ -151,7 +151,7 @@ size_t print_name(FILE *file, struct zermuita_octets octets, size_t at) {
         } else if (len == 0) {
             fputs(labels == 0 ? "." : "", file);
             return taken == 0 ? at + 1 - start : taken;
-        } else if (len < 64 && octets.len - at > len) {
+        } else if (len < 64 && octets.len - at > len && (whole += 1 + (size_t)len) <= 255) {
             for (size_t i = at + 1; i <= at + len; i++) {
                 print_octet(file, octets.data[i], ".\\\"();@$");
             }
