@@ -42,8 +42,9 @@ pub record IsAnchored (e : Given) (zones : List SignedZone) (anchor s : SignedZo
   pub by : ((s ≡ anchor) × (ds ≡ e.ds)) ⊎ HandsOut e.algorithms zones s.apex ds
 
 -- Evidence of a tree: its zones are in order and don't change; each that is delegated with DS of a known kind is there; the anchor
--- is one of them; and zone by zone, beside the zone's own DS set, nothing is forged in the messages of the zone.
-pub record IsOfTree (e : Given) (zones : List SignedZone) (anchor : SignedZone) : Type 0 where
+-- is one of them; and zone by zone, beside the zone's own DS set, nothing is forged in the messages of the zone, for whichever
+-- questions of a class they are judged.
+pub record IsOfTree (e : Given) (class : ℕ) (zones : List SignedZone) (anchor : SignedZone) : Type 0 where
   pub in_order : (s : SignedZone) → Contains zones s → IsOrderlyZone (zone_of s)
   pub whole : (s : SignedZone) (q c : Name) → Contains zones s → cut (zone_of s).zone q ≡ Some c → is_bound (knows e.algorithms) (zone_of s).zone c ≡ true
       → (below : SignedZone) × Contains zones below × (below.apex ≡ c) × (zone_at (tree_of zones) c ≡ Some (zone_of below))
@@ -51,11 +52,12 @@ pub record IsOfTree (e : Given) (zones : List SignedZone) (anchor : SignedZone) 
   pub anchor_is : anchor.apex ≡ e.anchor
   pub passes : Tried → Bool
   pub true_are : AreTrue (passes_in e.table) passes
-  pub honest : (s : SignedZone) (ds : List Ds) (asked : Asked) (h : JudgeInput) → IsAnchored e zones anchor s ds → IsOf e s.apex ds asked h → AreHonestBeside (answers_with passes) pointer_limit h (s.version ∷ [])
+  pub honest : (s : SignedZone) (ds : List Ds) (asked : Asked) (h : JudgeInput) → asked.class ≡ class → IsAnchored e zones anchor s ds → IsOf e s.apex ds asked h
+      → AreHonestBeside (answers_with passes) pointer_limit h (s.version ∷ [])
 
 -- What evidence of a tree tells, through aliases, is what the tree says, through the aliases that the tree has, however long it lasts.
 abbrev pub EvidenceTellsTruly : Type 0
 EvidenceTellsTruly =
     (e : Given) (zones : List SignedZone) (anchor : SignedZone) (asked : Asked) (said : Said) (ns : List Name) (lasting : Option Lasting)
-    → IsOfTree e zones anchor → Follows e said asked ns lasting
+    → IsOfTree e asked.class zones anchor → Follows e said asked ns lasting
     → Resolves (knows e.algorithms) (tree_of zones) (zone_of anchor) asked.rtype said asked.name ns

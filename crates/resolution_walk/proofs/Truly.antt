@@ -23,33 +23,33 @@ use Rattle.resolution_walk.specs.declared.ending.Walk.{Walk}
 use Rattle.resolution_walk.specs.declared.walk.Limits.{Limits}
 
 says_so : (e : Given) (asked : Asked) (w : Walk) → IsWalked e asked [] w
-    → IfSome (said_of w.ending) (λ said. (zones : List SignedZone) (anchor : SignedZone) → IsOfTree e zones anchor → Resolves (knows e.algorithms) (tree_of zones) (zone_of anchor) asked.rtype said asked.name w.through.items)
+    → IfSome (said_of w.ending) (λ said. (zones : List SignedZone) (anchor : SignedZone) → IsOfTree e asked.class zones anchor → Resolves (knows e.algorithms) (tree_of zones) (zone_of anchor) asked.rtype said asked.name w.through.items)
 says_so e asked w is = go (said_of w.ending) is
   where
     go : (o : Option Said) → IfSome o (IsFollowed e asked [] w.through.items w.lasting)
-        → IfSome o (λ said. (zones : List SignedZone) (anchor : SignedZone) → IsOfTree e zones anchor → Resolves (knows e.algorithms) (tree_of zones) (zone_of anchor) asked.rtype said asked.name w.through.items)
+        → IfSome o (λ said. (zones : List SignedZone) (anchor : SignedZone) → IsOfTree e asked.class zones anchor → Resolves (knows e.algorithms) (tree_of zones) (zone_of anchor) asked.rtype said asked.name w.through.items)
     go None is = tt
-    go (Some said) is = λ zones anchor of. subst (Resolves (knows e.algorithms) (tree_of zones) (zone_of anchor) asked.rtype said asked.name) (sym is.through_are) (follows_so e zones anchor of said asked is.names w.lasting is.follows)
+    go (Some said) is = λ zones anchor of. subst (Resolves (knows e.algorithms) (tree_of zones) (zone_of anchor) asked.rtype said asked.name) (sym is.through_are) (follows_so e asked.class zones anchor of said asked refl is.names w.lasting is.follows)
 
 -- ---- DS data of a delegation that is not signed
 
-module _ (e : Given) (zones : List SignedZone) (anchor : SignedZone) (of : IsOfTree e zones anchor) where
+module _ (e : Given) (class : ℕ) (zones : List SignedZone) (anchor : SignedZone) (of : IsOfTree e class zones anchor) where
   abbrev HasDs : Asked → SignedZone → Ending → Type 0
   HasDs asked s ending = HasDsTruly e.algorithms (tree_of zones) (zone_of s) asked.name asked.rtype ending
 
-  heard_ds : (asked sought : Asked) (s : SignedZone) (ds : List Ds) (c : Name) (datas : List (List ℕ)) → IsAnchored e zones anchor s ds → IsHeard e asked s.apex ds sought (TellsUnsigned c datas)
+  heard_ds : (asked sought : Asked) → asked.class ≡ class → (s : SignedZone) (ds : List Ds) (c : Name) (datas : List (List ℕ)) → IsAnchored e zones anchor s ds → IsHeard e asked s.apex ds sought (TellsUnsigned c datas)
       → AreOfCut e.algorithms (tree_of zones) (zone_of s) asked.name asked.rtype c datas
-  heard_ds asked sought s ds c datas a (OfAnswer l n same step) =
-      let so = own_so e zones anchor of asked s ds (TellsUnsigned c datas) l n a step in
+  heard_ds asked sought in_class s ds c datas a (OfAnswer l n same step) =
+      let so = own_so e class zones anchor of asked in_class s ds (TellsUnsigned c datas) l n a step in
       record { zone = zone_of s; leads = There; refers = so.0; unbound = so.1 }
-  heard_ds asked sought s ds c datas a (OfName l n between step cut) =
+  heard_ds asked sought in_class s ds c datas a (OfName l n between step cut) =
       let told = subst (λ (q : Asked). IsNameStep e s.apex ds q (TellsUnsigned c datas) l n) between.is step in
-      let so = named_so e zones anchor of asked between.name s ds (TellsUnsigned c datas) l n between.reached.lies.0 between.reached.lies.1 between.other a told in
+      let so = named_so e class zones anchor of asked in_class between.name s ds (TellsUnsigned c datas) l n between.reached.lies.0 between.reached.lies.1 between.other a told in
       record { zone = zone_of s; leads = There; refers = so.0; unbound = so.1 }
 
-  ends_ds : (asked : Asked) (s : SignedZone) (ds : List Ds) (ending : Ending) → IsAnchored e zones anchor s ds → EndsAt e asked s.apex ds ending → HasDs asked s ending
-  ends_ds asked s ds (ends.Unsigned c datas) a k = heard_ds asked k.1.sought s ds c datas a k.1.heard
-  ends_ds asked s ds _ a k = tt
+  ends_ds : (asked : Asked) → asked.class ≡ class → (s : SignedZone) (ds : List Ds) (ending : Ending) → IsAnchored e zones anchor s ds → EndsAt e asked s.apex ds ending → HasDs asked s ending
+  ends_ds asked in_class s ds (ends.Unsigned c datas) a k = heard_ds asked k.1.sought in_class s ds c datas a k.1.heard
+  ends_ds asked in_class s ds _ a k = tt
 
   -- those that a zone below has are reached from the zone above too
   above_ds : (asked : Asked) (s child : SignedZone) (c : Name) (ending : Ending) → refers_to (zone_of s).zone asked.name asked.rtype ≡ Some c → is_bound (knows e.algorithms) (zone_of s).zone c ≡ true
@@ -57,21 +57,21 @@ module _ (e : Given) (zones : List SignedZone) (anchor : SignedZone) (of : IsOfT
   above_ds asked s child c (ends.Unsigned cut datas) refers bound found k = record { zone = k.zone; leads = Further refers bound found k.leads; refers = k.refers; unbound = k.unbound }
   above_ds asked s child c _ refers bound found k = tt
 
-  stops_ds : (asked : Asked) (ending : Ending) (cuts : ℕ) (zone : Name) (ds : List Ds) (before after : Counts) (s : SignedZone) → s.apex ≡ zone → IsAnchored e zones anchor s ds
+  stops_ds : (asked : Asked) → asked.class ≡ class → (ending : Ending) (cuts : ℕ) (zone : Name) (ds : List Ds) (before after : Counts) (s : SignedZone) → s.apex ≡ zone → IsAnchored e zones anchor s ds
       → Stops e asked ending cuts zone ds before after → HasDs asked s ending
-  stops_ds asked ending cuts zone ds before after s at a (Here judged stops) = ends_ds asked s ds ending a (subst (λ (n : Name). EndsAt e asked n ds ending) (sym at) stops)
-  stops_ds asked ending cuts zone ds before after s at a (Below {cuts = less} {c = c} {below = below} {between = between} lasting judged way more) =
-      let d : IsDown e zones anchor asked s c below = down_so e zones anchor of asked zone c ds below lasting s at a way in
-      above_ds asked s d.child c ending d.refers d.bound d.found (stops_ds asked ending less c below between after d.child d.child_is d.anchored more)
-  stops_ds asked ending cuts zone ds before after s at a (TooDeep lasting judged way same) = subst (HasDs asked s) (sym same) tt
+  stops_ds asked in_class ending cuts zone ds before after s at a (Here judged stops) = ends_ds asked in_class s ds ending a (subst (λ (n : Name). EndsAt e asked n ds ending) (sym at) stops)
+  stops_ds asked in_class ending cuts zone ds before after s at a (Below {cuts = less} {c = c} {below = below} {between = between} lasting judged way more) =
+      let d : IsDown e zones anchor asked s c below = down_so e class zones anchor of asked in_class zone c ds below lasting s at a way in
+      above_ds asked s d.child c ending d.refers d.bound d.found (stops_ds asked in_class ending less c below between after d.child d.child_is d.anchored more)
+  stops_ds asked in_class ending cuts zone ds before after s at a (TooDeep lasting judged way same) = subst (HasDs asked s) (sym same) tt
 
   -- through aliases
-  behind_ds : (cuts : ℕ) (ending : Ending) (aliases : ℕ) (asked : Asked) (ns : List Name) (before after : Counts) → StopsBehind e cuts ending aliases asked ns before after
+  behind_ds : (cuts : ℕ) (ending : Ending) (aliases : ℕ) (asked : Asked) → asked.class ≡ class → (ns : List Name) (before after : Counts) → StopsBehind e cuts ending aliases asked ns before after
       → HasDsTruly e.algorithms (tree_of zones) (zone_of anchor) (last_of asked.name ns) asked.rtype ending
-  behind_ds cuts ending aliases asked ns before after (AtOnce w stops) = stops_ds asked ending cuts e.anchor e.ds before after anchor of.anchor_is (record { there = of.anchor_there; by = inl (refl, refl) }) stops
-  behind_ds cuts ending aliases asked ns before after (Elsewhere w same is) = subst (HasDs asked anchor) (sym same) tt
-  behind_ds cuts ending aliases asked ns before after (TooMany t led same is) = subst (HasDs asked anchor) (sym same) tt
-  behind_ds cuts ending aliases asked ns before after (Led {aliases = less} {ns = more} t led stops) = behind_ds cuts ending less (renamed asked t.name) more t.counts after stops
+  behind_ds cuts ending aliases asked in_class ns before after (AtOnce w stops) = stops_ds asked in_class ending cuts e.anchor e.ds before after anchor of.anchor_is (record { there = of.anchor_there; by = inl (refl, refl) }) stops
+  behind_ds cuts ending aliases asked in_class ns before after (Elsewhere w same is) = subst (HasDs asked anchor) (sym same) tt
+  behind_ds cuts ending aliases asked in_class ns before after (TooMany t led same is) = subst (HasDs asked anchor) (sym same) tt
+  behind_ds cuts ending aliases asked in_class ns before after (Led {aliases = less} {ns = more} t led stops) = behind_ds cuts ending less (renamed asked t.name) in_class more t.counts after stops
 
   -- a limit of messages is none of a delegation
   within_ds : (asked : Asked) (s : SignedZone) (most : ℕ) (ending : Ending) → HasDs asked s ending → HasDs asked s (ending_within most e ending)
@@ -88,7 +88,7 @@ walked_so e asked limits w is stops = record {
   ds = λ zones anchor of.
       let more : List Name = stops.stops.more in
       let last : Asked = renamed asked (last_of asked.name more) in
-      let by_end : HasDs e zones anchor of last anchor stops.ending = behind_ds e zones anchor of limits.cuts stops.ending limits.aliases asked more no_counts w.counts stops.stops.stops in
-      let by_limit : HasDs e zones anchor of last anchor w.ending = subst (HasDs e zones anchor of last anchor) (sym stops.is) (within_ds e zones anchor of last anchor limits.messages stops.ending by_end) in
+      let by_end : HasDs e asked.class zones anchor of last anchor stops.ending = behind_ds e asked.class zones anchor of limits.cuts stops.ending limits.aliases asked refl more no_counts w.counts stops.stops.stops in
+      let by_limit : HasDs e asked.class zones anchor of last anchor w.ending = subst (HasDs e asked.class zones anchor of last anchor) (sym stops.is) (within_ds e asked.class zones anchor of last anchor limits.messages stops.ending by_end) in
       subst (λ (ns : List Name). HasDsTruly e.algorithms (tree_of zones) (zone_of anchor) (last_of asked.name ns) asked.rtype w.ending) (sym stops.stops.through_are) by_limit;
 }

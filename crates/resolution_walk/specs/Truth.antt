@@ -35,7 +35,7 @@ last_of q (n ∷ ns) = last_of n ns
 -- Of evidence of a tree nothing is said but what the tree says, through the aliases that the tree has; and of a delegation that is not
 -- signed, of the name at the end of these, the DS data are those of the tree.
 pub record WalksTruly (e : Given) (asked : Asked) (w : Walk) : Type 0 where
-  pub says : IfSome (said_of w.ending) (λ said. (zones : List SignedZone) (anchor : SignedZone) → IsOfTree e zones anchor
+  pub says : IfSome (said_of w.ending) (λ said. (zones : List SignedZone) (anchor : SignedZone) → IsOfTree e asked.class zones anchor
       → Resolves (knows e.algorithms) (tree_of zones) (zone_of anchor) asked.rtype said asked.name w.through.items)
-  pub ds : (zones : List SignedZone) (anchor : SignedZone) → IsOfTree e zones anchor
+  pub ds : (zones : List SignedZone) (anchor : SignedZone) → IsOfTree e asked.class zones anchor
       → HasDsTruly e.algorithms (tree_of zones) (zone_of anchor) (last_of asked.name w.through.items) asked.rtype w.ending
