@@ -22,7 +22,7 @@ use Rattle.server_answers.specs.MadeOf.{IsMadeOf, ReadsWhole}
 use Rattle.server_answers.specs.Moments.{IsOrWasNoted}
 use Rattle.server_answers.specs.Responding.{AnswersHeld, IsMessage, Serving, is_for_keys}
 use Rattle.server_answers.specs.Subset.{AnswersSubset, asks_all}
-use Rattle.server_answers.specs.Unheld.{AnswersUnheld, IsMadeUnheld, IsRefusal, has_answers, is_unheld, reserved}
+use Rattle.server_answers.specs.Unheld.{AnswersUnheld, IsMadeUnheld, IsRefusal, is_unheld, keeps_back, reserved}
 use Rattle.server_answers.specs.declared.requests.Response.{Response}
 use Rattle.server_answers.specs.declared.requests.Response.TheVariants as response
 
@@ -89,18 +89,18 @@ is_answered s q old new (Err f) (response.Sign v) h k = absurd k
 -- ---- of a type that the zone does not hold
 
 module _ (s : Serving) (q : Queried) (old new : Option ℕ) where
-  -- of a message, by whether it has records of the reserved type
-  denied : (m : Vec ℕ Global) (r : Response) → IsMessage s (reserved q.asked) false (is_dnssec_ok q) m.items → new ≡ noted old s.at → (b : Bool) → has_answers m.items ≡ b
+  -- of a message, by whether it is not the answer
+  denied : (m : Vec ℕ Global) (r : Response) → IsMessage s (reserved q.asked) false (is_dnssec_ok q) m.items → new ≡ noted old s.at → (b : Bool) → keeps_back q m.items ≡ b
       → MatchBool b (IsRefusal s.size q r) (IsMadeOf s.limit s.size q s.addresses (Ok (signed.Message m)) r) → AnswersUnheld s q old new r
-  denied m (response.Reply v) is was true e k = inr (inl (record { m = m.items; is_message = is; held_is = e; noted_is = was }, k))
-  denied m (response.Reply v) is was false e k = inl (record { m = m.items; is_message = is; held_is = e; noted_is = was }, k)
+  denied m (response.Reply v) is was true e k = inr (inl (record { m = m.items; is_message = is; kept_back_is = e; noted_is = was }, k))
+  denied m (response.Reply v) is was false e k = inl (record { m = m.items; is_message = is; kept_back_is = e; noted_is = was }, k)
   denied m response.Nothing is was true e k = absurd k
   denied m response.Nothing is was false e k = absurd k
   denied m (response.Sign v) is was true e k = absurd k
   denied m (response.Sign v) is was false e k = absurd k
 
   pub unheld_answered : (made : Result Signed AnswerFault) (r : Response) → Makes s (reserved q.asked) false (is_dnssec_ok q) old new made → IsMadeUnheld s.limit s.size q s.addresses made r → AnswersUnheld s q old new r
-  unheld_answered (Ok (signed.Message m)) r h k = denied m r h.0 h.1 (has_answers m.items) refl k
+  unheld_answered (Ok (signed.Message m)) r h k = denied m r h.0 h.1 (keeps_back q m.items) refl k
   unheld_answered (Ok (signed.Missing inputs)) (response.Sign v) h k =
       let is : v.items ≡ inputs.items = ap (λ x. x.items) k in
       (h.0, is ∙ h.1, subst (λ (l : List Input). 0 < length l) (sym is) h.2, h.3)

@@ -1,4 +1,4 @@
--- What a server answers to questions for types of which no accepted zone holds a record.
+-- What a server answers to questions for types of which no accepted zone holds a record, and for NSEC.
 use Rattle.std.specs.Prelude.{◌≡◌, ◌≢◌, ◌⊎◌, MatchBool, ℕ, ◌<◌, Bool, true, false, not, ◌&&◌, ◌||◌, ◌==◌, List, [], ◌∷◌, length, Option, Result, Ok, Err, nat_lt, slice_index}
 use Rattle.definitions.specs.Name.{Name, same}
 use Rattle.messages.specs.HandedRr.{HandedRr, among}
@@ -7,6 +7,7 @@ use Rattle.answer_publisher.specs.Replacing.{noted}
 use Rattle.answer_publisher.specs.declared.fault.AnswerFault.{AnswerFault}
 use Rattle.answer_publisher.specs.declared.fault.AnswerFault.TheVariants.{Memory}
 use Rattle.server_queries.specs.Queries.{Queried}
+use Rattle.server_responses.specs.Links.{is_link_hidden}
 use Rattle.server_responses.specs.Responses.{error_response, is_dnssec_ok}
 use Rattle.server_signatures.specs.Table.{missing}
 use Rattle.server_signatures.specs.declared.answering.Signed.{Signed}
@@ -17,9 +18,10 @@ use Rattle.server_answers.specs.Responding.{IsFault, IsMessage, Serving, inputs_
 use Rattle.server_answers.specs.declared.requests.Response.{Response}
 use Rattle.server_answers.specs.declared.requests.Response.TheVariants.{Nothing, Reply, Sign}
 
--- CNAME, DNAME and NSEC3; DNSKEY, but for the keys of the zone; NSEC3PARAM, but at the apex
+-- CNAME, DNAME and NSEC3; DNSKEY, but for the keys of the zone; NSEC3PARAM, but at the apex; and NSEC, whose record stands in the message
+-- for a type that the zone does not hold
 abbrev pub is_unheld : Name → Asked → Bool
-is_unheld apex asked = among (5 ∷ 39 ∷ 50 ∷ []) asked.rtype || ((asked.rtype == 48) && not (is_for_keys apex asked)) || ((asked.rtype == 51) && not (same asked.name apex))
+is_unheld apex asked = among (5 ∷ 39 ∷ 47 ∷ 50 ∷ []) asked.rtype || ((asked.rtype == 48) && not (is_for_keys apex asked)) || ((asked.rtype == 51) && not (same asked.name apex))
 
 -- the question for a reserved type in the place of another (RFC 6895, 3.1)
 abbrev pub reserved : Asked → Asked
@@ -29,31 +31,36 @@ reserved a = record { name = a.name; rtype = 65535; class = a.class }
 abbrev pub has_answers : List ℕ → Bool
 has_answers m = nat_lt 0 (slice_index m 6) || nat_lt 0 (slice_index m 7)
 
-abbrev pub is_held : Result Signed AnswerFault → Bool
-is_held (Ok (Message m)) = has_answers m.items
-is_held (Ok (Missing v)) = false
-is_held (Err f) = false
+-- a message that is not the answer: it has records of the reserved type, or denies it where the NSEC record that is asked for is that of a
+-- wildcard, whose types list NSEC
+abbrev pub keeps_back : Queried → List ℕ → Bool
+keeps_back q m = has_answers m || is_link_hidden q m
 
--- REFUSED, where a message has records of the reserved type; otherwise what is said of it
+abbrev pub is_kept_back : Queried → Result Signed AnswerFault → Bool
+is_kept_back q (Ok (Message m)) = keeps_back q m.items
+is_kept_back q (Ok (Missing v)) = false
+is_kept_back q (Err f) = false
+
+-- REFUSED, where a message is not the answer; otherwise what is said of it
 abbrev pub IsRefusal : ℕ → Queried → Response → Type 0
 IsRefusal size q (Reply v) = v.items ≡ error_response size q 5
 IsRefusal size q response = ⊥
 
 abbrev pub IsMadeUnheld : ℕ → ℕ → Queried → List HandedRr → Result Signed AnswerFault → Response → Type 0
-IsMadeUnheld limit size q addresses made response = MatchBool (is_held made) (IsRefusal size q response) (IsMadeOf limit size q addresses made response)
+IsMadeUnheld limit size q addresses made response = MatchBool (is_kept_back q made) (IsRefusal size q response) (IsMadeOf limit size q addresses made response)
 
--- the response of a message for the reserved type, and whether it has records of that type
-pub record IsMadeReserved (s : Serving) (q : Queried) (old new : Option ℕ) (held : Bool) : Type 0 where
+-- a message for the reserved type, and whether it is not the answer
+pub record IsMadeReserved (s : Serving) (q : Queried) (old new : Option ℕ) (kept_back : Bool) : Type 0 where
   pub m : List ℕ
   pub is_message : IsMessage s (reserved q.asked) false (is_dnssec_ok q) m
-  pub held_is : has_answers m ≡ held
+  pub kept_back_is : keeps_back q m ≡ kept_back
   pub noted_is : new ≡ noted old s.at
 
--- the zone's answer for the reserved type, where it has no record of it; a referral with its glue
+-- the response of the zone's answer for the reserved type, with the NSEC record of it where that is asked for; a referral with its glue
 abbrev pub IsDenied : Serving → Queried → Option ℕ → Option ℕ → List ℕ → Type 0
 IsDenied s q old new octets = (r : IsMadeReserved s q old new false) × AnswersGlued s.limit s.size q s.addresses r.m octets
 
--- REFUSED, where it has
+-- REFUSED, where that is not the answer
 abbrev pub IsRefused : Serving → Queried → Option ℕ → Option ℕ → List ℕ → Type 0
 IsRefused s q old new octets = IsMadeReserved s q old new true × (octets ≡ error_response s.size q 5)
 

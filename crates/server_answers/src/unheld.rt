@@ -1,11 +1,11 @@
-//! Questions for types of which no accepted zone holds a record.
+//! Questions for types of which no accepted zone holds a record, and for NSEC.
 ghost use Rattle.std.specs.Prelude.{◌≡◌, IfOk, OnErr, slice_index};
 ghost use Rattle.answer_publisher.specs.World.{world_of};
 ghost use Rattle.messages.specs.Questions.{asked_of};
 ghost use Rattle.server_answers.specs.MadeOf.{ReadsWhole};
 ghost use Rattle.server_answers.specs.Moments.{IsOrWasNoted};
 ghost use Rattle.server_answers.specs.Responding.{serving};
-ghost use Rattle.server_answers.specs.Unheld.{AnswersUnheld, IsMadeUnheld, has_answers, is_held, is_unheld, reserved};
+ghost use Rattle.server_answers.specs.Unheld.{AnswersUnheld, IsMadeUnheld, has_answers, is_kept_back, is_unheld, keeps_back, reserved};
 ghost use Rattle.server_queries.specs.Views.{queried_of};
 
 use crate::message::{is_for_keys, message_for};
@@ -20,7 +20,7 @@ use messages::question::Question;
 use numbers::rtype::Rtype;
 use server_glue::Addresses;
 use server_queries::Query;
-use server_responses::{error_response, is_dnssec_ok};
+use server_responses::{error_response, is_dnssec_ok, is_link_hidden};
 use server_signatures::{MadeSignature, Signed};
 use std::alloc::{AllocError, Global};
 
@@ -28,13 +28,14 @@ use std::alloc::{AllocError, Global};
 pub(crate) const RESERVED: u16 = 65535;
 
 /// Whether a question is for a type of which an accepted zone holds no record at its name: CNAME,
-/// DNAME and NSEC3, DNSKEY but at the apex, and NSEC3PARAM but at the apex. NSEC3 records are
+/// DNAME and NSEC3, DNSKEY but at the apex, and NSEC3PARAM but at the apex; or for NSEC, as what
+/// the zone says of a type that it does not hold has the NSEC record of the name. NSEC3 records are
 /// answered as if they were not there (RFC 5155, 7.2.8).
 pub(crate) fn is_unheld(apex: &Name<Vec<u8>>, question: &Question) -> bool
     ensures { result ≡ is_unheld apex.now (asked_of question.now) }
 {
     match question.rtype.to_int() {
-        5 | 39 | 50 => true,
+        5 | 39 | 47 | 50 => true,
         48 => !is_for_keys(apex, question),
         51 => !question.name.name_eq(apex),
         _ => false,
@@ -42,8 +43,9 @@ pub(crate) fn is_unheld(apex: &Name<Vec<u8>>, question: &Question) -> bool
 }
 
 /// The answer to such a question at a moment: what the zone says of the reserved type at the name,
-/// which proves as much of any type that it holds nowhere. It is REFUSED where the zone has records
-/// of the reserved type itself.
+/// which proves as much of any type that it holds nowhere. A question for NSEC is answered with the
+/// NSEC record that this has of the name. It is REFUSED where the zone has records of the reserved
+/// type itself, and where the NSEC record is that of a wildcard.
 pub(crate) fn answer_unheld<S: Scheme, H: Nsec3Hasher>(
     alloc: Global,
     publisher: &mut Publisher<'_, S, H>,
@@ -82,7 +84,7 @@ fn reserved_question(question: Question) -> Question
 }
 
 /// The response that is made of a message for the reserved type, or what is said where there is
-/// none, or where the zone has records of that type.
+/// none, or where the zone has records of that type or the message is kept back.
 fn unheld_response(
     alloc: Global,
     query: &Query<'_>,
@@ -95,21 +97,38 @@ fn unheld_response(
     ensures { let q = queried_of query.now in
         IfOk result (IsMadeUnheld limit udp_size q addresses.now made) }
 {
-    if is_held(&made) {
+    if is_kept_back(alloc, query, &made)? {
         let octets = error_response(alloc, query, REFUSED, udp_size)?;
         return Ok(Response::Reply(octets));
     }
     response_with(alloc, query, made, addresses, limit, udp_size)
 }
 
-/// Whether a message was made that has records in its answer section.
-fn is_held(made: &Result<Signed, AnswerFault>) -> bool
-    ensures { result ≡ is_held made.now }
+/// Whether a message was made that is not the answer.
+fn is_kept_back(
+    alloc: Global,
+    query: &Query<'_>,
+    made: &Result<Signed, AnswerFault>,
+) -> Result<bool, AllocError>
+    ensures { let q = queried_of query.now in
+        IfOk result (λ b. b ≡ is_kept_back q made.now) }
 {
     match made {
-        Ok(Signed::Message(message)) => has_answers(message),
-        _ => false,
+        Ok(Signed::Message(message)) => keeps_back(alloc, query, message),
+        _ => Ok(false),
     }
+}
+
+/// Whether a message is not the answer: it has records in its answer section, or denies a type that
+/// a wildcard's NSEC record lists.
+fn keeps_back(alloc: Global, query: &Query<'_>, message: &[u8]) -> Result<bool, AllocError>
+    ensures { let q = queried_of query.now in
+        IfOk result (λ b. b ≡ keeps_back q message.now) }
+{
+    if has_answers(message) {
+        return Ok(true);
+    }
+    is_link_hidden(alloc, query, message)
 }
 
 /// Whether a message counts records in its answer section (RFC 1035, 4.1.1).

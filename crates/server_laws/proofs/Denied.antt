@@ -1,12 +1,13 @@
 -- A judge says of a response to a question for a type that no zone holds, or for all types, what it says of the message for the type in its place.
-use Rattle.std.proofs.Common.{◌≡◌, ℕ, ◌≤◌, ◌<◌, Bool, true, false, ◌||◌, List, [], ◌∷◌, ◌++◌, length, map, Ok, eqb, refl, sym, subst, ap, ◌∙◌, ⊎_elim, arith, lit<}
+use Rattle.std.proofs.Common.{◌≡◌, ℕ, ◌≤◌, ◌<◌, Bool, true, false, ◌||◌, List, [], ◌∷◌, ◌++◌, length, map, Result, Ok, Err, eqb, refl, sym, subst, ap, ◌∙◌, ⊎_elim, arith, lit<}
 use Rattle.std.specs.List.{AllByRecursion}
-use Rattle.std.proofs.lemmas.Bool.{eqb-true}
+use Rattle.std.proofs.lemmas.Bool.{eqb-true, false≢true, or_cases}
 use Rattle.definitions.specs.Limits.{pointer_limit}
 use Rattle.messages.specs.HandedRr.{HandedRr, among}
 use Rattle.messages.specs.Message.{Asked, Message, Spelled, message}
+use Rattle.messages.specs.declared.error.MessageError.{MessageError}
 use Rattle.messages.specs.Written.{Written}
-use Rattle.messages.specs.WrittenLaws.{IsQuestion}
+use Rattle.messages.specs.WrittenLaws.{IsQuestion, first_place, spelled_from}
 use Rattle.answer_scheme.specs.Answers.{Answers}
 use Rattle.answer_zone.specs.ZoneAnswers.{flags_for}
 use Rattle.answer_judge_keys.specs.Judging.{JudgeInput, is_judged}
@@ -20,53 +21,54 @@ use Rattle.server_answers.specs.Table.{sign_by, verify_by}
 use Rattle.server_answers.specs.World.{AnswersQuestion}
 use Rattle.server_answers.proofs.Signing.{own_entries}
 use Rattle.server_queries.specs.Queries.{Queried}
+use Rattle.server_responses.specs.Links.{shows_link}
 use Rattle.server_responses.specs.Responses.{AnswersQuery, is_dnssec_ok, response_of}
 use Rattle.server_responses.specs.Sections.{written_as_handed}
-use Rattle.server_laws.specs.Heard.{DenialsJudgedAlike, HoldsAll, IsWhole, SubsetsJudgedAlike, is_truncated}
+use Rattle.server_laws.specs.Heard.{DenialsJudgedAlike, HoldsAll, IsWhole, SubsetsJudgedAlike, has_link_in, is_link_shown, is_truncated}
 use Rattle.server_laws.proofs.Alone.{SignsOther}
 use Rattle.server_laws.proofs.AnyQuestion.{any_alike, any_uncovered}
 use Rattle.server_laws.proofs.Chosen.{chosen_plain}
 use Rattle.server_laws.proofs.Heard.{AreBare, alone, bare, by_table, hold_all, ok_is, opt_unjudged, told, unjudged, unused_all}
-use Rattle.server_laws.proofs.Shown.{IsAlone, IsUnused, in_message, message_read, none_covers, shown_message, spelled_all, whole, whole_reads, whole_used, whole_where_clear}
+use Rattle.server_laws.proofs.Shown.{IsAlone, IsUnused, alone_read, in_message, message_read, none_covers, shown_message, spelled_all, unasked, whole, whole_reads, whole_used, whole_where_clear}
 
-module _ (flags : ℕ) (asked : Asked) (first second : List Written) (m : List ℕ) (limit size : ℕ) (q : Queried) (is_alone : IsAlone flags asked first second m) (small : size < 65536) (fits : limit ≤ 65535) (is : IsQuestion q.asked) (wanted : is_dnssec_ok q ≡ true) (gs : List HandedRr) (each : AllByRecursion IsAddress gs) (are_bare : AreBare gs (first ++ second)) where
+module _ (flags : ℕ) (asked : Asked) (first second : List Written) (m : List ℕ) (limit size : ℕ) (q : Queried) (is_alone : IsAlone flags asked first second m) (small : size < 65536) (fits : limit ≤ 65535) (is : IsQuestion q.asked) (wanted : is_dnssec_ok q ≡ true) (gs : List HandedRr) (each : AllByRecursion IsAddress gs) (are_bare : AreBare gs (first ++ second)) (silent : shows_link q m (spelled_from (first_place asked) (first ++ second)) ≡ false) where
   abbrev more : List Written
   more = map written_as_handed gs
 
   abbrev the_whole : List ℕ
-  the_whole = whole flags asked first second m is_alone size q small is wanted more (hold_all gs each)
+  the_whole = whole flags asked first second m is_alone size q small is wanted more (hold_all gs each) silent
 
   abbrev the_records : List Spelled
-  the_records = spelled_all flags asked first second m is_alone size q small is wanted more (hold_all gs each)
+  the_records = spelled_all flags asked first second m is_alone size q small is wanted more (hold_all gs each) silent
 
   abbrev the_message : Message
-  the_message = in_message flags asked first second m is_alone size q small is wanted more (hold_all gs each)
+  the_message = in_message flags asked first second m is_alone size q small is wanted more (hold_all gs each) silent
 
   abbrev the_shown : Message
-  the_shown = shown_message flags asked first second m is_alone size q small is wanted more (hold_all gs each)
+  the_shown = shown_message flags asked first second m is_alone size q small is wanted more (hold_all gs each) silent
 
   back : message pointer_limit m ≡ Ok the_message
-  back = message_read flags asked first second m is_alone size q small is wanted more (hold_all gs each)
+  back = message_read flags asked first second m is_alone size q small is wanted more (hold_all gs each) silent
 
   module _ (few : length the_whole ≤ 65535) (a : Answers) (h : JudgeInput) (any : h.other_question ≡ true) where
     abbrev Same : Type 0
     Same = judged a pointer_limit (record h { answer_bytes = the_whole }) ≡ judged a pointer_limit (record h { answer_bytes = m })
 
     reads : message pointer_limit the_whole ≡ Ok the_shown
-    reads = whole_reads flags asked first second m is_alone size q small is wanted more (hold_all gs each) few
+    reads = whole_reads flags asked first second m is_alone size q small is wanted more (hold_all gs each) silent few
 
     -- where the additional section has no record that is used
     spared : AllByRecursion (IsUnused h.asked.rtype) more → eqb 41 h.asked.rtype ≡ false → Same
     spared spare other =
         any_alike a pointer_limit h any the_whole m the_shown the_message reads back
-        (whole_used flags asked first second m is_alone size q small is wanted more (hold_all gs each) h.asked.rtype spare other few)
+        (whole_used flags asked first second m is_alone size q small is wanted more (hold_all gs each) silent h.asked.rtype spare other few)
 
     -- where an address is asked for that no signature covers
     covered : AllByRecursion (SignsOther h.asked.rtype) (first ++ second) → Same
     covered others =
         any_uncovered a pointer_limit h any the_whole m the_shown the_message reads back
-        (whole_used flags asked first second m is_alone size q small is wanted more (hold_all gs each) 46 (unused_all 46 gs refl each) refl few)
-        (none_covers flags asked first second m is_alone size q small is wanted more (hold_all gs each) h.asked.rtype others)
+        (whole_used flags asked first second m is_alone size q small is wanted more (hold_all gs each) silent 46 (unused_all 46 gs refl each) refl few)
+        (none_covers flags asked first second m is_alone size q small is wanted more (hold_all gs each) silent h.asked.rtype others)
 
     of_address : (b : Bool) → (eqb h.asked.rtype 1 || eqb h.asked.rtype 28) ≡ b → eqb 41 h.asked.rtype ≡ false → Same
     of_address false e other = spared (unused_all h.asked.rtype gs e each) other
@@ -89,7 +91,7 @@ module _ (flags : ℕ) (asked : Asked) (first second : List Written) (m : List �
       → (a : Answers) (h : JudgeInput) → h.other_question ≡ true → judged a pointer_limit (record h { answer_bytes = octets }) ≡ judged a pointer_limit (record h { answer_bytes = m })
   response_judged octets clear (read, reads, are) a h any =
       let same : response_of limit size q m read.records more ≡ response_of limit size q m the_records more = ap (λ (x : Message). response_of limit size q m x.records more) (ok_is read _ (message pointer_limit m) reads back) in
-      let found = whole_where_clear flags asked first second m is_alone size q small is wanted more (hold_all gs each) limit (ap is_truncated (sym (are ∙ same)) ∙ clear) in
+      let found = whole_where_clear flags asked first second m is_alone size q small is wanted more (hold_all gs each) silent limit (ap is_truncated (sym (are ∙ same)) ∙ clear) in
       subst (λ (o : List ℕ). judged a pointer_limit (record h { answer_bytes = o }) ≡ judged a pointer_limit (record h { answer_bytes = m })) (sym (are ∙ same ∙ found.0))
       (whole_judged (omega (arith, found.1, fits)) a h any)
 
@@ -111,21 +113,35 @@ module _ (s : Serving) (q : Queried) (octets : List ℕ) (h : HoldsAll s q octet
     whole = h.whole;
   }
 
-  typed_judged : AnswersQuestion (by_table s (typing t q) octets of_type m) s.keys s.at (for_type t q.asked) m → AllByRecursion IsAddress (glue s.addresses m) → AnswersQuery s.limit s.size q m (glue s.addresses m) octets
+  typed_judged : is_link_shown q m ≡ false → AnswersQuestion (by_table s (typing t q) octets of_type m) s.keys s.at (for_type t q.asked) m → AllByRecursion IsAddress (glue s.addresses m) → AnswersQuery s.limit s.size q m (glue s.addresses m) octets
       → (a : Answers) (j : JudgeInput) → j.other_question ≡ true → judged a pointer_limit (record j { answer_bytes = octets }) ≡ judged a pointer_limit (record j { answer_bytes = m })
-  typed_judged is each answers =
+  typed_judged none is each answers =
       let said = told s (typing t q) octets of_type m is in
+      let stands = alone s (typing t q) octets of_type m is in
+      let silent = sym (ap (has_link_in q m) (alone_read (flags_for said) (for_type t q.asked) (joined is.written.answers) (joined is.written.authorities) m stands)) ∙ none in
       response_judged (flags_for said) (for_type t q.asked) (joined is.written.answers) (joined is.written.authorities) m s.limit s.size q
-      (alone s (typing t q) octets of_type m is) h.size h.limit h.asked h.wanted (glue s.addresses m) each (bare s (typing t q) octets of_type m is said refl)
-      octets h.whole answers
+      stands h.size h.limit h.asked h.wanted (glue s.addresses m) each (bare s (typing t q) octets of_type m is said refl)
+      silent octets h.whole answers
 
 pub denials_judged : DenialsJudgedAlike
-denials_judged s q old new octets h d =
+denials_judged s q old new octets h d none =
     let made = subst (λ (b : Bool). IsMessage s (reserved q.asked) false b d.0.m) h.wanted d.0.is_message in
-    typed_judged s q octets h 65535 (lit< tt) refl d.0.m (made.0 (sign_by s.table) (verify_by s.table) (own_entries s.table)).0 d.1.each d.1.answers
+    typed_judged s q octets h 65535 (lit< tt) refl d.0.m none (made.0 (sign_by s.table) (verify_by s.table) (own_entries s.table)).0 d.1.each d.1.answers
+
+-- a question for other types than NSEC
+unlinked : (q : Queried) (m : List ℕ) (r : Result Message MessageError) → eqb q.asked.rtype 47 ≡ false → has_link_in q m r ≡ false
+unlinked q m (Err e) other = refl
+unlinked q m (Ok read) other = unasked q m read.records other
+
+all_other : (t : ℕ) → among (46 ∷ 255 ∷ []) t ≡ true → eqb t 47 ≡ false
+all_other t e =
+    ⊎_elim
+    (λ h. ap (λ k. eqb k 47) (eqb-true t 46 h))
+    (λ h. ⊎_elim (λ k. ap (λ n. eqb n 47) (eqb-true t 255 k)) (λ k. absurd (false≢true k)) (or_cases (eqb t 255) false h))
+    (or_cases (eqb t 46) (eqb t 255 || false) e)
 
 pub subsets_judged : SubsetsJudgedAlike
-subsets_judged s q old new octets h d small =
+subsets_judged s q old new octets h all d small =
     let signs : wants_signatures q ≡ true = ap (λ b. b || eqb q.asked.rtype 46) h.wanted in
     let made = subst (λ (b : Bool). IsMessage s (for_type d.t q.asked) false b d.m) signs d.is_message in
-    typed_judged s q octets h d.t small (chosen_plain s.world s.keys s.at q.asked d.t d.chosen) d.m (made.0 (sign_by s.table) (verify_by s.table) (own_entries s.table)).0 d.answers.each d.answers.answers
+    typed_judged s q octets h d.t small (chosen_plain s.world s.keys s.at q.asked d.t d.chosen) d.m (unlinked q d.m (message pointer_limit d.m) (all_other q.asked.rtype all)) (made.0 (sign_by s.table) (verify_by s.table) (own_entries s.table)).0 d.answers.each d.answers.answers

@@ -11,7 +11,7 @@ use Rattle.definitions.specs.Zone.{Delegated, NoName, NoType, Open, Records, Sta
 use Rattle.messages.specs.HandedRr.{HandedRr, among}
 use Rattle.messages.specs.Message.{Asked, Message, Spelled, message, pair}
 use Rattle.messages.specs.Written.{Written, record_octets}
-use Rattle.messages.specs.WrittenLaws.{IsQuestion, IsRecord}
+use Rattle.messages.specs.WrittenLaws.{IsQuestion, IsRecord, first_place, spelled_from}
 use Rattle.messages.proofs.Lists.{eqb-back, zip_append}
 use Rattle.messages.proofs.MessageWhole.{records_stand}
 use Rattle.messages.proofs.ZoneNames.{same_labels}
@@ -38,6 +38,7 @@ use Rattle.server_answers.proofs.WritesGroups.{Holds, IsFormed, all_hold, all_re
 use Rattle.server_answers.proofs.WritesZone.{keys_formed}
 use Rattle.server_queries.specs.Queries.{Queried}
 use Rattle.server_answers.specs.Glue.{IsAddress, glue, glue_in}
+use Rattle.server_responses.specs.Links.{shows_link}
 use Rattle.server_responses.specs.Responses.{AnswersQuery, is_dnssec_ok, response_of}
 use Rattle.server_responses.specs.Sections.{written_as_handed}
 use Rattle.server_answers.specs.Outcomes.{signed_by}
@@ -47,7 +48,7 @@ use Rattle.server_answers.specs.Glued.{AnswersGlued}
 use Rattle.server_answers.specs.Responding.{IsMessage, Serving, is_for_keys}
 use Rattle.server_laws.specs.Heard.{ClientsAreTold, IsJudgedAs, IsWhole, IsZone, ResponsesJudgedAlike, is_truncated}
 use Rattle.server_laws.proofs.Alone.{IsOther, NoSignature, SignsOther, StandsAlone, groups_alone, groups_other}
-use Rattle.server_laws.proofs.Shown.{IsAlone, IsUnused, flags_told, in_message, message_read, none_covers, spelled_all, whole, whole_seen, whole_where_clear}
+use Rattle.server_laws.proofs.Shown.{IsAlone, IsUnused, flags_told, in_message, message_read, none_covers, spelled_all, unasked, whole, whole_seen, whole_where_clear}
 use Rattle.server_laws.proofs.ZoneGroups.{are_handed, groups_formed, groups_unsigned, referral_other}
 
 -- ---- a publisher's message
@@ -176,30 +177,30 @@ ok_is x y o e f = let h = sym e ∙ f in cc
 abbrev pub AreBare : List HandedRr → List Written → Type 0
 AreBare gs ws = (t : ℕ) → (eqb t 1 || eqb t 28) ≡ true → (gs ≡ []) ⊎ AllByRecursion (SignsOther t) ws
 
-module _ (flags : ℕ) (asked : Asked) (first second : List Written) (m : List ℕ) (limit size : ℕ) (q : Queried) (alone : IsAlone flags asked first second m) (small : size < 65536) (fits : limit ≤ 65535) (is : IsQuestion q.asked) (wanted : is_dnssec_ok q ≡ true) (name : low q.asked.name ≡ low asked.name) (rtype : q.asked.rtype ≡ asked.rtype) (class : q.asked.class ≡ asked.class) (gs : List HandedRr) (each : AllByRecursion IsAddress gs) (bare : AreBare gs (first ++ second)) where
+module _ (flags : ℕ) (asked : Asked) (first second : List Written) (m : List ℕ) (limit size : ℕ) (q : Queried) (alone : IsAlone flags asked first second m) (small : size < 65536) (fits : limit ≤ 65535) (is : IsQuestion q.asked) (wanted : is_dnssec_ok q ≡ true) (name : low q.asked.name ≡ low asked.name) (rtype : q.asked.rtype ≡ asked.rtype) (class : q.asked.class ≡ asked.class) (gs : List HandedRr) (each : AllByRecursion IsAddress gs) (bare : AreBare gs (first ++ second)) (silent : shows_link q m (spelled_from (first_place asked) (first ++ second)) ≡ false) where
   abbrev more : List Written
   more = map written_as_handed gs
 
   abbrev the_whole : List ℕ
-  the_whole = whole flags asked first second m alone size q small is wanted more (hold_all gs each)
+  the_whole = whole flags asked first second m alone size q small is wanted more (hold_all gs each) silent
 
   abbrev the_records : List Spelled
-  the_records = spelled_all flags asked first second m alone size q small is wanted more (hold_all gs each)
+  the_records = spelled_all flags asked first second m alone size q small is wanted more (hold_all gs each) silent
 
-  back : message pointer_limit m ≡ Ok (in_message flags asked first second m alone size q small is wanted more (hold_all gs each))
-  back = message_read flags asked first second m alone size q small is wanted more (hold_all gs each)
+  back : message pointer_limit m ≡ Ok (in_message flags asked first second m alone size q small is wanted more (hold_all gs each) silent)
+  back = message_read flags asked first second m alone size q small is wanted more (hold_all gs each) silent
 
   seen : length the_whole ≤ 65535 → (t : ℕ) → AllByRecursion (IsUnused t) more → eqb 41 t ≡ false → SeenAlike pointer_limit t the_whole m
-  seen few t spare other = whole_seen flags asked first second m alone size q small is wanted more (hold_all gs each) t spare other name rtype class few
+  seen few t spare other = whole_seen flags asked first second m alone size q small is wanted more (hold_all gs each) silent t spare other name rtype class few
 
   -- where an address is asked for that no signature covers
   covered : length the_whole ≤ 65535 → (a : Answers) (h : JudgeInput) → AllByRecursion (SignsOther h.asked.rtype) (first ++ second)
       → judged a pointer_limit (record h { answer_bytes = the_whole }) ≡ judged a pointer_limit (record h { answer_bytes = m })
   covered few a h others =
       let alike = seen few 46 (unused_all 46 gs refl each) refl in
-      let there = ok_is (in_message flags asked first second m alone size q small is wanted more (hold_all gs each)) alike.other (message pointer_limit m) back alike.reads_other in
+      let there = ok_is (in_message flags asked first second m alone size q small is wanted more (hold_all gs each) silent) alike.other (message pointer_limit m) back alike.reads_other in
       uncovered_alike a pointer_limit h the_whole m alike
-      (subst (λ (x : Message). list_any (is_covering pointer_limit m h.asked.rtype) x.records ≡ false) there (none_covers flags asked first second m alone size q small is wanted more (hold_all gs each) h.asked.rtype others))
+      (subst (λ (x : Message). list_any (is_covering pointer_limit m h.asked.rtype) x.records ≡ false) there (none_covers flags asked first second m alone size q small is wanted more (hold_all gs each) silent h.asked.rtype others))
 
   -- where there is none
   without : length the_whole ≤ 65535 → (a : Answers) (h : JudgeInput) → eqb 41 h.asked.rtype ≡ false → gs ≡ [] → judged a pointer_limit (record h { answer_bytes = the_whole }) ≡ judged a pointer_limit (record h { answer_bytes = m })
@@ -218,7 +219,7 @@ module _ (flags : ℕ) (asked : Asked) (first second : List Written) (m : List �
   response_judged : (octets : List ℕ) → is_truncated octets ≡ false → AnswersQuery limit size q m gs octets → IsJudgedAs octets m
   response_judged octets clear (read, reads, are) =
       let same : response_of limit size q m read.records more ≡ response_of limit size q m the_records more = ap (λ (x : Message). response_of limit size q m x.records more) (ok_is read _ (message pointer_limit m) reads back) in
-      let found = whole_where_clear flags asked first second m alone size q small is wanted more (hold_all gs each) limit (ap is_truncated (sym (are ∙ same)) ∙ clear) in
+      let found = whole_where_clear flags asked first second m alone size q small is wanted more (hold_all gs each) silent limit (ap is_truncated (sym (are ∙ same)) ∙ clear) in
       subst (λ o. IsJudgedAs o m) (sym (are ∙ same ∙ found.0)) (whole_judged (omega (arith, found.1, fits)))
 
 -- ---- by a server
@@ -243,6 +244,10 @@ module _ (s : Serving) (q : Queried) (octets : List ℕ) (h : IsWhole s q octets
 
   pub zone_table : IsZone by_table
   zone_table = record { records = h.zone.records; apex_is = h.zone.apex_is; records_are = h.zone.records_are; accepted = h.zone.accepted; sorted = h.zone.sorted }
+
+  -- it is no question for NSEC
+  link_unasked : eqb q.asked.rtype 47 ≡ false
+  link_unasked = let p46 = or_parts (eqb q.asked.rtype 46) _ h.plain in (or_parts (eqb q.asked.rtype 47) _ p46.1).0
 
   abbrev the_served : Served
   the_served = served_sorted by_table zone_table s.world.zone.records
@@ -291,7 +296,7 @@ module _ (s : Serving) (q : Queried) (octets : List ℕ) (h : IsWhole s q octets
     answer_judged : AnswersGlued s.limit s.size q s.addresses m octets → IsJudgedAs octets m
     answer_judged glued =
         response_judged (flags_for told) q.asked (joined is.written.answers) (joined is.written.authorities) m s.limit s.size q alone h.size h.limit h.asked h.wanted refl refl refl (glue s.addresses m) glued.each (bare told refl)
-        octets h.whole glued.answers
+        (unasked q m _ link_unasked) octets h.whole glued.answers
 
   keys_judged : is_for_keys s.world.zone.apex q.asked ≡ true → AnswersKeysQuestion by_table s.keys s.at m → AnswersGlued s.limit s.size q s.addresses m octets → IsJudgedAs octets m
   keys_judged for_keys is glued =
@@ -305,7 +310,7 @@ module _ (s : Serving) (q : Queried) (octets : List ℕ) (h : IsWhole s q octets
       h.zone.apex_is fits (key_formed by_table zone_table (present_keys s.keys), tt) (refl, tt) (is.presents, tt) is.written in
       let none : glue s.addresses m ≡ [] = no_glue 33792 asked (joined is.written.answers) (joined is.written.authorities) m s.addresses alone 33792 refl (lit< tt) refl in
       response_judged 33792 asked (joined is.written.answers) (joined is.written.authorities) m s.limit s.size q alone h.size h.limit h.asked h.wanted
-      (same_labels (low q.asked.name) (low apex) parts.1) (eqb-true q.asked.rtype 48 numbers.0) (eqb-true q.asked.class 1 numbers.1) (glue s.addresses m) glued.each (λ t address. inl none) octets h.whole glued.answers
+      (same_labels (low q.asked.name) (low apex) parts.1) (eqb-true q.asked.rtype 48 numbers.0) (eqb-true q.asked.class 1 numbers.1) (glue s.addresses m) glued.each (λ t address. inl none) (unasked q m _ link_unasked) octets h.whole glued.answers
 
   message_judged : (keys : Bool) → is_for_keys s.world.zone.apex q.asked ≡ keys → IsMessage s q.asked keys true m → AnswersGlued s.limit s.size q s.addresses m octets → IsJudgedAs octets m
   message_judged true e is glued = keys_judged e (is (sign_by s.table) (verify_by s.table) (own_entries s.table)).0 glued

@@ -20,8 +20,10 @@ use Rattle.server_queries.specs.Headers.{has_flag}
 use Rattle.server_queries.specs.Queries.{Queried}
 use Rattle.server_queries.specs.Replies.{edns_octets, one_if_some, opt_bits, opt_octets}
 use Rattle.server_queries.specs.declared.edns.Edns.{Edns}
+use Rattle.server_responses.specs.Links.{is_authoritative, is_link_of, links_shown, shows_link}
 use Rattle.server_responses.specs.Responses.{answers_shown, authority_shown, counted, head_octets, is_dnssec_ok, reply_octets, response_flags, response_of, truncated_response, whole_response}
-use Rattle.server_responses.specs.Sections.{answer_section, authority_section, is_added, is_soa_or_its_signature, negative_ttl, no_greater, written_at}
+use Rattle.server_responses.specs.Sections.{all_shown, answer_section, authority_section, is_added, is_soa_or_its_signature, negative_ttl, no_greater, shown, written_at}
+use Rattle.server_responses.specs.declared.records.Section.{Section}
 use Rattle.server_laws.proofs.Alone.{SameButTtl, SignsOther, StandsAlone, records_alike, uncovered}
 use Rattle.server_laws.proofs.Framed.{answers_of, authority_of, flags_of, framed, message_framed, read_framed, records_of}
 use Rattle.server_laws.specs.Heard.{is_truncated}
@@ -261,7 +263,16 @@ pub record IsAlone (flags : ℕ) (asked : Asked) (answers authority : List Writt
 pub flags_told : (flags : ℕ) (asked : Asked) (answers authority : List Written) (m : List ℕ) → IsAlone flags asked answers authority m → flags < 65536 → pair m 2 ≡ flags
 flags_told flags asked answers authority m is few = flags_of m 0 flags (length answers) (length authority) 0 asked _ (is.octets_are ∙ message_framed flags asked answers authority) few
 
-module _ (flags : ℕ) (asked : Asked) (answers authority : List Written) (m : List ℕ) (is : IsAlone flags asked answers authority m) (size : ℕ) (q : Queried) (small : size < 65536) (fits : IsQuestion q.asked) (wanted : is_dnssec_ok q ≡ true) (more : List Written) (more_hold : AllByRecursion Holds more) where
+-- and its records
+pub alone_read : (flags : ℕ) (asked : Asked) (answers authority : List Written) (m : List ℕ) → IsAlone flags asked answers authority m
+    → message pointer_limit m ≡ Ok (record { asked = asked; records = spelled_from (first_place asked) (answers ++ authority) })
+alone_read flags asked answers authority m is = (message_here m flags asked answers authority is.octets_are is.question is.sections).reads
+
+-- only a response to a question for NSEC has a record of the chain alone
+pub unasked : (q : Queried) (m : List ℕ) (rs : List Spelled) → eqb q.asked.rtype 47 ≡ false → shows_link q m rs ≡ false
+unasked q m rs e = ap (λ b. b && is_authoritative m && list_any (is_link_of q.asked.name) (authority_section m rs)) e
+
+module _ (flags : ℕ) (asked : Asked) (answers authority : List Written) (m : List ℕ) (is : IsAlone flags asked answers authority m) (size : ℕ) (q : Queried) (small : size < 65536) (fits : IsQuestion q.asked) (wanted : is_dnssec_ok q ≡ true) (more : List Written) (more_hold : AllByRecursion Holds more) (silent : shows_link q m (spelled_from (first_place asked) (answers ++ authority)) ≡ false) where
   abbrev pub place : ℕ
   place = first_place asked
 
@@ -278,7 +289,7 @@ module _ (flags : ℕ) (asked : Asked) (answers authority : List Written) (m : L
   in_message = record { asked = asked; records = spelled_all }
 
   pub message_read : message pointer_limit m ≡ Ok in_message
-  message_read = (message_here m flags asked answers authority is.octets_are is.question is.sections).reads
+  message_read = alone_read flags asked answers authority m is
 
   datas : AllZip (λ r v. data_of m r ≡ v.octets) spelled_all (answers ++ authority)
   datas = (message_here m flags asked answers authority is.octets_are is.question is.sections).octets
@@ -308,14 +319,18 @@ module _ (flags : ℕ) (asked : Asked) (answers authority : List Written) (m : L
   -- with DO nothing is left out of the answer section, nor of the authority section
   answers_are : answers_shown q m spelled_all ≡ map (shown_with None m) (answer_section m spelled_all)
   answers_are =
-      each_one _ (shown_with None m) (λ r. ap (λ b. cond (not b && (is_added r.rtype && not (eqb r.rtype q.asked.rtype))) [] (shown_with None m r ∷ [])) wanted) (answer_section m spelled_all)
+      let section : Section = record { is_authority = false; dnssec_ok = is_dnssec_ok q; asked = q.asked.rtype; negative_ttl = None } in
+      ap (λ b. cond b (links_shown section m q.asked.name (authority_section m spelled_all)) (all_shown section m (answer_section m spelled_all))) silent
+      ∙ each_one (shown section m) (shown_with None m) (λ r. ap (λ b. cond (not b && (is_added r.rtype && not (eqb r.rtype q.asked.rtype))) [] (shown_with None m r ∷ [])) wanted) (answer_section m spelled_all)
 
   abbrev kept_for : Option ℕ
   kept_for = negative_ttl m (authority_section m spelled_all)
 
   authority_are : authority_shown q m spelled_all ≡ map (shown_with kept_for m) (authority_section m spelled_all)
   authority_are =
-      each_one _ (shown_with kept_for m) (λ r. ap (λ b. cond (not b && (is_added r.rtype || eqb r.rtype 43)) [] (shown_with kept_for m r ∷ [])) wanted) (authority_section m spelled_all)
+      let section : Section = record { is_authority = true; dnssec_ok = is_dnssec_ok q; asked = q.asked.rtype; negative_ttl = kept_for } in
+      ap (λ b. cond b [] (all_shown section m (authority_section m spelled_all))) silent
+      ∙ each_one (shown section m) (shown_with kept_for m) (λ r. ap (λ b. cond (not b && (is_added r.rtype || eqb r.rtype 43)) [] (shown_with kept_for m r ∷ [])) wanted) (authority_section m spelled_all)
 
   shown_answers : AllZip SameButTtl answers (answers_shown q m spelled_all)
   shown_answers = subst (AllZip SameButTtl answers) (sym (answers_are ∙ ap (map (shown_with None m)) first_part)) (same_shown None m place answers both_datas.0)

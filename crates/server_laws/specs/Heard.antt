@@ -1,5 +1,5 @@
 -- What a judge says of what a name server answers.
-use Rattle.std.specs.Prelude.{◌≡◌, ℕ, ◌<◌, ◌≤◌, Bool, true, false, List, [], ◌∷◌, Option}
+use Rattle.std.specs.Prelude.{◌≡◌, ℕ, ◌<◌, ◌≤◌, Bool, true, false, List, [], ◌∷◌, Option, Result, Ok, Err}
 use Rattle.std.specs.List.{AllByRecursion}
 use Rattle.definitions.specs.Limits.{pointer_limit}
 use Rattle.definitions.specs.Name.{IsName}
@@ -7,7 +7,8 @@ use Rattle.definitions.specs.Zone.{verdict}
 use Rattle.definitions.specs.ZoneChain.{Mode, optout_of}
 use Rattle.messages.specs.Handed.{IsHanded}
 use Rattle.messages.specs.HandedRr.{HandedRr, among}
-use Rattle.messages.specs.Message.{pair}
+use Rattle.messages.specs.declared.error.MessageError.{MessageError}
+use Rattle.messages.specs.Message.{Message, message, pair}
 use Rattle.messages.specs.WrittenLaws.{IsQuestion}
 use Rattle.answer_scheme.specs.Answers.{Answers}
 use Rattle.answer_shared.specs.Accepted.{IsAccepted}
@@ -18,9 +19,10 @@ use Rattle.answer_alike.specs.Meeting.{WasGiven}
 use Rattle.server_answers.specs.World.{World}
 use Rattle.server_queries.specs.Headers.{has_flag}
 use Rattle.server_queries.specs.Queries.{Queried}
+use Rattle.server_responses.specs.Links.{shows_link}
 use Rattle.server_responses.specs.Responses.{is_dnssec_ok}
 use Rattle.server_answers.specs.Responding.{IsAnswered, Serving}
-use Rattle.server_answers.specs.Subset.{IsSubset}
+use Rattle.server_answers.specs.Subset.{IsSubset, asks_all}
 use Rattle.server_answers.specs.Unheld.{IsDenied}
 
 -- the zone of a world is one of records that were handed in and accepted
@@ -64,18 +66,26 @@ pub record HoldsAll (s : Serving) (q : Queried) (octets : List ℕ) : Type 0 whe
   pub size : s.size < 65536
   pub whole : is_truncated octets ≡ false
 
--- The response to a question for a type that no zone holds is made of the message for a reserved type: a judge that takes an answer to
--- another question says of it what it says of that message, whatever it is asked.
+-- the response of a message to a question for NSEC has the NSEC record of the name, and leaves out the SOA record
+abbrev pub has_link_in : Queried → List ℕ → Result Message MessageError → Bool
+has_link_in q m (Err e) = false
+has_link_in q m (Ok read) = shows_link q m read.records
+
+abbrev pub is_link_shown : Queried → List ℕ → Bool
+is_link_shown q m = has_link_in q m (message pointer_limit m)
+
+-- The response to a question for a type that no zone holds, or for NSEC where the name has no such record, is made of the message for a
+-- reserved type: a judge that takes an answer to another question says of it what it says of that message, whatever it is asked.
 abbrev pub DenialsJudgedAlike : Type 0
 DenialsJudgedAlike =
-    (s : Serving) (q : Queried) (old new : Option ℕ) (octets : List ℕ) → HoldsAll s q octets → (d : IsDenied s q old new octets)
+    (s : Serving) (q : Queried) (old new : Option ℕ) (octets : List ℕ) → HoldsAll s q octets → (d : IsDenied s q old new octets) → is_link_shown q d.0.m ≡ false
     → (a : Answers) (h : JudgeInput) → h.other_question ≡ true → judged a pointer_limit (record h { answer_bytes = octets }) ≡ judged a pointer_limit (record h { answer_bytes = d.0.m })
 
 -- The response to a question for all records or signatures of a name is made of the message for the type that is chosen, a number of 16
 -- bits: such a judge says of it what it says of that message.
 abbrev pub SubsetsJudgedAlike : Type 0
 SubsetsJudgedAlike =
-    (s : Serving) (q : Queried) (old new : Option ℕ) (octets : List ℕ) → HoldsAll s q octets → (d : IsSubset s q old new octets) → d.t < 65536
+    (s : Serving) (q : Queried) (old new : Option ℕ) (octets : List ℕ) → HoldsAll s q octets → asks_all q.asked ≡ true → (d : IsSubset s q old new octets) → d.t < 65536
     → (a : Answers) (h : JudgeInput) → h.other_question ≡ true → judged a pointer_limit (record h { answer_bytes = octets }) ≡ judged a pointer_limit (record h { answer_bytes = d.m })
 
 -- What a zone under keys that meet has given, a DNSKEY answer and an answer, is judged by its clients as it is: from the whole responses

@@ -10,7 +10,9 @@ use Rattle.server_queries.specs.Queries.{Queried}
 use Rattle.server_queries.specs.Replies.{edns_octets, one_if_some}
 use Rattle.server_queries.specs.declared.edns.Edns.{Edns}
 use Rattle.server_queries.specs.declared.header.RequestHeader.{RequestHeader}
+use Rattle.server_responses.specs.Links.{links_shown, shows_link}
 use Rattle.server_responses.specs.Sections.{all_shown, answer_section, authority_section, negative_ttl, written_as_handed}
+use Rattle.server_responses.specs.declared.records.Section.{Section}
 use Rattle.server_responses.specs.declared.write.Counts.{Counts}
 
 -- DO (RFC 3225, 3)
@@ -48,14 +50,16 @@ reply_octets size q flags counts records =
     head_octets q.header.id flags counts.answers counts.authority (counts.additional + one_if_some q.edns) ++ question_octets q.asked.name q.asked.rtype q.asked.class
     ++ records ++ edns_octets size 0 q.edns
 
--- what a response has of each
+-- what a response has of each; where it answers a question for NSEC, of the authority section alone, in the answer section
 abbrev pub answers_shown : Queried → List ℕ → List Spelled → List Written
-answers_shown q m rs = all_shown (record { is_authority = false; dnssec_ok = is_dnssec_ok q; asked = q.asked.rtype; negative_ttl = None }) m (answer_section m rs)
+answers_shown q m rs =
+    let section : Section = record { is_authority = false; dnssec_ok = is_dnssec_ok q; asked = q.asked.rtype; negative_ttl = None } in
+    if shows_link q m rs then links_shown section m q.asked.name (authority_section m rs) else all_shown section m (answer_section m rs)
 
 abbrev pub authority_shown : Queried → List ℕ → List Spelled → List Written
 authority_shown q m rs =
     let section = authority_section m rs in
-    all_shown (record { is_authority = true; dnssec_ok = is_dnssec_ok q; asked = q.asked.rtype; negative_ttl = negative_ttl m section }) m section
+    if shows_link q m rs then [] else all_shown (record { is_authority = true; dnssec_ok = is_dnssec_ok q; asked = q.asked.rtype; negative_ttl = negative_ttl m section }) m section
 
 -- the response with all of its records, and with these in its additional section
 abbrev pub whole_response : ℕ → Queried → List ℕ → List Spelled → List Written → List ℕ

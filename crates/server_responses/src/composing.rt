@@ -12,6 +12,7 @@ ghost use Rattle.server_responses.specs.Responses.{authority_shown, error_respon
 ghost use Rattle.server_responses.specs.Responses.{response_flags, whole_response};
 ghost use Rattle.server_responses.specs.Sections.{written_as_handed};
 
+use crate::links::{push_links, shows_link};
 use crate::records::{
     Section, answer_section, authority_section, negative_ttl, pair_at, push_section,
 };
@@ -53,7 +54,9 @@ impl From<AllocError> for ResponseError {
 /// It has the id and RD of the query, the query's question, and AA and the RCODE of the message; an
 /// OPT record of version 0 where the query has one, with its DO bit. Without DO, records of DNSSEC
 /// are left out (RFC 3225, 3; RFC 4035, 3.1). The SOA record of a denial, and its signatures, have
-/// no greater TTL than the SOA record's minimum (RFC 2308, 3). In the additional section stand the
+/// no greater TTL than the SOA record's minimum (RFC 2308, 3). A question for NSEC is answered from
+/// the message in which the zone denies another type: where it has the NSEC record of the name,
+/// that and its signatures are all that the response shows. In the additional section stand the
 /// records that are handed in, as they are, and the OPT record behind them. A response of more
 /// octets than the limit has TC and no record but OPT (RFC 2181, 9; RFC 9471, 2).
 pub fn response(
@@ -168,6 +171,16 @@ fn push_answers(
         asked: query.question.rtype,
         negative_ttl: None,
     };
+    if shows_link(query, message, records) {
+        let name = &query.question.name;
+        return push_links(
+            out,
+            message,
+            authority_section(message, records),
+            &section,
+            name,
+        );
+    }
     push_section(out, message, answer_section(message, records), &section)
 }
 
@@ -185,6 +198,9 @@ fn push_authority(
         let shown = authority_shown q message.now (map spelled records.now) in
         IfOk result (λ n. n ≡ length shown) }
 {
+    if shows_link(query, message, records) {
+        return Ok(0);
+    }
     let authority = authority_section(message, records);
     let section = Section {
         is_authority: true,

@@ -3,9 +3,11 @@
 #![tactic(auto)]
 
 pub mod composing;
+pub mod links;
 mod records;
 pub mod transport;
 mod write;
 
 pub use crate::composing::{ResponseError, error_response, is_dnssec_ok, response};
+pub use crate::links::is_link_hidden;
 pub use crate::transport::{Transport, size_limit};

@@ -90,7 +90,7 @@ pub(crate) fn push_section(
 }
 
 /// Appends a record unless the response leaves it out, and says how many were appended.
-fn push_shown(
+pub(crate) fn push_shown(
     out: &mut Vec<u8>,
     message: &[u8],
     record: &ViewRecord<'_>,
