@@ -5,7 +5,7 @@ ghost use Rattle.messages.specs.Questions.{asked_of};
 ghost use Rattle.server_answers.specs.MadeOf.{ReadsWhole};
 ghost use Rattle.server_answers.specs.Moments.{IsOrWasNoted};
 ghost use Rattle.server_answers.specs.Responding.{serving};
-ghost use Rattle.server_answers.specs.Unheld.{AnswersUnheld, IsMadeUnheld, has_answers, is_kept_back, is_unheld, keeps_back, reserved};
+ghost use Rattle.server_answers.specs.Unheld.{AnswersUnheld, IsMadeUnheld, has_answers, is_kept_back, is_unheld, reserved};
 ghost use Rattle.server_queries.specs.Views.{queried_of};
 
 use crate::message::{is_for_keys, message_for};
@@ -97,14 +97,16 @@ fn unheld_response(
     ensures { let q = queried_of query.now in
         IfOk result (IsMadeUnheld limit udp_size q addresses.now made) }
 {
-    if is_kept_back(alloc, query, &made)? {
+    let kept_back = is_kept_back(alloc, query, &made)?;
+    if kept_back {
         let octets = error_response(alloc, query, REFUSED, udp_size)?;
         return Ok(Response::Reply(octets));
     }
     response_with(alloc, query, made, addresses, limit, udp_size)
 }
 
-/// Whether a message was made that is not the answer.
+/// Whether a message was made that is not the answer: it has records in its answer section, or
+/// denies a type where the NSEC record that is asked for is that of a wildcard.
 fn is_kept_back(
     alloc: Global,
     query: &Query<'_>,
@@ -114,21 +116,12 @@ fn is_kept_back(
         IfOk result (λ b. b ≡ is_kept_back q made.now) }
 {
     match made {
-        Ok(Signed::Message(message)) => keeps_back(alloc, query, message),
+        Ok(Signed::Message(message)) => {
+            let is_hidden = is_link_hidden(alloc, query, message)?;
+            Ok(has_answers(message) || is_hidden)
+        }
         _ => Ok(false),
     }
-}
-
-/// Whether a message is not the answer: it has records in its answer section, or denies a type that
-/// a wildcard's NSEC record lists.
-fn keeps_back(alloc: Global, query: &Query<'_>, message: &[u8]) -> Result<bool, AllocError>
-    ensures { let q = queried_of query.now in
-        IfOk result (λ b. b ≡ keeps_back q message.now) }
-{
-    if has_answers(message) {
-        return Ok(true);
-    }
-    is_link_hidden(alloc, query, message)
 }
 
 /// Whether a message counts records in its answer section (RFC 1035, 4.1.1).
