@@ -118,7 +118,8 @@ module _ (s : Serving) (q : Queried) (octets : List ℕ) (h : HoldsAll s q octet
   typed_judged none is each answers =
       let said = told s (typing t q) octets of_type m is in
       let stands = alone s (typing t q) octets of_type m is in
-      let silent = sym (ap (has_link_in q m) (alone_read (flags_for said) (for_type t q.asked) (joined is.written.answers) (joined is.written.authorities) m stands)) ∙ none in
+      let silent : shows_link q m (spelled_from (first_place (for_type t q.asked)) (joined is.written.answers ++ joined is.written.authorities)) ≡ false =
+      sym (ap (has_link_in q m) (alone_read (flags_for said) (for_type t q.asked) (joined is.written.answers) (joined is.written.authorities) m stands)) ∙ none in
       response_judged (flags_for said) (for_type t q.asked) (joined is.written.answers) (joined is.written.authorities) m s.limit s.size q
       stands h.size h.limit h.asked h.wanted (glue s.addresses m) each (bare s (typing t q) octets of_type m is said refl)
       silent octets h.whole answers

@@ -296,7 +296,7 @@ module _ (s : Serving) (q : Queried) (octets : List ℕ) (h : IsWhole s q octets
     answer_judged : AnswersGlued s.limit s.size q s.addresses m octets → IsJudgedAs octets m
     answer_judged glued =
         response_judged (flags_for told) q.asked (joined is.written.answers) (joined is.written.authorities) m s.limit s.size q alone h.size h.limit h.asked h.wanted refl refl refl (glue s.addresses m) glued.each (bare told refl)
-        (unasked q m _ link_unasked) octets h.whole glued.answers
+        (unasked q m (spelled_from (first_place q.asked) (joined is.written.answers ++ joined is.written.authorities)) link_unasked) octets h.whole glued.answers
 
   keys_judged : is_for_keys s.world.zone.apex q.asked ≡ true → AnswersKeysQuestion by_table s.keys s.at m → AnswersGlued s.limit s.size q s.addresses m octets → IsJudgedAs octets m
   keys_judged for_keys is glued =
@@ -310,7 +310,7 @@ module _ (s : Serving) (q : Queried) (octets : List ℕ) (h : IsWhole s q octets
       h.zone.apex_is fits (key_formed by_table zone_table (present_keys s.keys), tt) (refl, tt) (is.presents, tt) is.written in
       let none : glue s.addresses m ≡ [] = no_glue 33792 asked (joined is.written.answers) (joined is.written.authorities) m s.addresses alone 33792 refl (lit< tt) refl in
       response_judged 33792 asked (joined is.written.answers) (joined is.written.authorities) m s.limit s.size q alone h.size h.limit h.asked h.wanted
-      (same_labels (low q.asked.name) (low apex) parts.1) (eqb-true q.asked.rtype 48 numbers.0) (eqb-true q.asked.class 1 numbers.1) (glue s.addresses m) glued.each (λ t address. inl none) (unasked q m _ link_unasked) octets h.whole glued.answers
+      (same_labels (low q.asked.name) (low apex) parts.1) (eqb-true q.asked.rtype 48 numbers.0) (eqb-true q.asked.class 1 numbers.1) (glue s.addresses m) glued.each (λ t address. inl none) (unasked q m (spelled_from (first_place asked) (joined is.written.answers ++ joined is.written.authorities)) link_unasked) octets h.whole glued.answers
 
   message_judged : (keys : Bool) → is_for_keys s.world.zone.apex q.asked ≡ keys → IsMessage s q.asked keys true m → AnswersGlued s.limit s.size q s.addresses m octets → IsJudgedAs octets m
   message_judged true e is glued = keys_judged e (is (sign_by s.table) (verify_by s.table) (own_entries s.table)).0 glued

@@ -263,9 +263,12 @@ pub record IsAlone (flags : ℕ) (asked : Asked) (answers authority : List Writt
 pub flags_told : (flags : ℕ) (asked : Asked) (answers authority : List Written) (m : List ℕ) → IsAlone flags asked answers authority m → flags < 65536 → pair m 2 ≡ flags
 flags_told flags asked answers authority m is few = flags_of m 0 flags (length answers) (length authority) 0 asked _ (is.octets_are ∙ message_framed flags asked answers authority) few
 
--- and its records
+-- and what it reads as
+abbrev pub message_of : Asked → List Written → Message
+message_of asked ws = record { asked = asked; records = spelled_from (first_place asked) ws }
+
 pub alone_read : (flags : ℕ) (asked : Asked) (answers authority : List Written) (m : List ℕ) → IsAlone flags asked answers authority m
-    → message pointer_limit m ≡ Ok (record { asked = asked; records = spelled_from (first_place asked) (answers ++ authority) })
+    → message pointer_limit m ≡ Ok (message_of asked (answers ++ authority))
 alone_read flags asked answers authority m is = (message_here m flags asked answers authority is.octets_are is.question is.sections).reads
 
 -- only a response to a question for NSEC has a record of the chain alone
