@@ -8,13 +8,13 @@ use crate::session::{line_text, next_counting};
 use crate::shown::{Shown, case_of, push_shown};
 use crate::signed_alike::note_unlike;
 use answer::names::ToName;
-use answer::{Act, Dnskey, Ds, Event, Name, Outcome, Verdict};
+use answer::{Act, Case, Dnskey, Ds, Event, Name, Outcome};
 use denial_nsec3_sha1::hasher::Sha1Hasher;
 use denialbench_print::print::push_outcome;
 use denialbench_print::scheme::BenchScheme;
 use denialbench_session::lines::Lines;
 use explain_messages::message::MessageText;
-use explain_reasons::reasons::reasons_of;
+use explain_reasons::explanation::{Explanation, explanation_of};
 use std::alloc::{AllocError, Global};
 
 /// What is known of a session while its events are explained.
@@ -42,11 +42,24 @@ pub fn push_events<'a>(
         push_shown(&mut shown, event, outcome)?;
         push_details(telling, &mut explained, keys, event, outcome)?;
         if let Some(case) = case_of(&shown, event, telling.apex, telling.limit) {
-            let found = reasons_of(telling.alloc, &BenchScheme, &Sha1Hasher, &case)?;
-            explained.reasons = Some(found);
+            explain_judgement(telling.alloc, &mut explained, &case)?;
         }
         explained.push_to(out, telling.options.style)?;
     }
+    Ok(())
+}
+
+/// What a judgement comes to, and why.
+fn explain_judgement(
+    alloc: Global,
+    explained: &mut Explained,
+    case: &Case,
+) -> Result<(), AllocError> {
+    let Explanation { words, reasons } = explanation_of(alloc, &BenchScheme, &Sha1Hasher, case)?;
+    for sentence in words {
+        explained.notes.push(sentence)?;
+    }
+    explained.reasons = Some(reasons);
     Ok(())
 }
 
@@ -68,7 +81,7 @@ fn read_event(alloc: Global, lines: &mut Lines<'_>) -> Result<Explained, AllocEr
 }
 
 /// Behind a key call the rolls that run; of a replacement how many records there are; of a thing
-/// shown its records; of what is refused why, and of a judgement what it says in the field's words.
+/// shown its records; of what is refused why.
 fn push_details(
     telling: &Telling,
     explained: &mut Explained,
@@ -103,31 +116,7 @@ fn push_details(
         (_, Outcome::Cds(set)) => push_ds_set(telling, &mut explained.shown, "CDS", set),
         (_, Outcome::Cdnskey(set)) => push_cdnskey_set(telling, &mut explained.shown, set),
         (_, Outcome::Message { octets, .. }) => push_message(telling, &mut explained.shown, octets),
-        (_, Outcome::Judged(Ok(judgement))) => explained.note(field_words(&judgement.verdict)),
-        (_, Outcome::Judged(Err(refused))) => {
-            let refusal = refused.refusal;
-            explained.note(format_args!("bogus: {refusal}"))
-        }
         _ => Ok(()),
-    }
-}
-
-/// What a verdict is called in the field.
-fn field_words(verdict: &Verdict) -> &'static str {
-    match verdict {
-        Verdict::Records(_) => "secure: the records are the zone's",
-        Verdict::NoType => "secure NODATA: the name exists and has no records of the type",
-        Verdict::NoName => "secure NXDOMAIN: there is no such name, and no wildcard for it",
-        Verdict::StarRecords(_) =>
-            "secure: a wildcard's records stand for the name, which does not exist",
-        Verdict::StarNoType =>
-            "secure NODATA: a wildcard stands for the name and has no records of the type",
-        Verdict::Delegated =>
-            "secure referral: the name is at or below a delegation, so another zone tells of it",
-        Verdict::Open =>
-            "insecure by opt-out: a delegation without signatures may be there, so nothing is proven",
-        Verdict::Unsigned =>
-            "insecure: the DS set is empty, so nothing vouches for the zone's keys",
     }
 }
 

@@ -4,15 +4,17 @@ ghost use Rattle.std.specs.Prelude.{◌≡◌, ◌<◌};
 
 use crate::by_hashes::hash_reasons;
 pub use crate::by_hashes::{HashReason, HashState};
+use crate::errors::ErrorReason;
 use crate::facts::{Facts, read_facts};
 use crate::refusals::{tell_keys, tell_messages, tell_records};
 use crate::{by_hashes, by_names};
-use answer_judge::case::Case;
+use answer_findings::Case;
 use answer_judge_keys::keys::{TaggedKey, read_keys};
 use answer_judge_keys::verdict::{Judgement, Refusal, Refused, Verdict};
 use answer_scheme::counting::SchemeChecks;
 use answer_scheme::scheme::Scheme;
 use denial_nsec3_hash::hasher::Nsec3Hasher;
+use explain_messages::date::Date;
 use explain_signatures::asked::{Asked, Conclusion};
 use explain_signatures::delegation::{DsReason, KeyReason, ds_reasons, key_reasons};
 use explain_signatures::recording::{Calls, Hashed, Recording, Tried};
@@ -26,9 +28,16 @@ use std::fmt;
 use std::marker::Brand;
 use std::sync::ledger::{Blank, Ledger};
 
-/// Why a judgement came out so. It prints as lines behind two blanks.
+/// Why a judgement came out so, and what a resolver is told beside it. It prints as lines behind two
+/// blanks.
 #[derive(Debug, Drop, Serialize)]
 pub struct Reasons {
+    /// For how many seconds the verdict may be kept; nothing where no record says it.
+    pub ttl: Option<u32>,
+    /// The last second in which the verdict stands.
+    pub until: Option<u64>,
+    /// The extended error of a refusal, if one says anything of it.
+    pub extended_error: Option<ErrorReason>,
     /// Sentences: by which records the verdict was found, or what was wanting.
     pub because: Vec<String>,
     /// The DS records, each beside the keys of the DNSKEY answer.
@@ -48,6 +57,9 @@ impl Reasons {
     /// Reasons of which none is said so far.
     fn new(alloc: Global) -> Self {
         Reasons {
+            ttl: None,
+            until: None,
+            extended_error: None,
             because: Vec::new(alloc),
             ds: Vec::new(alloc),
             keys: Vec::new(alloc),
@@ -60,6 +72,15 @@ impl Reasons {
 
 impl fmt::Display for Reasons {
     fn fmt<W: fmt::Write>(&self, f: &mut fmt::Formatter<W>) -> fmt::Result {
+        if let Some(ttl) = self.ttl {
+            writeln!(f, "  ttl {ttl}")?;
+        }
+        if let Some(until) = self.until {
+            writeln!(f, "  until {}", Second(until))?;
+        }
+        if let Some(error) = &self.extended_error {
+            writeln!(f, "  {error}")?;
+        }
         for sentence in &self.because {
             writeln!(f, "  {sentence}")?;
         }
@@ -85,13 +106,34 @@ impl fmt::Display for Reasons {
     }
 }
 
+/// A second since 1970 began, that prints as a number, with its date if it has one.
+#[derive(Clone, Copy)]
+struct Second(u64);
+
+impl fmt::Display for Second {
+    fn fmt<W: fmt::Write>(&self, f: &mut fmt::Formatter<W>) -> fmt::Result {
+        let second = self.0;
+        match u32::try_from(second) {
+            Ok(seconds) => write!(f, "{second} ({})", Date { seconds }),
+            Err(_) => write!(f, "{second}"),
+        }
+    }
+}
+
+/// What a judge said of a case, and why.
+#[derive(Drop)]
+pub(crate) struct Reasoned {
+    pub(crate) outcome: Result<Judgement, Refused>,
+    pub(crate) reasons: Reasons,
+}
+
 /// Judges a case, and says why it came out so. Its only error is out of memory.
-pub fn reasons_of<S: Scheme, H: Nsec3Hasher>(
+pub(crate) fn reasons_of<S: Scheme, H: Nsec3Hasher>(
     alloc: Global,
     scheme: &S,
     hasher: &H,
     case: &Case,
-) -> Result<Reasons, AllocError> {
+) -> Result<Reasoned, AllocError> {
     recorded::<S, H, Brand, Brand>(alloc, scheme, hasher, Blank::new(1), Blank::new(1), case)
 }
 
@@ -103,7 +145,7 @@ fn recorded<S: Scheme, H: Nsec3Hasher, L: Ledger, M: Ledger>(
     first: Blank,
     second: Blank,
     case: &Case,
-) -> Result<Reasons, AllocError>
+) -> Result<Reasoned, AllocError>
     requires name { first.name ≡ L.name }
     requires parts { first.parts ≡ L.parts }
     requires some { 0 < L.parts }
@@ -115,7 +157,8 @@ fn recorded<S: Scheme, H: Nsec3Hasher, L: Ledger, M: Ledger>(
     let mut recording = Recording::new(alloc, checks);
     let outcome = case.judge(alloc, &mut recording);
     let calls = recording.into_calls()?;
-    explained(alloc, scheme, case, &outcome, &calls)
+    let reasons = explained(alloc, scheme, case, &outcome, &calls)?;
+    Ok(Reasoned { outcome, reasons })
 }
 
 /// What a judge told, by its outcome.

@@ -3,7 +3,7 @@
 
 use crate::facts::Facts;
 use crate::tell::tell;
-use answer_judge::case::Case;
+use answer_findings::Case;
 use answer_judge_keys::keys::TaggedKey;
 use answer_judge_keys::verdict::{Judgement, Refusal, Refused, Verdict};
 use explain_messages::date::Date;

@@ -3,12 +3,12 @@
 use crate::asked::Asked;
 use crate::delegation::{KeyReason, is_usable};
 use crate::recording::Tried;
+use answer_extended_errors::times::{has_expired, is_early};
 use answer_judge_facts::groups::{is_chain_type, read_group};
 use answer_judge_keys::keys::TaggedKey;
 use answer_judge_keys::order::sort_data;
 use answer_judge_keys::trust::Signature;
 use answer_shared::owner::spells_hash;
-use denial_data::Timestamp;
 use explain_messages::date::Date;
 use explain_messages::type_text::TypeText;
 use messages::names::{Name, ParsedName, ToName, ZoneName, cow_name, is_at_or_above};
@@ -350,11 +350,10 @@ fn state_undue(scope: &Scope, owner: &ParsedName, signature: &Signature) -> Sign
     if labels != count && !(may_expand && labels < count && depth <= labels) {
         return SignatureState::LabelCount;
     }
-    let now = Timestamp::from(scope.moment);
-    if !signature.inception().is_at_or_before(&now) {
+    if is_early(signature, scope.moment) {
         return SignatureState::NotYetValid;
     }
-    if !now.is_at_or_before(&signature.expiration()) {
+    if has_expired(signature, scope.moment) {
         return SignatureState::Expired;
     }
     if !signature.signer_name().name_eq(scope.asked.apex) {

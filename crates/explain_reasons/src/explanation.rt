@@ -1,0 +1,189 @@
+//! A judgement explained: what it comes to, and why.
+
+use crate::errors::error_of;
+use crate::findings::{Said, said_in};
+use crate::reasons::{Reasoned, Reasons, reasons_of};
+use crate::words::tell_outcome;
+use answer_findings::{Case, Finding, Lasting, Refusal, case_for, first_question};
+use answer_judge_keys::verdict::{Judgement, Refused};
+use answer_scheme::scheme::Scheme;
+use denial_nsec3_hash::hasher::Nsec3Hasher;
+use explain_messages::type_text::TypeText;
+use explain_signatures::signatures::{SignatureReason, SignatureState};
+use messages::names::{Name, ToName, copy_name};
+use messages::question::Question;
+use names_rdata::rtype::Rtype;
+use std::alloc::{AllocError, Global};
+
+/// What a judgement comes to, in the field's words, and why.
+#[derive(Debug, Drop)]
+pub struct Explanation {
+    /// Sentences.
+    pub words: Vec<String>,
+    pub reasons: Reasons,
+}
+
+/// Judges a case, and says what that comes to, and why. Its only error is out of memory.
+///
+/// Where no verdict is proven, and the answer suggests an alias or a referral, it is judged for
+/// that as well. What the judge does not say is found by digests of SHA-2 and hashes of SHA-1: the
+/// scheme and the hasher are to make these.
+pub fn explanation_of<S: Scheme, H: Nsec3Hasher>(
+    alloc: Global,
+    scheme: &S,
+    hasher: &H,
+    case: &Case,
+) -> Result<Explanation, AllocError> {
+    let own = reasons_of(alloc, scheme, hasher, case)?;
+    let said = said_in(alloc, scheme, case)?;
+    let mut words = Vec::new(alloc);
+    tell_outcome(&mut words, &own.outcome, &said)?;
+    let beside = question_beside(alloc, case, &own.outcome, &said)?;
+    let lasting = lasting_of(&own.outcome, &said);
+    let refusal = refusal_of(&own.outcome, &said);
+    let reasons = match &beside {
+        Some(question) => reasons_for(alloc, scheme, hasher, case, question, own.reasons, refusal)?,
+        None => with_error(alloc, scheme, hasher, case, own.reasons, refusal)?,
+    };
+    Ok(Explanation {
+        words,
+        reasons: with_times(reasons, case, lasting),
+    })
+}
+
+/// Reasons with how long the verdict lasts, where anything says it.
+fn with_times(reasons: Reasons, case: &Case, lasting: Option<Lasting>) -> Reasons {
+    let mut reasons = reasons;
+    if let Some(lasting) = lasting {
+        reasons.ttl = Some(lasting.ttl.as_secs());
+        reasons.until = Some(lasting.until(case.moment));
+    }
+    reasons
+}
+
+/// How long what is said lasts.
+fn lasting_of(outcome: &Result<Judgement, Refused>, said: &Option<Said>) -> Option<Lasting> {
+    match (said, outcome) {
+        (Some(said), _) => said.lasting,
+        (None, Ok(judgement)) => judgement.lasting,
+        (None, Err(_)) => None,
+    }
+}
+
+/// Why there is neither a verdict nor anything else that the answer proves.
+fn refusal_of(outcome: &Result<Judgement, Refused>, said: &Option<Said>) -> Option<Refusal> {
+    match (said, outcome) {
+        (None, Err(refused)) => Some(refused.refusal),
+        _ => None,
+    }
+}
+
+/// The question that an answer is judged for besides: the one whose judgement proves where it
+/// leads, or the first that it suggests where it proves nothing.
+fn question_beside(
+    alloc: Global,
+    case: &Case,
+    outcome: &Result<Judgement, Refused>,
+    said: &Option<Said>,
+) -> Result<Option<Question>, AllocError> {
+    match outcome {
+        Err(refused) if refused.refusal == Refusal::NotProven => {}
+        _ => return Ok(None),
+    }
+    let Some(said) = said else {
+        return first_question(alloc, case);
+    };
+    match &said.finding {
+        Finding::Alias(_) | Finding::WildcardAlias(_) | Finding::LeftOpen => {
+            asking(alloc, case, &case.question.name, Rtype::CNAME)
+        }
+        Finding::Dname { owner, .. } => asking(alloc, case, owner, Rtype::DNAME),
+        Finding::Referral { cut, .. } => asking(alloc, case, cut, Rtype::DS),
+        _ => Ok(None),
+    }
+}
+
+/// The question for a type at a name.
+fn asking(
+    alloc: Global,
+    case: &Case,
+    name: &Name<Vec<u8>>,
+    rtype: Rtype,
+) -> Result<Option<Question>, AllocError> {
+    let name = copy_name(alloc, name)?;
+    let class = case.question.class;
+    Ok(Some(Question { name, rtype, class }))
+}
+
+/// Reasons of a refusal, if it is one, with its extended error.
+fn with_error<S: Scheme, H: Nsec3Hasher>(
+    alloc: Global,
+    scheme: &S,
+    hasher: &H,
+    case: &Case,
+    reasons: Reasons,
+    refusal: Option<Refusal>,
+) -> Result<Reasons, AllocError> {
+    let mut reasons = reasons;
+    if let Some(refusal) = refusal {
+        reasons.extended_error = error_of(alloc, scheme, hasher, case, refusal)?;
+    }
+    Ok(reasons)
+}
+
+/// The reasons of a judgement that proves nothing, with those of the same messages' for another
+/// question, and the extended error of that one where it proves nothing either.
+fn reasons_for<S: Scheme, H: Nsec3Hasher>(
+    alloc: Global,
+    scheme: &S,
+    hasher: &H,
+    case: &Case,
+    question: &Question,
+    own: Reasons,
+    refusal: Option<Refusal>,
+) -> Result<Reasons, AllocError> {
+    let case = case_for(case, question);
+    let Reasoned { reasons, .. } = reasons_of(alloc, scheme, hasher, &case)?;
+    let (name, rtype) = (question.name.fmt_with_dot(), TypeText(question.rtype));
+    let heading = format!(in alloc; "the answer is judged for {name} {rtype} besides")?;
+    let joined = joined(own, reasons, heading, refusal.is_none())?;
+    with_error(alloc, scheme, hasher, &case, joined, refusal)
+}
+
+/// Reasons of two judgements of the same messages: sentences of both, or of the second alone where
+/// it proves what the first does not; each signature as the second has it, if that needs it.
+fn joined(
+    own: Reasons,
+    beside: Reasons,
+    heading: String,
+    proves: bool,
+) -> Result<Reasons, AllocError> {
+    let Reasons {
+        because,
+        signatures,
+        hashes,
+        agrees,
+        ..
+    } = beside;
+    let mut reasons = own;
+    if proves {
+        reasons.because.clear();
+        reasons.hashes = hashes;
+    }
+    reasons.because.push(heading)?;
+    for sentence in because {
+        reasons.because.push(sentence)?;
+    }
+    join_signatures(&mut reasons.signatures, &signatures);
+    reasons.agrees = reasons.agrees && agrees;
+    Ok(reasons)
+}
+
+/// Sets the state of each signature to that of another list, if it is needed there.
+fn join_signatures(signatures: &mut [SignatureReason], others: &[SignatureReason]) {
+    for (signature, other) in signatures.iter_mut().zip(others) {
+        if other.state != SignatureState::NotNeeded {
+            signature.state = other.state;
+        }
+    }
+}
