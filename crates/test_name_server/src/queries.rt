@@ -1,24 +1,19 @@
-//! Reads lines of octets that a client sends, and prints what query they are, or what answers them,
-//! so that it is compared with what an independent program reads and writes.
-//!
-//! A line is `SIZE OCTETS`: how many octets the server takes by UDP, and what it is sent, in
-//! hexadecimal digits (`-` for none). Behind it stands one of
-//!
-//! - `id ID opcode OPCODE`, `rd` and `cd` where they are set, `NAME TYPE CLASS` with the octets of
-//!   the name as spelled, and `edns VERSION SIZE` where there is an OPT record, with `do`;
-//! - the octets of a reply, where the request is refused; `nothing`, where no reply is sent.
-//!
-//! Lines that begin with `#` are printed alone.
-#![tactic(auto)]
+//! What query a client sends, or what answers it where it is refused.
 
 use names_rdata::composer::compose_name;
 use server_queries::{Edns, ErrorReply, Query, Refusal, RequestHeader, read_query, write_refusal};
 use std::alloc::Global;
-use std::io;
-use test_lines::{Answer, answer_each_line, first_word, octets_of};
+use test_lines::{Answer, first_word, octets_of};
 
-/// Answers a line, if it can be read.
-fn answer_to(alloc: Global, answer: &mut Answer, line: &str) -> Option<()> {
+/// What a line asks of a request.
+pub fn told(alloc: Global, line: &str) -> Answer {
+    let mut answer = Answer::new(alloc);
+    let is_read = tell(alloc, &mut answer, line).is_some();
+    answer.check(is_read);
+    answer
+}
+
+fn tell(alloc: Global, answer: &mut Answer, line: &str) -> Option<()> {
     let (size, octets) = first_word(line);
     let size = size.parse().ok()?;
     let octets = octets_of(alloc, octets)?;
@@ -68,8 +63,4 @@ fn tell_reply(alloc: Global, answer: &mut Answer, reply: &ErrorReply<'_>, size: 
     let mut octets = Vec::new(alloc);
     answer.check(write_refusal(&mut octets, reply, size).is_ok());
     answer.octets(&octets);
-}
-
-fn main(rt: HostRuntime) -> io::Result<()> {
-    answer_each_line(&rt, rt.alloc(), answer_to)
 }

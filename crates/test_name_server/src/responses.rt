@@ -1,0 +1,46 @@
+//! What a client has of a message that answers it.
+
+use crate::words::transport;
+use server_queries::{Query, read_query};
+use server_responses::{ResponseError, Transport, response, size_limit};
+use std::alloc::Global;
+use test_lines::{Answer, first_word, octets_of};
+
+/// What a line asks of a query and of a message that answers it.
+pub fn told(alloc: Global, line: &str) -> Answer {
+    let mut answer = Answer::new(alloc);
+    let is_read = tell(alloc, &mut answer, line).is_some();
+    answer.check(is_read);
+    answer
+}
+
+fn tell(alloc: Global, answer: &mut Answer, line: &str) -> Option<()> {
+    let (carried, line) = first_word(line);
+    let (size, line) = first_word(line);
+    let (query, message) = first_word(line);
+    let carried = transport(carried)?;
+    let size = size.parse().ok()?;
+    let query = octets_of(alloc, query)?;
+    let message = octets_of(alloc, message)?;
+    match read_query(&query) {
+        Ok(query) => tell_response(alloc, answer, &query, &message, carried, size),
+        Err(_) => None,
+    }
+}
+
+fn tell_response(
+    alloc: Global,
+    answer: &mut Answer,
+    query: &Query<'_>,
+    message: &[u8],
+    carried: Transport,
+    size: u16,
+) -> Option<()> {
+    let limit = size_limit(carried, query.edns);
+    match response(alloc, query, message, &[], limit, size) {
+        Ok(octets) => answer.octets(&octets),
+        Err(ResponseError::Unreadable) => answer.word("unreadable"),
+        Err(ResponseError::Memory) => return None,
+    }
+    Some(())
+}
