@@ -296,10 +296,10 @@ static inline enum zermuita_reply zermuita_judge(const struct zermuita_case *han
  *
  * What is secure or insecure may be kept for `ttl` seconds from the arrival of the oldest message that it rests on, and not beyond
  * the second `until`: both are the least of each zone's step of the way, through all aliases. With other replies they are 0.
- * `verifications` and `hashes` are those of all judgements of the walk, in this call; with ZERMUITA_WANT, ZERMUITA_ASK and replies
- * that write nothing they are 0. With a refusal up to 27 `ede` says why, as with zermuita_judge of that answer; with
- * ZERMUITA_INSECURE it is that of zermuita_judge beside the delegation's DS records: 0 where it is proved that there is none.
- * `delegates` is 0.
+ * `verifications` and `hashes` are those of all judgements of the walk, in this call, also of those before ZERMUITA_WANT, ZERMUITA_ASK
+ * and ZERMUITA_TOO_MANY_SIGNATURES; with ZERMUITA_OUT_OF_MEMORY, ZERMUITA_MESSAGE_TOO_LONG and where octets cannot be read they are 0.
+ * With a refusal up to 27 `ede` says why, as with zermuita_judge of that answer; with ZERMUITA_INSECURE it is that of zermuita_judge
+ * beside the delegation's DS records: 0 where it is proved that there is none. `delegates` is 0.
  */
 static inline enum zermuita_reply zermuita_resolve(const struct zermuita_evidence *handed, uint8_t *out, size_t out_len,
                                                    struct zermuita_report *report) {

@@ -3,3 +3,4 @@ pub mod MessagesRead
 pub mod Walked
 pub mod SpelledEvidence
 pub mod Refused
+pub mod Asking

@@ -9,7 +9,7 @@ use Rattle.answer_judge_keys.specs.Judging.{JudgeInput}
 use Rattle.answer_judge_keys.specs.declared.verdict.Refusal.{Refusal}
 use Rattle.answer_judge_rules.specs.Rules.{verdict_of}
 use Rattle.answer_findings.specs.declared.finding.Lead.TheVariants as lead
-use Rattle.answer_judge_octets.specs.Replying.{AsksOrStops, Replied, code_of_refusal, code_of_verdict, error_of, octets_of_verdict, only, ttl_of, until_of}
+use Rattle.answer_judge_octets.specs.Replying.{IsAskReplied, Replied, code_of_refusal, code_of_verdict, counted, error_of, octets_of_verdict, only, ttl_of, until_of}
 use Rattle.answer_judge_octets.specs.declared.reply.ReplyCode.{ReplyCode}
 use Rattle.answer_judge_octets.specs.declared.reply.ReplyCode.TheVariants as c
 use Rattle.resolution_evidence.specs.Given.{Given, IsOf}
@@ -110,10 +110,10 @@ pub record IsEndReplied (second : ℕ) (e : Given) (asked : Asked) (w : Walk) (s
   pub is : said ≡ end_reply second w error
 
 -- What is replied to a walk: signatures that are asked for as entries, or that they are too many; messages that are wanted, one
--- behind another; or its end.
+-- behind another; or its end. Whichever it is, the counts are those of all judgements of the walk.
 abbrev pub IsEndSaid : ℕ → ℕ → ℕ → Given → Asked → Walk → Ending → Replied → Type 0
-IsEndSaid second most checked e asked w (ends.Asks asks) said = AsksOrStops (are_too_many most checked (length asks.items)) asks.items said
-IsEndSaid second most checked e asked w (ends.Wants ws) said = said ≡ record (only c.Want) { octets = flat_map wanted_octets ws.items }
+IsEndSaid second most checked e asked w (ends.Asks asks) said = IsAskReplied (are_too_many most checked (length asks.items)) asks.items w.counts.verifications w.counts.hashes said
+IsEndSaid second most checked e asked w (ends.Wants ws) said = said ≡ counted w.counts.verifications w.counts.hashes (record (only c.Want) { octets = flat_map wanted_octets ws.items })
 IsEndSaid second most checked e asked w ending said = IsEndReplied second e asked w said
 
 abbrev pub IsSaid : ℕ → ℕ → ℕ → Given → Asked → Walk → Replied → Type 0

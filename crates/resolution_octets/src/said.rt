@@ -3,9 +3,10 @@ ghost use Rattle.std.specs.Prelude.{◌≡◌, ◌++◌, ◌+◌, length, nat_lt
 ghost use Rattle.std.specs.List.{flat_map};
 ghost use Rattle.definitions.specs.Name.{wire};
 ghost use Rattle.messages.specs.Questions.{asked_of};
-ghost use Rattle.answer_judge_octets.specs.Replying.{only, reply_seen};
+ghost use Rattle.answer_judge_octets.specs.Replying.{IsAskReplied, counted, only, reply_seen};
 ghost use Rattle.resolution_octets.specs.Saying.{IsEndReplied, IsErrorOf, IsErrorOfEnd, IsSaid};
-ghost use Rattle.resolution_octets.specs.Saying.{code_of_end, most_of, names_octets};
+ghost use Rattle.resolution_octets.specs.Saying.{are_too_many, code_of_end, most_of};
+ghost use Rattle.resolution_octets.specs.Saying.{names_octets};
 ghost use Rattle.resolution_octets.specs.Saying.{octets_of_end, question_octets, sought_of};
 ghost use Rattle.resolution_octets.specs.Saying.{wanted_octets};
 
@@ -20,7 +21,7 @@ use denial_data::Ds;
 use messages::names::{Name, ZoneName, copy_name};
 use messages::question::Question;
 use names_rdata::rtype::Rtype;
-use resolution_walk::{Ending, Evidence, Refusal, Walk, Wanted, case_of};
+use resolution_walk::{Ask, Counts, Ending, Evidence, Refusal, Walk, Wanted, case_of};
 use std::alloc::{AllocError, Global};
 
 /// How many signatures may be checked where a caller says no number.
@@ -41,13 +42,10 @@ pub(crate) fn reply_of_walk(
         IfOk result (λ r. IsSaid second most checked e asked walk.now (reply_seen r)) }
 {
     match &walk.ending {
-        Ending::Asks(asks) => {
-            let stops = are_too_many(most, checked, asks.len());
-            reply_of_asks(alloc, asks, stops)
-        }
+        Ending::Asks(asks) => asked_for(alloc, most, checked, asks, walk.counts),
         Ending::Wants(wanted) => {
             let octets = octets_of_wanted(alloc, wanted)?;
-            Ok(replied(alloc, ReplyCode::Want, octets))
+            Ok(replied(alloc, ReplyCode::Want, octets, walk.counts))
         }
         _ => end_replied(alloc, second, evidence, question, walk),
     }
@@ -156,12 +154,44 @@ fn refused(
     }
 }
 
-/// A code with octets.
-fn replied(alloc: Global, code: ReplyCode, octets: Vec<u8>) -> Reply
-    ensures { reply_seen result ≡ record (only code) { octets = octets.items } }
+/// The reply that asks for signatures, or that they are too many, and how often was verified and
+/// hashed before.
+fn asked_for(
+    alloc: Global,
+    most: u32,
+    checked: usize,
+    asks: &[Ask],
+    counts: Counts,
+) -> Result<Reply, AllocError>
+    ensures { let stops = are_too_many most checked (length asks.now) in
+        let asked = IsAskReplied stops asks.now counts.verifications counts.hashes in
+        IfOk result (λ r. asked (reply_seen r)) }
+{
+    let stops = are_too_many(most, checked, asks.len());
+    let reply = reply_of_asks(alloc, asks, stops)?;
+    Ok(counted(reply, counts))
+}
+
+/// The reply, and how often was verified and hashed for it.
+fn counted(reply: Reply, counts: Counts) -> Reply
+    ensures { reply_seen result
+        ≡ counted counts.verifications counts.hashes (reply_seen reply) }
+{
+    let mut reply = reply;
+    reply.verifications = counts.verifications;
+    reply.hashes = counts.hashes;
+    reply
+}
+
+/// A code with octets, and how often was verified and hashed for it.
+fn replied(alloc: Global, code: ReplyCode, octets: Vec<u8>, sums: Counts) -> Reply
+    ensures { let said = record (only code) { octets = octets.items } in
+        reply_seen result ≡ counted sums.verifications sums.hashes said }
 {
     let mut reply = Reply::only(alloc, code);
     reply.octets = octets;
+    reply.verifications = sums.verifications;
+    reply.hashes = sums.hashes;
     reply
 }
 

@@ -16,7 +16,7 @@ use Rattle.answer_findings.specs.Found.{IsFound}
 use Rattle.answer_findings.specs.Judgements.{aside, asking}
 use Rattle.answer_findings.specs.Lasts.{least_of}
 use Rattle.answer_findings.specs.Seen.{Seen, SeesVerdict, SeesDelegated, SeesNoDs, SeesAlias, SeesStarAlias, SeesOpen, SeesDname, SeesReferral, lead_seen, seen}
-use Rattle.resolution_step.specs.Counted.{no_counts, plus}
+use Rattle.resolution_step.specs.Counted.{plus}
 use Rattle.resolution_step.specs.KnownDs.{known_ds}
 use Rattle.resolution_step.specs.declared.telling.Counts.{Counts}
 use Rattle.resolution_step.specs.declared.telling.Step.{Step}
@@ -65,11 +65,11 @@ lasting_of (f.Finds finding lasting verifications hashes) = lasting
 lasting_of (f.Refused refusal verifications hashes) = None
 lasting_of (f.Asks asks verifications hashes) = None
 
--- how often was verified and hashed for it; what is asked for is not counted
+-- how often was verified and hashed for it; where signatures are asked for, by the judgements that were made before
 abbrev pub counts_of : Found → Counts
 counts_of (f.Finds finding lasting verifications hashes) = record { verifications = verifications; hashes = hashes }
 counts_of (f.Refused refusal verifications hashes) = record { verifications = verifications; hashes = hashes }
-counts_of (f.Asks asks verifications hashes) = no_counts
+counts_of (f.Asks asks verifications hashes) = record { verifications = verifications; hashes = hashes }
 
 -- A search of a case's messages comes to this, which lasts so long and for which so often was verified and hashed.
 pub record IsSearched (table : List Checked) (h : JudgeInput) (came : Search) (lasting : Option Lasting) (counts : Counts) : Type 0 where

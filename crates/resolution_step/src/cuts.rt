@@ -9,7 +9,7 @@ ghost use Rattle.resolution_step.specs.Truth.{TellsCutTruly};
 
 use crate::canonical::canonical_name;
 use crate::known::bound;
-use crate::telling::{Counts, Step, Telling};
+use crate::telling::{Counts, Step, Telling, lasts};
 use answer_findings::{Case, CheckedSignature, DataList, Finding, Found, Verdict, find};
 use messages::names::Name;
 use std::alloc::{AllocError, Global};
@@ -60,29 +60,30 @@ fn searched_cut(
                 verifications,
                 hashes,
             };
-            Ok(Telling {
-                step,
-                lasting,
-                counts,
-            })
+            Ok(lasts(step, lasting, counts))
         }
         Found::Refused {
             refusal,
             verifications,
             hashes,
-        } => Ok(Telling {
-            step: Step::Untold(Some(refusal)),
-            lasting: None,
-            counts: Counts {
+        } => {
+            let counts = Counts {
                 verifications,
                 hashes,
-            },
-        }),
-        Found::Asks { asks, .. } => Ok(Telling {
-            step: Step::Asks(asks),
-            lasting: None,
-            counts: Counts::none(),
-        }),
+            };
+            Ok(lasts(Step::Untold(Some(refusal)), None, counts))
+        }
+        Found::Asks {
+            asks,
+            verifications,
+            hashes,
+        } => {
+            let counts = Counts {
+                verifications,
+                hashes,
+            };
+            Ok(lasts(Step::Asks(asks), None, counts))
+        }
     }
 }
 

@@ -11,7 +11,7 @@ ghost use Rattle.resolution_step.specs.Truth.{TellsTruly};
 
 use crate::cuts::cut_step;
 use crate::known::bound;
-use crate::telling::{Counts, Step, Telling, least_of};
+use crate::telling::{Counts, Step, Telling, lasts, least_of};
 use answer_findings::{
     Case, CheckedSignature, DataList, Finding, Found, Lasting, Lead, Verdict, find,
 };
@@ -72,19 +72,24 @@ fn searched_step(
             refusal,
             verifications,
             hashes,
-        } => Ok(Telling {
-            step: Step::Untold(Some(refusal)),
-            lasting: None,
-            counts: Counts {
+        } => {
+            let counts = Counts {
                 verifications,
                 hashes,
-            },
-        }),
-        Found::Asks { asks, .. } => Ok(Telling {
-            step: Step::Asks(asks),
-            lasting: None,
-            counts: Counts::none(),
-        }),
+            };
+            Ok(lasts(Step::Untold(Some(refusal)), None, counts))
+        }
+        Found::Asks {
+            asks,
+            verifications,
+            hashes,
+        } => {
+            let counts = Counts {
+                verifications,
+                hashes,
+            };
+            Ok(lasts(Step::Asks(asks), None, counts))
+        }
     }
 }
 
@@ -117,19 +122,6 @@ fn finding_step(
             let step = referral_step(alloc, case.question, algorithms, &cut, ds)?;
             Ok(lasts(step, lasting, counts))
         }
-    }
-}
-
-/// A step that lasts so long, and was counted so.
-fn lasts(step: Step, lasting: Option<Lasting>, counts: Counts) -> Telling
-    ensures step { told result.step ≡ told step }
-    ensures lasting { result.lasting ≡ lasting }
-    ensures counts { result.counts ≡ counts }
-{
-    Telling {
-        step,
-        lasting,
-        counts,
     }
 }
 

@@ -2,6 +2,7 @@
 ghost use Rattle.std.specs.Prelude.{◌≡◌};
 ghost use Rattle.answer_findings.specs.Lasts.{least, least_of};
 ghost use Rattle.resolution_step.specs.Counted.{no_counts, plus};
+ghost use Rattle.resolution_step.specs.Told.{told};
 
 use answer_findings::{Ask, DataList, Lasting, Lead, Refusal, Verdict};
 use denial_data::Ds;
@@ -40,7 +41,8 @@ pub enum Step {
     Asks(Vec<Ask>),
 }
 
-/// What a message tells, how long that lasts, and how often was verified and hashed for it.
+/// What a message tells, how long that lasts, and how often was verified and hashed for it: where
+/// signatures are asked for, by the judgements that were made before.
 #[derive(Debug, Drop)]
 pub struct Telling {
     pub step: Step,
@@ -75,6 +77,19 @@ impl Counts {
             verifications: self.verifications.saturating_add(other.verifications),
             hashes: self.hashes.saturating_add(other.hashes),
         }
+    }
+}
+
+/// A step that lasts so long, and was counted so.
+pub(crate) fn lasts(step: Step, lasting: Option<Lasting>, counts: Counts) -> Telling
+    ensures step { told result.step ≡ told step }
+    ensures lasting { result.lasting ≡ lasting }
+    ensures counts { result.counts ≡ counts }
+{
+    Telling {
+        step,
+        lasting,
+        counts,
     }
 }
 
