@@ -1,6 +1,7 @@
 pub mod Given
 pub mod Walking
 pub mod Truth
+pub mod Staying
 pub use Rattle.resolution_step.specs.Told
 pub use Rattle.resolution_step.specs.Counted
 pub use Rattle.resolution_step.specs.Lasts

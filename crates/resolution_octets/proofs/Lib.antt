@@ -3,4 +3,5 @@ pub mod MessagesRead
 pub mod Walked
 pub mod SpelledEvidence
 pub mod Refused
+pub mod Staying
 pub mod Asking

@@ -7,6 +7,7 @@
 mod canonical;
 mod cuts;
 mod known;
+pub mod laws;
 pub mod steps;
 pub mod telling;
 

@@ -3,3 +3,4 @@ pub mod Turning
 pub mod Stopping
 pub mod Onward
 pub mod Truly
+pub mod Staying

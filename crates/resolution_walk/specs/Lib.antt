@@ -4,3 +4,4 @@ pub mod Wanted
 pub mod Judged
 pub mod Stopping
 pub mod Truth
+pub mod Laws

@@ -6,6 +6,7 @@
 
 pub mod ending;
 pub mod evidence;
+pub mod laws;
 mod names_between;
 mod place;
 mod turns;
