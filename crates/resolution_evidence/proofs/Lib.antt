@@ -1,2 +1,3 @@
 pub mod Truly
 pub mod Staying
+pub mod Downward

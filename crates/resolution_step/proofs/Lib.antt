@@ -1,3 +1,4 @@
 pub mod Bound
 pub mod Truly
 pub mod Staying
+pub mod Downward

@@ -4,3 +4,4 @@ pub mod Stopping
 pub mod Onward
 pub mod Truly
 pub mod Staying
+pub mod Bounded

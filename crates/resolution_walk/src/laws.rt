@@ -1,5 +1,5 @@
 //! Laws of walks. Each is the contract of a function that does nothing.
-ghost use Rattle.resolution_walk.specs.Laws.{WalksAgree, WalksStayProved};
+ghost use Rattle.resolution_walk.specs.Laws.{WalksAgree, WalksStayProved, WalksWantFew};
 
 use resolution_evidence::laws::{evidence_agrees, evidence_stays_proved};
 
@@ -18,3 +18,12 @@ pub fn walks_agree()
 {
     evidence_agrees();
 }
+
+/// The messages that a walk wants are such as no message of its evidence answers: so what was
+/// wanted and is there is not wanted again. They are of one zone at or above the name at the end of
+/// aliases, and of those that may be wanted of it: its keys, its answer to the question, its answers
+/// for DS at the name and at the names above, two more than the name has labels. The evidence has
+/// fewer messages than the limit says.
+pub fn walks_want_few()
+    ensures { WalksWantFew }
+{}
