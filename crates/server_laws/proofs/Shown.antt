@@ -20,10 +20,9 @@ use Rattle.server_queries.specs.Headers.{has_flag}
 use Rattle.server_queries.specs.Queries.{Queried}
 use Rattle.server_queries.specs.Replies.{edns_octets, one_if_some, opt_bits, opt_octets}
 use Rattle.server_queries.specs.declared.edns.Edns.{Edns}
-use Rattle.server_responses.specs.Links.{is_authoritative, is_link_of, links_shown, shows_link}
+use Rattle.server_responses.specs.Links.{is_authoritative, is_link_of, shows_link}
 use Rattle.server_responses.specs.Responses.{answers_shown, authority_shown, counted, head_octets, is_dnssec_ok, reply_octets, response_flags, response_of, truncated_response, whole_response}
-use Rattle.server_responses.specs.Sections.{all_shown, answer_section, authority_section, is_added, is_soa_or_its_signature, negative_ttl, no_greater, shown, written_at}
-use Rattle.server_responses.specs.declared.records.Section.{Section}
+use Rattle.server_responses.specs.Sections.{answer_section, authority_section, is_added, is_soa_or_its_signature, negative_ttl, no_greater, written_at}
 use Rattle.server_laws.proofs.Alone.{SameButTtl, SignsOther, StandsAlone, records_alike, uncovered}
 use Rattle.server_laws.proofs.Framed.{answers_of, authority_of, flags_of, framed, message_framed, read_framed, records_of}
 use Rattle.server_laws.specs.Heard.{is_truncated}
@@ -65,6 +64,10 @@ ttl_with limit m r = cond (is_soa_or_its_signature m r) (no_greater limit r.ttl)
 
 abbrev shown_with : Option ℕ → List ℕ → Spelled → Written
 shown_with limit m r = written_at m (ttl_with limit m r) r
+
+-- what a choice comes to where its condition does not hold
+unless : {A : Type 0} (b : Bool) (held other same : A) → b ≡ false → other ≡ same → cond b held other ≡ same
+unless b held other same fails is = ap (λ x. cond x held other) fails ∙ is
 
 -- where each comes to one, all come to as many
 each_one : (f : Spelled → List Written) (g : Spelled → Written) → ((r : Spelled) → f r ≡ g r ∷ []) → (rs : List Spelled) → flat_map f rs ≡ map g rs
@@ -322,18 +325,14 @@ module _ (flags : ℕ) (asked : Asked) (answers authority : List Written) (m : L
   -- with DO nothing is left out of the answer section, nor of the authority section
   answers_are : answers_shown q m spelled_all ≡ map (shown_with None m) (answer_section m spelled_all)
   answers_are =
-      let section : Section = record { is_authority = false; dnssec_ok = is_dnssec_ok q; asked = q.asked.rtype; negative_ttl = None } in
-      ap (λ b. cond b (links_shown section m q.asked.name (authority_section m spelled_all)) (all_shown section m (answer_section m spelled_all))) silent
-      ∙ each_one (shown section m) (shown_with None m) (λ r. ap (λ b. cond (not b && (is_added r.rtype && not (eqb r.rtype q.asked.rtype))) [] (shown_with None m r ∷ [])) wanted) (answer_section m spelled_all)
+      unless _ _ _ _ silent (each_one _ (shown_with None m) (λ r. ap (λ b. cond (not b && (is_added r.rtype && not (eqb r.rtype q.asked.rtype))) [] (shown_with None m r ∷ [])) wanted) (answer_section m spelled_all))
 
   abbrev kept_for : Option ℕ
   kept_for = negative_ttl m (authority_section m spelled_all)
 
   authority_are : authority_shown q m spelled_all ≡ map (shown_with kept_for m) (authority_section m spelled_all)
   authority_are =
-      let section : Section = record { is_authority = true; dnssec_ok = is_dnssec_ok q; asked = q.asked.rtype; negative_ttl = kept_for } in
-      ap (λ b. cond b [] (all_shown section m (authority_section m spelled_all))) silent
-      ∙ each_one (shown section m) (shown_with kept_for m) (λ r. ap (λ b. cond (not b && (is_added r.rtype || eqb r.rtype 43)) [] (shown_with kept_for m r ∷ [])) wanted) (authority_section m spelled_all)
+      unless _ _ _ _ silent (each_one _ (shown_with kept_for m) (λ r. ap (λ b. cond (not b && (is_added r.rtype || eqb r.rtype 43)) [] (shown_with kept_for m r ∷ [])) wanted) (authority_section m spelled_all))
 
   shown_answers : AllZip SameButTtl answers (answers_shown q m spelled_all)
   shown_answers = subst (AllZip SameButTtl answers) (sym (answers_are ∙ ap (map (shown_with None m)) first_part)) (same_shown None m place answers both_datas.0)
