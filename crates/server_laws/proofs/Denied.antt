@@ -129,20 +129,8 @@ denials_judged s q old new octets h d none =
     let made = subst (λ (b : Bool). IsMessage s (reserved q.asked) false b d.0.m) h.wanted d.0.is_message in
     typed_judged s q octets h 65535 (lit< tt) refl d.0.m none (made.0 (sign_by s.table) (verify_by s.table) (own_entries s.table)).0 d.1.each d.1.answers
 
--- a question for other types than NSEC
-unlinked : (q : Queried) (m : List ℕ) (r : Result Message MessageError) → eqb q.asked.rtype 47 ≡ false → has_link_in q m r ≡ false
-unlinked q m (Err e) other = refl
-unlinked q m (Ok read) other = unasked q m read.records other
-
-all_other : (t : ℕ) → among (46 ∷ 255 ∷ []) t ≡ true → eqb t 47 ≡ false
-all_other t e =
-    ⊎_elim
-    (λ h. ap (λ k. eqb k 47) (eqb-true t 46 h))
-    (λ h. ⊎_elim (λ k. ap (λ n. eqb n 47) (eqb-true t 255 k)) (λ k. absurd (false≢true k)) (or_cases (eqb t 255) false h))
-    (or_cases (eqb t 46) (eqb t 255 || false) e)
-
 pub subsets_judged : SubsetsJudgedAlike
-subsets_judged s q old new octets h all d small =
+subsets_judged s q old new octets h d silent small =
     let signs : wants_signatures q ≡ true = ap (λ b. b || eqb q.asked.rtype 46) h.wanted in
     let made = subst (λ (b : Bool). IsMessage s (for_type d.t q.asked) false b d.m) signs d.is_message in
-    typed_judged s q octets h d.t small (chosen_plain s.world s.keys s.at q.asked d.t d.chosen) d.m (unlinked q d.m (message pointer_limit d.m) (all_other q.asked.rtype all)) (made.0 (sign_by s.table) (verify_by s.table) (own_entries s.table)).0 d.answers.each d.answers.answers
+    typed_judged s q octets h d.t small (chosen_plain s.world s.keys s.at q.asked d.t d.chosen) d.m silent (made.0 (sign_by s.table) (verify_by s.table) (own_entries s.table)).0 d.answers.each d.answers.answers

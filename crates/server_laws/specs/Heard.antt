@@ -22,7 +22,7 @@ use Rattle.server_queries.specs.Queries.{Queried}
 use Rattle.server_responses.specs.Links.{shows_link}
 use Rattle.server_responses.specs.Responses.{is_dnssec_ok}
 use Rattle.server_answers.specs.Responding.{IsAnswered, Serving}
-use Rattle.server_answers.specs.Subset.{IsSubset, asks_all}
+use Rattle.server_answers.specs.Subset.{IsSubset}
 use Rattle.server_answers.specs.Unheld.{IsDenied}
 
 -- the zone of a world is one of records that were handed in and accepted
@@ -82,10 +82,10 @@ DenialsJudgedAlike =
     → (a : Answers) (h : JudgeInput) → h.other_question ≡ true → judged a pointer_limit (record h { answer_bytes = octets }) ≡ judged a pointer_limit (record h { answer_bytes = d.0.m })
 
 -- The response to a question for all records or signatures of a name is made of the message for the type that is chosen, a number of 16
--- bits: such a judge says of it what it says of that message.
+-- bits: such a judge says of it what it says of that message. Only a question for NSEC has a response that shows an NSEC record so.
 abbrev pub SubsetsJudgedAlike : Type 0
 SubsetsJudgedAlike =
-    (s : Serving) (q : Queried) (old new : Option ℕ) (octets : List ℕ) → HoldsAll s q octets → asks_all q.asked ≡ true → (d : IsSubset s q old new octets) → d.t < 65536
+    (s : Serving) (q : Queried) (old new : Option ℕ) (octets : List ℕ) → HoldsAll s q octets → (d : IsSubset s q old new octets) → is_link_shown q d.m ≡ false → d.t < 65536
     → (a : Answers) (h : JudgeInput) → h.other_question ≡ true → judged a pointer_limit (record h { answer_bytes = octets }) ≡ judged a pointer_limit (record h { answer_bytes = d.m })
 
 -- What a zone under keys that meet has given, a DNSKEY answer and an answer, is judged by its clients as it is: from the whole responses
