@@ -1,7 +1,7 @@
 /*
  * The lines of a journal for a master file (RFC 1035, 5) whose entries are a line each: [OWNER] [TTL] [IN] TYPE DATA, with $ORIGIN and
- * $TTL in front. Types: A, AAAA, NS, SOA, MX, TXT, and any other as TYPE and its number with data as octets (RFC 3597, 5). Names have
- * no escapes. `./explain --zone FILE` reads the files that this does not.
+ * $TTL in front. Types: A, AAAA, CNAME, DNAME, MX, NS, PTR, SOA, SRV, TXT, and any other as TYPE and its number with data as octets
+ * (RFC 3597, 5). Names have no escapes. `./explain --zone FILE` reads the files that this does not.
  */
 #ifndef MASTER_H
 #define MASTER_H
@@ -64,11 +64,7 @@ static bool put_number(struct master *master, const char *text, size_t width) {
 }
 
 /* A name in wire form, each label behind its length. */
-static bool put_name(struct master *master, const char *text) {
-    char name[256];
-    if (!full_name(master, text, name)) {
-        return false;
-    }
+static bool put_full_name(struct master *master, const char *name) {
     for (const char *label = name; *label != 0 && strcmp(label, ".") != 0;) {
         size_t len = strcspn(label, ".");
         uint8_t head = (uint8_t)len;
@@ -78,6 +74,23 @@ static bool put_name(struct master *master, const char *text) {
         label += len + (label[len] == '.');
     }
     return put_octets(master, "", 1);
+}
+
+static bool put_name(struct master *master, const char *text) {
+    char name[256];
+    return full_name(master, text, name) && put_full_name(master, name);
+}
+
+/* The same in lower case, as data of these types are signed by others (RFC 4034, 6.2). The library does so itself for NS and SOA alone. */
+static bool put_lower_name(struct master *master, const char *text) {
+    char name[256];
+    if (!full_name(master, text, name)) {
+        return false;
+    }
+    for (char *letter = name; *letter != 0; letter++) {
+        *letter = (char)tolower((unsigned char)*letter);
+    }
+    return put_full_name(master, name);
 }
 
 static bool put_address(struct master *master, int family, const char *text) {
@@ -131,8 +144,17 @@ static unsigned put_data(struct master *master, size_t from) {
             is_put = is_put && put_number(master, data[i], 4);
         }
         return is_put ? 6 : 0;
+    } else if (strcmp(type, "CNAME") == 0 && count == 1) {
+        return put_lower_name(master, data[0]) ? 5 : 0;
+    } else if (strcmp(type, "PTR") == 0 && count == 1) {
+        return put_lower_name(master, data[0]) ? 12 : 0;
+    } else if (strcmp(type, "DNAME") == 0 && count == 1) {
+        return put_lower_name(master, data[0]) ? 39 : 0;
     } else if (strcmp(type, "MX") == 0 && count == 2) {
-        return put_number(master, data[0], 2) && put_name(master, data[1]) ? 15 : 0;
+        return put_number(master, data[0], 2) && put_lower_name(master, data[1]) ? 15 : 0;
+    } else if (strcmp(type, "SRV") == 0 && count == 4) {
+        bool is_put = put_number(master, data[0], 2) && put_number(master, data[1], 2) && put_number(master, data[2], 2);
+        return is_put && put_lower_name(master, data[3]) ? 33 : 0;
     } else if (strcmp(type, "TXT") == 0 && count >= 1) {
         return put_texts(master, from + 1) ? 16 : 0;
     } else if (strcmp(type, "AAAA") == 0 && count == 1) {

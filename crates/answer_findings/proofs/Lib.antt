@@ -5,5 +5,4 @@ pub mod Beside
 pub mod Truly
 pub mod Within
 pub mod Searched
-pub mod Exchanging
 pub use Rattle.answer_judge_table.proofs.AsksGrow

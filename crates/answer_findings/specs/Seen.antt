@@ -6,6 +6,7 @@ use Rattle.denial_laws.specs.Leading.{To, TooLong, exchanged}
 use Rattle.denial_laws.specs.Leading as leading
 use Rattle.messages.specs.Message.{Asked}
 use Rattle.messages.specs.NameOctets.{name_of_octets}
+use Rattle.answer_shared.specs.Redirection.{lead_seen}
 use Rattle.answer_judge_rules.specs.Rules.{verdict_of}
 use Rattle.answer_judge_keys.specs.Judging.{Answer, Says, Refuses, JudgeInput, answer_of, hashes_of, verifications_of}
 use Rattle.answer_judge_keys.specs.declared.verdict.Judgement.{Judgement}
@@ -13,8 +14,6 @@ use Rattle.answer_judge_keys.specs.declared.verdict.Refusal.{Refusal}
 use Rattle.answer_judge_keys.specs.declared.verdict.Refused.{Refused}
 use Rattle.answer_findings.specs.declared.finding.Finding.{Finding}
 use Rattle.answer_findings.specs.declared.finding.Finding.TheVariants as f
-use Rattle.answer_findings.specs.declared.finding.Lead.{Lead}
-use Rattle.answer_findings.specs.declared.finding.Lead.TheVariants as l
 use Rattle.answer_findings.specs.declared.made.Made.{Made}
 use Rattle.answer_findings.specs.declared.made.Judgements.{Judgements}
 use Rattle.answer_findings.specs.Judgements.{is_delegated, is_no_type, is_not_proven, question_of, says_delegated}
@@ -29,10 +28,6 @@ pub data Seen : Type 0 where
   SeesOpen : Seen
   SeesDname : Name → leading.Lead → Seen
   SeesReferral : Name → List (List ℕ) → Seen
-
-abbrev pub lead_seen : Lead → leading.Lead
-lead_seen (l.To n) = To n
-lead_seen l.TooLong = TooLong
 
 abbrev pub seen : Finding → Seen
 seen (f.Verdict v) = SeesVerdict (verdict_of v)

@@ -1,15 +1,7 @@
 //! What is found.
 use answer_judge_table::{Ask, DataList, Lasting, Refusal, Verdict};
+use answer_shared::redirection::Lead;
 use messages::names::Name;
-
-/// Where a DNAME leads a name below its owner (RFC 6672, 2.2).
-#[derive(Debug, Drop)]
-pub enum Lead {
-    /// To the name with the owner's labels exchanged for the target.
-    To(Name<Vec<u8>>),
-    /// To none: it would have more than 255 octets.
-    TooLong,
-}
 
 /// What an answer is found to say.
 #[derive(Debug, Drop)]

@@ -1,18 +1,16 @@
 //! Where an alias leads that a judgement proves.
-ghost use Rattle.std.specs.Prelude.{◌≡◌, IfOk, true};
+ghost use Rattle.std.specs.Prelude.{◌≡◌, IfOk};
 ghost use Rattle.std.specs.Option.{option_map};
-ghost use Rattle.definitions.specs.Name.{at_or_above};
-ghost use Rattle.denial_laws.specs.Leading.{exchanged};
 ghost use Rattle.answer_findings.specs.Judgements.{question_of};
-ghost use Rattle.answer_findings.specs.Seen.{lead_found, lead_seen, named_lead, one_name, open_lead};
+ghost use Rattle.answer_findings.specs.Seen.{lead_found, named_lead, one_name, open_lead};
 ghost use Rattle.answer_findings.specs.Seen.{own_lead, seen, star_lead};
 
-use crate::finding::{Finding, Lead};
+use crate::finding::Finding;
 use crate::made::Made;
 use answer_judge_table::{Case, DataList, Verdict};
+use answer_shared::redirection::exchanged;
 use messages::names::{Name, copy_name, is_above, name_from_octets};
 use names_rdata::rtype::Rtype;
-use names_traits::chain::Chain;
 use std::alloc::{AllocError, Global};
 
 /// Where the name leads that a judgement shows to be an alias, or that opt-out leaves it open, if it
@@ -101,24 +99,5 @@ fn one_name(alloc: Global, datas: &DataList) -> Result<Option<Name<Vec<u8>>>, Al
     match datas.as_slice() {
         [datum] => name_from_octets(alloc, datum),
         _ => Ok(None),
-    }
-}
-
-/// The name with its last labels, those of a name above it, exchanged for others (RFC 6672, 2.2).
-fn exchanged(
-    alloc: Global,
-    name: &Name<Vec<u8>>,
-    owner: &Name<Vec<u8>>,
-    target: &Name<Vec<u8>>,
-) -> Result<Lead, AllocError>
-    requires above { at_or_above owner.now name.now ≡ true }
-    ensures { IfOk result (λ l. lead_seen l ≡ exchanged name.now owner.now target.now) }
-{
-    let Ok(front) = copy_name(alloc, name)?.strip_suffix(owner) else {
-        return Ok(Lead::TooLong);
-    };
-    match Chain::new(front, target.for_ref()) {
-        Ok(chain) => Ok(Lead::To(copy_name(alloc, &chain)?)),
-        Err(_) => Ok(Lead::TooLong),
     }
 }

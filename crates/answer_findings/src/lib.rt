@@ -15,10 +15,11 @@ mod sought;
 mod weighed;
 
 pub use crate::asked::first_question;
-pub use crate::finding::{Finding, Found, Lead};
+pub use crate::finding::{Finding, Found};
 pub use crate::finds::find;
 pub use crate::made::case_for;
 pub use answer_judge_table::{
     Ask, Case, CheckedSignature, DataList, Lasting, Outcome, Refusal, Verdict, digest, entry_of,
     judge_by_table,
 };
+pub use answer_shared::redirection::Lead;

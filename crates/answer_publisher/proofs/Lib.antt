@@ -10,3 +10,5 @@ pub mod WritesGiven
 pub mod SignRecords
 pub mod SignMade
 pub mod InputsMade
+pub mod Answered
+pub mod AliasOf

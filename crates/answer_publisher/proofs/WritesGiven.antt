@@ -13,7 +13,8 @@ use Rattle.answer_shared.specs.GroupView.{GroupView, Presents}
 use Rattle.answer_shared.specs.Hashing.{Hasher, hash_in, served}
 use Rattle.answer_shared.specs.Served.{Group, answer_groups, by_tag, key_group, keys_ttl}
 use Rattle.messages.specs.WrittenLaws.{IsQuestion}
-use Rattle.answer_shared.specs.ZoneView.{AcceptedZone, IsPublished}
+use Rattle.answer_shared.specs.ZoneView.{AcceptedZone}
+use Rattle.answer_zone_records.specs.ZoneInOrder.{AreZoneRecords}
 use Rattle.answer_publisher.proofs.WritesAnswer.{answer_gives}
 use Rattle.answer_publisher.proofs.WritesGroups.{IsFormed}
 use Rattle.answer_publisher.proofs.WritesData.{of_chain}
@@ -35,7 +36,7 @@ named_both (v ∷ vs) ws n m = (n.0, named_both vs ws n.1 m)
 
 -- the zone's answer to a question
 pub answer_given : (sign : Dnskey → List ℕ → Option (List ℕ)) (verifies : Dnskey → List ℕ → List ℕ → Bool) (hash : Hasher) (z : AcceptedZone) (at life flags : ℕ) (signers : List Dnskey) (asked : Asked) (answer authority : List GroupView) (m : List ℕ)
-    → IsPublished z.apex z.records → AreHanded z.apex z.records → IsQuestion asked → of_chain asked.rtype ≡ false
+    → AreZoneRecords z.apex z.records → AreHanded z.apex z.records → IsQuestion asked → of_chain asked.rtype ≡ false
     → AllByRecursion NamedView answer → AllByRecursion NamedView authority → AllZip Presents (answer ++ authority) (answer_groups (served hash z) asked.name asked.rtype)
     → IsAnswer sign verifies z.apex at life (by_tag signers) flags asked answer authority m → GivesAnswer verifies pointer_limit (served hash z) z.apex signers at life asked m
 answer_given sign verifies hash z at life flags signers asked answer authority m published handed is plain owners others presents written =

@@ -1,4 +1,4 @@
--- The RRsets that an accepted zone answers with read back.
+-- The RRsets that a zone answers with read back.
 use Rattle.std.proofs.Common.{◌≡◌, ℕ, ◌<◌, Bool, true, false, ◌&&◌, List, [], ◌∷◌, ◌++◌, map, refl, sym, subst, ap, ◌∙◌, cond, eqb, lit<}
 use Rattle.std.specs.Prelude.{Option, Some, None, ◌||◌}
 use Rattle.std.specs.List.{AllByRecursion, AllZip, filter, list_any}
@@ -15,7 +15,8 @@ use Rattle.answer_shared.specs.Accepting.{zone_with}
 use Rattle.messages.specs.Handed.{AreHanded, IsHanded}
 use Rattle.answer_shared.specs.GroupView.{all_spelled_by, spelled_by}
 use Rattle.answer_shared.specs.Served.{Group, Served, ahead, ahead_open, answer_groups, chain_names, chain_record, chain_ttl, if_any, key_data, key_group, owned_by, owner_among, proofs_of, rrset, served_of, served_owner, soa, speaks_for, spelled_among, spoken, ttl_among, under, unsigned_ns, written_among, written_of_handed, written_rr}
-use Rattle.answer_shared.specs.ZoneView.{IsPublished, is_of}
+use Rattle.answer_shared.specs.ZoneView.{is_of}
+use Rattle.answer_zone_records.specs.ZoneInOrder.{AreZoneRecords}
 use Rattle.answer_publisher.proofs.WritesAnswer.{all_behind}
 use Rattle.answer_publisher.proofs.WritesData.{all_plain, of_chain, reads_handed, reads_nsec, reads_nsec3}
 use Rattle.answer_publisher.proofs.WritesGroups.{IsFormed}
@@ -59,7 +60,7 @@ one_by_one : (own : Bool) (owner : Name) (rs : List HandedRr) → all_spelled_by
 one_by_one true owner rs = refl
 one_by_one false owner rs = map-map (owned_by owner) written_of_handed rs
 
-rrset_read : (own : Bool) (g : Group) (apex : Name) (rs : List HandedRr) → IsPublished apex rs → AreHanded apex rs → (q : Name) → IsName g.owner → NamesIt own g q → of_chain g.rtype ≡ false
+rrset_read : (own : Bool) (g : Group) (apex : Name) (rs : List HandedRr) → AreZoneRecords apex rs → AreHanded apex rs → (q : Name) → IsName g.owner → NamesIt own g q → of_chain g.rtype ≡ false
     → AllZip (ReadsRecord g) (all_spelled_by own g.owner (written_among rs (low q) g.rtype)) (data_at (zone_with apex rs) (low q) g.rtype)
 rrset_read own g apex rs p h q name n plain =
     let xs : List HandedRr = filter (is_of q g.rtype) rs in
@@ -72,7 +73,7 @@ ttls rs h = all_more IsHanded (λ r. r.ttl < 4294967296) rs (λ r is. is.ttl) h
 ttl_fits : (apex : Name) (rs : List HandedRr) → AreHanded apex rs → (o : Name) (t : ℕ) → ttl_among rs o t < 4294967296
 ttl_fits apex rs h o t = ttl_small 4294967296 (lit< tt) rs o t (ttls rs h.records_are)
 
-module _ (apex : Name) (mode : Mode) (hash : Name → List ℕ) (rs : List HandedRr) (p : IsPublished apex rs) (h : AreHanded apex rs) where
+module _ (apex : Name) (mode : Mode) (hash : Name → List ℕ) (rs : List HandedRr) (p : AreZoneRecords apex rs) (h : AreHanded apex rs) where
   ttl_served : (o : Name) (t : ℕ) → (served_of apex mode hash rs).ttl_of o t < 4294967296
   ttl_served o t = either (λ n. n < 4294967296) (eqb t 47 || eqb t 50) (chain_ttl apex rs) (ttl_among rs o t) (chain_small 4294967296 (lit< tt) apex rs (ttls rs h.records_are)) (ttl_fits apex rs h o t)
 
@@ -247,7 +248,7 @@ joined_formed [] hs f more = more
 joined_formed (g ∷ gs) hs f more = (f.0, joined_formed gs hs f.1 more)
 
 -- whatever the verdict, and whichever chain
-pub answer_formed : (apex : Name) (mode : Mode) (hash : Name → List ℕ) (rs : List HandedRr) → IsPublished apex rs → AreHanded apex rs → (q : Name) (t : ℕ) → IsName q → t < 65536 → of_chain t ≡ false
+pub answer_formed : (apex : Name) (mode : Mode) (hash : Name → List ℕ) (rs : List HandedRr) → AreZoneRecords apex rs → AreHanded apex rs → (q : Name) (t : ℕ) → IsName q → t < 65536 → of_chain t ≡ false
     → AllByRecursion Named (answer_groups (served_of apex mode hash rs) q t) → AllByRecursion IsFormed (answer_groups (served_of apex mode hash rs) q t)
 answer_formed apex mode hash rs p h q t name small plain names =
     let s = served_of apex mode hash rs in

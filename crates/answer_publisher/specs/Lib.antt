@@ -6,3 +6,4 @@ pub mod AnswerFaults
 pub mod Answering
 pub mod World
 pub mod Inputs
+pub mod Aliases

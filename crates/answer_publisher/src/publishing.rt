@@ -1,7 +1,7 @@
 //! The publisher.
-ghost use Rattle.std.specs.Prelude.{◌≡◌, ◌⊎◌, ◌<◌, ◌≤◌, ◌^◌, ◌↔◌, [], map, length, string_bytes, IfOk, IfErr, IsErrOf, OnErr, OnOk, Some, None, option_copied, false};
+ghost use Rattle.std.specs.Prelude.{◌≡◌, ◌⊎◌, ◌<◌, ◌≤◌, ◌^◌, ◌↔◌, [], map, length, string_bytes, IfOk, IfErr, IsErrOf, OnErr, OnOk, Some, None, option_copied, false, true};
 ghost use Rattle.std.specs.List.{AllByRecursion};
-ghost use Rattle.definitions.specs.Name.{IsName, low};
+ghost use Rattle.definitions.specs.Name.{IsName, at_or_above, low};
 ghost use Rattle.messages.specs.Handed.{IsHanded};
 ghost use Rattle.answer_shared.specs.Asking.{is_allowed};
 ghost use Rattle.messages.specs.Questions.{asked_of};
@@ -10,6 +10,7 @@ ghost use Rattle.answer_shared.specs.GroupView.{Presents};
 ghost use Rattle.answer_shared.specs.Accepted.{IsAccepted};
 ghost use Rattle.answer_zone_records.specs.Faults.{RefusesZone};
 ghost use Rattle.answer_zone.specs.HashedZone.{accepted_zone};
+ghost use Rattle.answer_zone.specs.Questions.{IsPlain};
 ghost use Rattle.answer_shared.specs.ModeView.{mode_of};
 ghost use Rattle.messages.specs.HandedRr.{handed_of};
 ghost use Rattle.keyset.specs.KeyState.{text_of, is_available};
@@ -50,6 +51,7 @@ use std::convert::AsStr;
 use std::slice;
 use std::time::Duration;
 
+pub mod aliases;
 mod calls;
 mod inputs;
 mod replacing;
@@ -256,7 +258,7 @@ impl<'a, S: Scheme, H: Nsec3Hasher> Publisher<'a, S, H> {
         Ok(message)
     }
 
-    /// The message of an answer, signed by a scheme.
+    /// The message of an answer to a question that is allowed, signed by a scheme.
     fn message<T: Scheme>(
         &self,
         scheme: &T,
@@ -281,11 +283,40 @@ impl<'a, S: Scheme, H: Nsec3Hasher> Publisher<'a, S, H> {
             let w = world_with T.signature_of T.verifies S.digest_of H.hash_of t p in
             OnOk result (HashesNames w (asked_of question.now)) }
     {
-        self.zone.keeps();
-        question.keeps();
         if !is_allowed(self.zone.apex(), question) {
             return Err(AnswerFault::QuestionNotAllowed);
         }
+        self.plain_message(scheme, question, now)
+    }
+
+    /// The message of an answer to a question inside for another type than those of the chain,
+    /// signed by a scheme.
+    fn plain_message<T: Scheme>(
+        &self,
+        scheme: &T,
+        question: &Question,
+        now: &UnixTime,
+    ) -> Result<Vec<u8>, AnswerFault>
+        requires plain { IsPlain question.now.rtype }
+        requires inside { at_or_above self.now.zone.apex question.now.name ≡ true }
+        ensures allowed { IsErrOf result AnswerFault.QuestionNotAllowed → ⊥ }
+        ensures fault { let p = self.now in let t = scheme.now in
+            let w = world_with T.signature_of T.verifies S.digest_of H.hash_of t p in
+            IfErr result (RefusesQuestion w p.keys now.now (asked_of question.now)) }
+        ensures bytes { let p = self.now in let t = scheme.now in
+            let w = world_with T.signature_of T.verifies S.digest_of H.hash_of t p in
+            let asked = asked_of question.now in
+            IfOk result (λ m. AnswersQuestion w p.keys now.now asked m.items) }
+        ensures given { let p = self.now in let t = scheme.now in
+            let w = world_with T.signature_of T.verifies S.digest_of H.hash_of t p in
+            let asked = asked_of question.now in
+            IfOk result (λ m. SpellsAnswer w p.keys now.now asked m.items) }
+        ensures hashed { let p = self.now in let t = scheme.now in
+            let w = world_with T.signature_of T.verifies S.digest_of H.hash_of t p in
+            OnOk result (HashesNames w (asked_of question.now)) }
+    {
+        self.zone.keeps();
+        question.keeps();
         let found = self
             .zone
             .answer_to(self.alloc, &question.name, question.rtype)?;

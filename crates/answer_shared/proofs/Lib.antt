@@ -17,3 +17,4 @@ pub mod ZoneNaming
 pub mod ZoneCutNames
 pub mod Digits
 pub mod HashOwners
+pub mod Exchanging

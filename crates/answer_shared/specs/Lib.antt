@@ -17,3 +17,4 @@ pub mod Servable
 pub mod Chainable
 pub mod Accepted
 pub mod HashOwner
+pub mod Redirection

@@ -26,8 +26,8 @@ pub fn is_allowed(apex: &Name<Vec<u8>>, question: &Question) -> bool
 /// Whether a question is one for the records of aliases: CNAME or DNAME (RFC 1034, 3.6.2;
 /// RFC 6672), class IN, at or below the apex.
 ///
-/// A publisher answers none of these, since its zones have no aliases. A judge may be asked: what a
-/// zone says of these types is signed as what it says of others.
+/// What a zone says of these types is signed as what it says of others: a publisher answers them by
+/// a call of its own, and a judge may be asked.
 pub fn asks_alias(apex: &Name<Vec<u8>>, question: &Question) -> bool
     ensures { result ≡ asks_alias apex.now (asked_of question.now) }
 {

@@ -8,3 +8,5 @@ pub mod Failures
 pub mod Enclosers
 pub mod Concerned
 pub mod Replies
+pub mod Redirecting
+pub mod Found

@@ -3,5 +3,6 @@ pub mod Contents
 pub mod Around
 pub mod Cuts
 pub mod ZoneAnswers
+pub mod Finding
 pub mod Placed
 pub mod Questions

@@ -6,8 +6,8 @@ ghost use Rattle.messages.specs.Handed.{AreHanded, IsHanded};
 ghost use Rattle.messages.specs.HandedRr.{handed_of};
 ghost use Rattle.answer_shared.specs.Accepted.{IsAccepted};
 ghost use Rattle.answer_shared.specs.Accepting.{sorted_records};
-ghost use Rattle.answer_shared.specs.ZoneView.{IsPublished};
 ghost use Rattle.answer_zone_records.specs.Faults.{RefusesZone, first_fault};
+ghost use Rattle.answer_zone_records.specs.ZoneInOrder.{AreZoneRecords};
 ghost use Rattle.answer_shared.specs.ModeView.{mode_of};
 
 use crate::zone::contents::contents_of;
@@ -23,14 +23,16 @@ use plain::Ttl;
 use std::alloc::Global;
 use std::marker::Model;
 
+mod aliases;
 pub mod answers;
 mod around;
 mod asked;
 mod contents;
+mod finding;
 mod lookups;
 mod open_answers;
 
-/// The records of an accepted zone in canonical order, and its chain with the TTL of its records.
+/// The records of a zone in canonical order, and its chain with the TTL of its records.
 /// The chain is that of one hasher, which is borrowed for as long as the zone is kept: names of
 /// questions are hashed by no other.
 #[derive(Drop)]
@@ -42,17 +44,19 @@ pub struct ZoneRecords<'h, H: Nsec3Hasher> {
     kept: Vec<Name<Vec<u8>>>,
     chain: Chain,
     link_ttl: Ttl,
+    has_aliases: bool,
     hasher: &'h H,
 }
 
 impl<'h, H: Nsec3Hasher> Model for ZoneRecords<'h, H> {
     ghost use Rattle.messages.specs.Handed.{AreHanded};
     ghost use Rattle.std.specs.Prelude.{◌≡◌, true, map};
-    ghost use Rattle.std.specs.List.{AllByRecursion};
+    ghost use Rattle.std.specs.List.{AllByRecursion, list_any};
     ghost use Rattle.definitions.specs.ZoneChain.{optout_of};
     ghost use Rattle.messages.specs.HandedRr.{handed_of};
+    ghost use Rattle.answer_shared.specs.Accepting.{is_alias};
     ghost use Rattle.answer_shared.specs.Served.{chain_ttl};
-    ghost use Rattle.answer_shared.specs.ZoneView.{IsPublished};
+    ghost use Rattle.answer_zone_records.specs.ZoneInOrder.{AreZoneRecords};
     ghost use Rattle.answer_zone.specs.HashedZone.{HashedZone};
     ghost use Rattle.answer_zone_records.specs.MadeLinks.{IsChain};
     ghost use Rattle.answer_shared.specs.ModeView.{mode_of};
@@ -69,13 +73,14 @@ impl<'h, H: Nsec3Hasher> Model for ZoneRecords<'h, H> {
       hasher = z.hasher.now;
     } };
 
-    ghost invariant = { λ z. IsPublished z.apex (map handed_of z.records)
+    ghost invariant = { λ z. AreZoneRecords z.apex (map handed_of z.records)
         × AreHanded z.apex (map handed_of z.records)
         × IsChain (H.hash_of z.hasher.now) z.apex (mode_of z.mode) (map handed_of z.records) z.chain
         × (z.link_ttl ≡ chain_ttl z.apex (map handed_of z.records))
         × AllByRecursion IsInternet z.records
         × (optout_of (mode_of z.mode) ≡ true
-        → KeepsNames z.apex (map handed_of z.records) z.kept.items) };
+        → KeepsNames z.apex (map handed_of z.records) z.kept.items)
+        × (z.has_aliases ≡ list_any is_alias (map handed_of z.records)) };
 }
 
 impl<'h, H: Nsec3Hasher> ZoneRecords<'h, H> {
@@ -114,6 +119,7 @@ impl<'h, H: Nsec3Hasher> ZoneRecords<'h, H> {
             kept: contents.kept,
             chain: contents.chain,
             link_ttl: contents.link_ttl,
+            has_aliases: contents.has_aliases,
             hasher,
         })
     }
@@ -147,6 +153,7 @@ impl<'h, H: Nsec3Hasher> ZoneRecords<'h, H> {
         self.kept = contents.kept;
         self.chain = contents.chain;
         self.link_ttl = contents.link_ttl;
+        self.has_aliases = contents.has_aliases;
         Ok(())
     }
 
@@ -172,9 +179,9 @@ impl<'h, H: Nsec3Hasher> ZoneRecords<'h, H> {
         self.hasher
     }
 
-    /// What every accepted zone keeps. It does nothing.
+    /// What every zone keeps. It does nothing.
     pub fn keeps(&self)
-        ensures published { IsPublished self.now.apex self.now.records }
+        ensures published { AreZoneRecords self.now.apex self.now.records }
         ensures handed { AreHanded self.now.apex self.now.records }
     {
         let _ = &self.apex;

@@ -3,12 +3,15 @@ pub mod ZoneTtls
 pub mod ZoneFaults
 pub mod ZoneWords
 pub mod ZoneMade
+pub mod ZoneInOrder
 pub mod HashedMade
 pub mod ZoneLinks
 pub mod ZoneGroups
 pub mod OwnedFacts
 pub mod Rrsets
 pub mod Neighboured
+pub mod Targets
+pub mod Disorder
 pub mod Picked
 pub mod Rounds
 pub mod Led

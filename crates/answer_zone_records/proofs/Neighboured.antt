@@ -3,7 +3,7 @@ use Rattle.std.proofs.Common.{◌≡◌, ℕ, zero, suc, ◌-◌, ◌<◌, ◌�
 use Rattle.std.specs.Borrow.{Bor}
 use Rattle.std.specs.List.{Contains, list_any}
 use Rattle.std.specs.List.Sorted.{IsPartitionPoint, IsPartitionedBy}
-use Rattle.std.specs.Ordering.{is_lt, ordering_reverse}
+use Rattle.std.specs.Ordering.{is_le, is_lt, ordering_reverse}
 use Rattle.std.specs.declared.cmp.Ordering.{Ordering}
 use Rattle.std.specs.declared.cmp.Ordering.TheVariants.{Less, Equal, Greater}
 use Rattle.std.proofs.Math.Nat.{eq-or-lt_of_le}
@@ -11,12 +11,12 @@ use Rattle.std.proofs.lemmas.Bool.{cases_order, false≢true, or_left, or_right}
 use Rattle.std.proofs.lemmas.Cmp.{tied_itself}
 use Rattle.std.proofs.lemmas.List.{get_or_default}
 use Rattle.definitions.specs.Covering.{before}
-use Rattle.definitions.specs.Name.{Name, at_or_above, name_cmp, same}
+use Rattle.definitions.specs.Name.{Name, at_or_above, name_cmp, same, strictly_above}
 use Rattle.definitions.proofs.Members.{In, any_in, any_of, both_ways, contained, either, in_contained}
 use Rattle.definitions.proofs.NameLaws.{equal_is_same, interval, name_cmp_total}
 use Rattle.denial_laws.proofs.ChainBits.{all_at}
-use Rattle.denial_laws.proofs.NameFacts.{before_less, before_unlike, before_up_to, less_not_greater, names_same, not_before, same_names, up_to_before}
-use Rattle.answer_zone_records.specs.Near.{AreRising, IsNameAt, is_below}
+use Rattle.denial_laws.proofs.NameFacts.{before_less, before_unlike, before_up_to, less_not_greater, names_same, not_after, not_before, same_above, same_names, strictly_at, strictly_before, strictly_from, up_to_before}
+use Rattle.answer_zone_records.specs.Near.{AreRising, IsNameAt, is_below, is_strictly_below}
 
 -- a name is not behind itself
 not_behind_itself : (n : Name) → name_cmp n n ≡ Greater → ⊥
@@ -33,6 +33,26 @@ not_before_is a b n g =
 
 same_back : (a b : Name) → same a b ≡ true → same b a ≡ true
 same_back a b s = names_same b a (sym (same_names a b s))
+
+le_of : (o : Ordering) → (o ≡ Greater → ⊥) → is_le o ≡ true
+le_of Less n = refl
+le_of Equal n = refl
+le_of Greater n = absurd (n refl)
+
+greater_of : (o : Ordering) → is_le o ≡ false → o ≡ Greater
+greater_of Less h = absurd (false≢true (sym h))
+greater_of Equal h = absurd (false≢true (sym h))
+greater_of Greater h = refl
+
+not_greater : (o : Ordering) → is_le o ≡ true → o ≡ Greater → ⊥
+not_greater o h g = false≢true (sym (ap is_le g) ∙ h)
+
+-- what is not behind a name that is not behind another is not behind this one
+le_on : (a b q : Name) → (name_cmp a b ≡ Greater → ⊥) → is_le (name_cmp b q) ≡ true → is_le (name_cmp a q) ≡ true
+le_on a b q n h = le_of (name_cmp a q) (λ g. not_greater (name_cmp b q) h (not_after q b (before_up_to q a b (not_before a q g) n)))
+
+at_itself : (q : Name) → at_or_above q q ≡ true
+at_itself q = same_above q q (names_same q q refl)
 
 module _ {A : Type 0} (f : A → Name) where
   rising_at : (xs : List A) → AreRising f xs → (i j : ℕ) (x y : A) → i < j → j < length xs → x ≡ get_or xs i x → y ≡ get_or xs j y → name_cmp (f x) (f y) ≡ Greater → ⊥
@@ -165,3 +185,47 @@ module _ {A : Type 0} (f : A → Name) where
         back : (c : Option (Bor Name)) → From c → is_from c ≡ true → list_any (λ x. same (f x) q) xs ≡ true
         back None w h = absurd (false≢true h)
         back (Some n) w h = any_in (λ x. same (f x) q) xs w.1.0 (in_contained xs w.1.0 k w.0 (sym w.1.1)) (ap (λ m. same m q) (sym w.1.2) ∙ h)
+
+  -- ---- what is below a name
+
+  pub is_partitioned_behind : (xs : List A) (q : Name) → AreRising f xs → IsPartitionedBy (λ x. is_le (name_cmp (f x) q)) xs
+  is_partitioned_behind xs q r i j d ij jl b =
+      let il : i < length xs = omega arith in
+      le_on (f (get_or xs i d)) (f (get_or xs j d)) q (rising_to xs r i j (get_or xs i d) (get_or xs j d) ij jl (get_or_default xs i d (get_or xs i d) il) (get_or_default xs j d (get_or xs j d) jl)) b
+
+  module _ (xs : List A) (q : Name) (k : ℕ) (r : AreRising f xs) (cut : IsPartitionPoint (λ x. is_le (name_cmp (f x) q) ≡ true) (λ x. is_le (name_cmp (f x) q) ≡ false) xs k) where
+    -- the first item behind the name is below it if any is
+    first_below : (j : ℕ) (x y : A) → k ≤ j → j < length xs → x ≡ get_or xs j x → y ≡ get_or xs k y → strictly_above q (f x) ≡ true → strictly_above q (f y) ≡ true
+    first_below j x y kj jl ex ey h =
+        let behind : is_le (name_cmp (f y) q) ≡ false = subst (λ w. is_le (name_cmp (f w) q) ≡ false) (sym ey) (cut.1 k y (omega arith) (omega arith)) in
+        let later : name_cmp q (f y) ≡ Less = not_before (f y) q (greater_of (name_cmp (f y) q) behind) in
+        strictly_from q (f y)
+        (interval q q (f y) (f x) (at_itself q) (strictly_at q (f x) h) (less_not_greater q (f y) later) (rising_to xs r k j y x kj jl ey ex))
+        (before_unlike q (f y) later)
+
+    by_behind : (j : ℕ) (x : A) → j < length xs → x ≡ get_or xs j x → strictly_above q (f x) ≡ true → (c : Option (Bor Name)) → IsNameAt f xs k c → is_strictly_below c q ≡ true
+    by_behind j x jl ex h c hc = elim (cases_order j k) [
+      | inl e ↦ at (omega (arith, e)) c hc
+      | inr o ↦ elim o [
+        | inl l ↦
+            let up : is_le (name_cmp (f x) q) ≡ true = subst (λ w. is_le (name_cmp (f w) q) ≡ true) (sym ex) (cut.0 j x (omega arith) l) in
+            absurd (not_greater (name_cmp (f x) q) up (not_after q (f x) (strictly_before q (f x) h)))
+        | inr g ↦ at (omega arith) c hc
+      ]
+    ]
+      where
+        at : k ≤ j → (c : Option (Bor Name)) → IsNameAt f xs k c → is_strictly_below c q ≡ true
+        at kj None e = absurd (omega arith)
+        at kj (Some n) w = ap (strictly_above q) w.1.2 ∙ first_below j x w.1.0 kj jl ex w.1.1 h
+
+    pub below : (c : Option (Bor Name)) → IsNameAt f xs k c → list_any (λ x. strictly_above q (f x)) xs ≡ is_strictly_below c q
+    below c hc = both_ways (list_any (λ x. strictly_above q (f x)) xs) (is_strictly_below c q)
+        (λ h.
+        let w = any_of (λ x. strictly_above q (f x)) xs h in
+        let at : Contains xs w.0 = contained xs w.0 w.1.0 in
+        by_behind at.0 w.0 at.1 (sym at.2) w.1.1 c hc)
+        (λ h. back c hc h)
+      where
+        back : (c : Option (Bor Name)) → IsNameAt f xs k c → is_strictly_below c q ≡ true → list_any (λ x. strictly_above q (f x)) xs ≡ true
+        back None w h = absurd (false≢true h)
+        back (Some n) w h = any_in (λ x. strictly_above q (f x)) xs w.1.0 (in_contained xs w.1.0 k w.0 (sym w.1.1)) (ap (strictly_above q) (sym w.1.2) ∙ h)

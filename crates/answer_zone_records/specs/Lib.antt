@@ -1,4 +1,6 @@
 pub mod Faults
+pub mod AliasFaults
+pub mod ZoneInOrder
 pub mod HashParameters
 pub mod MadeLinks
 pub mod GroupRecords

@@ -3,7 +3,7 @@ use Rattle.std.specs.Prelude.{◌≡◌, ℕ, ◌<◌, ◌≤◌, Bool, false, �
 use Rattle.std.specs.Borrow.{Bor}
 use Rattle.std.specs.List.{AllByRecursion}
 use Rattle.std.specs.declared.cmp.Ordering.TheVariants.{Greater}
-use Rattle.definitions.specs.Name.{Name, at_or_above, name_cmp, same}
+use Rattle.definitions.specs.Name.{Name, at_or_above, name_cmp, same, strictly_above}
 use Rattle.answer_zone_records.specs.declared.near.Neighbours.{Neighbours}
 
 -- in canonical order, some perhaps alike
@@ -20,6 +20,11 @@ IsNameAt {A} name xs k (Some n) = (k < length xs) × ((x : A) × (x ≡ slice_in
 abbrev pub is_below : Option (Bor Name) → Name → Bool
 is_below None a = false
 is_below (Some n) a = at_or_above a n.now
+
+-- a name, if there is one, is below another
+abbrev pub is_strictly_below : Option (Bor Name) → Name → Bool
+is_strictly_below None a = false
+is_strictly_below (Some n) a = strictly_above a n.now
 
 -- one of the neighbours is at or below a name
 abbrev pub shows : Neighbours → Name → Bool

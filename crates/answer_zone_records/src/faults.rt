@@ -49,44 +49,45 @@ pub fn first_fault(
     }
 }
 
-fn any_of_other_class(records: &[ZoneRecord]) -> bool
+pub(crate) fn any_of_other_class(records: &[ZoneRecord]) -> bool
     ensures { result ≡ list_any is_of_other_class (map handed_of records.now) }
 {
     records.iter().any(|r| is_of_other_class(r))
 }
 
-fn any_outside(apex: &Name<Vec<u8>>, records: &[ZoneRecord]) -> bool
+pub(crate) fn any_outside(apex: &Name<Vec<u8>>, records: &[ZoneRecord]) -> bool
     ensures { result ≡ list_any (is_outside apex.now) (map handed_of records.now) }
 {
     records.iter().any(|r| is_outside(r, apex))
 }
 
-fn any_added_by_signing(records: &[ZoneRecord]) -> bool
+pub(crate) fn any_added_by_signing(records: &[ZoneRecord]) -> bool
     ensures { result ≡ list_any is_added_by_signing (map handed_of records.now) }
 {
     records.iter().any(|r| is_added_by_signing(r))
 }
 
-fn any_alias(records: &[ZoneRecord]) -> bool
+/// Whether a record is an alias.
+pub fn any_alias(records: &[ZoneRecord]) -> bool
     ensures { result ≡ list_any is_alias (map handed_of records.now) }
 {
     records.iter().any(|r| is_alias(r))
 }
 
-fn any_meta(records: &[ZoneRecord]) -> bool
+pub(crate) fn any_meta(records: &[ZoneRecord]) -> bool
     ensures { result ≡ list_any is_meta (map handed_of records.now) }
 {
     records.iter().any(|r| is_meta(r))
 }
 
-fn any_star_delegation(records: &[ZoneRecord]) -> bool
+pub(crate) fn any_star_delegation(records: &[ZoneRecord]) -> bool
     ensures { result ≡ list_any delegates_star (map handed_of records.now) }
 {
     records.iter().any(|r| delegates_star(r))
 }
 
 /// Whether a chain's iterations are over the limit (RFC 5155, 10.3). A chain of names has none.
-fn is_over_limit(mode: &Mode, limit: u16) -> bool
+pub(crate) fn is_over_limit(mode: &Mode, limit: u16) -> bool
     ensures { result ≡ over_limit (mode_of mode.now) limit }
 {
     match mode {

@@ -2,6 +2,7 @@
 //! names, what a name owns among them, and RRsets on their way into an answer.
 #![tactic(auto)]
 
+pub mod alias_faults;
 pub mod chain;
 pub mod chains;
 pub mod copies;

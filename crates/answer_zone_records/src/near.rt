@@ -3,10 +3,11 @@ ghost use Rattle.std.specs.Prelude.{◌≡◌, ◌≤◌, ℕ, List, length, tru
 ghost use Rattle.std.specs.List.{list_any};
 ghost use Rattle.std.specs.List.Sorted.{IsPartitionPoint};
 ghost use Rattle.definitions.specs.Covering.{before};
-ghost use Rattle.definitions.specs.Name.{at_or_above, same};
-ghost use Rattle.answer_zone_records.specs.Near.{AreRising, IsNameAt, is_below, owns, shows};
+ghost use Rattle.std.specs.Ordering.{is_le};
+ghost use Rattle.definitions.specs.Name.{at_or_above, name_cmp, same, strictly_above};
+ghost use Rattle.answer_zone_records.specs.Near.{AreRising, IsNameAt, is_below, is_strictly_below, owns, shows};
 
-use messages::names::{Name, ToName, is_at_or_above};
+use messages::names::{Name, ToName, is_above, is_at_or_above};
 use messages::record::ZoneRecord;
 
 /// What stands among others in the order of their names.
@@ -123,4 +124,33 @@ fn place_of<T: Named>(items: &[T], name: &Name<Vec<u8>>) -> usize
     ensures bound { result ≤ length items.now }
 {
     items.partition_point(|item| item.name().name_cmp(name).is_lt())
+}
+
+/// Whether one of some items is below a name, by binary search. What is below a name stands directly
+/// behind it. It takes no memory.
+pub fn has_below<T: Named>(items: &[T], name: &Name<Vec<u8>>) -> bool
+    requires { AreRising T.name_of items.now }
+    ensures { result ≡ list_any (λ x. strictly_above name.now (T.name_of x)) items.now }
+{
+    is_strictly_below(name_at(items, place_behind(items, name)), name)
+}
+
+/// Whether a name, if there is one, is below another.
+fn is_strictly_below(name: Option<&Name<Vec<u8>>>, ancestor: &Name<Vec<u8>>) -> bool
+    ensures { result ≡ is_strictly_below name.entry ancestor.now }
+{
+    match name {
+        Some(name) => is_above(ancestor, name),
+        None => false,
+    }
+}
+
+/// How many of some items do not come behind a name.
+fn place_behind<T: Named>(items: &[T], name: &Name<Vec<u8>>) -> usize
+    requires { AreRising T.name_of items.now }
+    ensures cut { let is = λ (x : T). is_le (name_cmp (T.name_of x) name.now) in
+        IsPartitionPoint (λ x. is x ≡ true) (λ x. is x ≡ false) items.now result }
+    ensures bound { result ≤ length items.now }
+{
+    items.partition_point(|item| item.name().name_cmp(name).is_le())
 }

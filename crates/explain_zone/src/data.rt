@@ -28,10 +28,11 @@ pub(crate) fn octets_of(
     match rtype.to_int() {
         1 | 28 => push_address(&mut out, rtype, fields)?,
         2 => push_names(&mut out, fields, origin, 0, EntryFault::Ns)?,
+        5 | 12 | 39 => push_lower_names(&mut out, fields, origin, 0, EntryFault::Alias)?,
         6 => push_soa(&mut out, fields, origin)?,
-        15 => push_names(&mut out, fields, origin, 1, EntryFault::Mx)?,
+        15 => push_lower_names(&mut out, fields, origin, 1, EntryFault::Mx)?,
         16 => push_texts(&mut out, fields)?,
-        33 => push_names(&mut out, fields, origin, 3, EntryFault::Srv)?,
+        33 => push_lower_names(&mut out, fields, origin, 3, EntryFault::Srv)?,
         43 => push_ds(&mut out, fields)?,
         257 => push_caa(&mut out, fields)?,
         _ => return Err(EntryFault::Type),
@@ -85,6 +86,35 @@ fn push_names(
     numbers: usize,
     fault: EntryFault,
 ) -> Result<(), EntryFault> {
+    let name = name_behind(out, fields, origin, numbers, fault)?;
+    Ok(name.compose(out)?)
+}
+
+/// The same with the name in lower case, in which it is signed (RFC 4034, 6.2).
+fn push_lower_names(
+    out: &mut Vec<u8>,
+    fields: &[Field],
+    origin: Origin,
+    numbers: usize,
+    fault: EntryFault,
+) -> Result<(), EntryFault> {
+    let name = name_behind(out, fields, origin, numbers, fault)?;
+    for octet in name.as_slice() {
+        // A label's length, at most 63, is no letter.
+        out.push(octet.to_ascii_lowercase())
+            .map_err(|_| EntryFault::Memory)?;
+    }
+    Ok(())
+}
+
+/// Appends a count of numbers of 16 bits, and gives the name behind them.
+fn name_behind(
+    out: &mut Vec<u8>,
+    fields: &[Field],
+    origin: Origin,
+    numbers: usize,
+    fault: EntryFault,
+) -> Result<Name<Vec<u8>>, EntryFault> {
     let Some((last, before)) = fields.split_last() else {
         return Err(fault);
     };
@@ -94,8 +124,7 @@ fn push_names(
     for field in before {
         push_number(out, field, fault)?;
     }
-    let name = name_of(*out.allocator(), last, origin)?;
-    Ok(name.compose(out)?)
+    name_of(*out.allocator(), last, origin)
 }
 
 /// A number of 16 bits.

@@ -35,7 +35,7 @@ pub enum EntryFault {
     NoTtl,
     #[error("only class IN is read: `www 3600 IN A 192.0.2.1`")]
     Class,
-    #[error("no type that is read: A, NS, SOA, MX, TXT, AAAA, SRV, DS, CAA, or any with \\#: `a TYPE65280 \\# 1 00`")]
+    #[error("no type that is read: A, NS, CNAME, SOA, PTR, MX, TXT, AAAA, SRV, DNAME, DS, CAA, or any with \\#: `a TYPE65280 \\# 1 00`")]
     Type,
     #[error("not the data of an A record: `192.0.2.1`")]
     A,
@@ -43,6 +43,8 @@ pub enum EntryFault {
     Aaaa,
     #[error("not the data of an NS record: `ns.example.`")]
     Ns,
+    #[error("not the data of a CNAME, DNAME or PTR record: `www.example.`")]
+    Alias,
     #[error("not the data of an SOA record: `ns.example. host.example. 1 3600 900 86400 3600`")]
     Soa,
     #[error("not the data of an MX record: `10 mail.example.`")]

@@ -10,3 +10,4 @@ pub use Rattle.resolution_step.specs.declared.telling.Step
 pub use Rattle.resolution_step.specs.declared.telling.Telling
 pub use Rattle.resolution_step.specs.declared.telling.Counts
 pub use Rattle.resolution_step.specs.Seen
+pub use Rattle.resolution_step.specs.Redirection

@@ -8,7 +8,7 @@ use Rattle.messages.specs.Message.{Asked}
 use Rattle.answer_judge_keys.specs.Judging.{JudgeInput}
 use Rattle.answer_judge_keys.specs.declared.verdict.Refusal.{Refusal}
 use Rattle.answer_judge_rules.specs.Rules.{verdict_of}
-use Rattle.answer_findings.specs.declared.finding.Lead.TheVariants as lead
+use Rattle.answer_shared.specs.declared.redirection.Lead.TheVariants as lead
 use Rattle.answer_judge_octets.specs.Replying.{IsAskReplied, Replied, code_of_refusal, code_of_verdict, counted, error_of, octets_of_verdict, only, ttl_of, until_of}
 use Rattle.answer_judge_octets.specs.declared.reply.ReplyCode.{ReplyCode}
 use Rattle.answer_judge_octets.specs.declared.reply.ReplyCode.TheVariants as c

@@ -15,7 +15,8 @@ use Rattle.answer_findings.specs.declared.finding.Found.TheVariants as f
 use Rattle.answer_findings.specs.Found.{IsFound}
 use Rattle.answer_findings.specs.Judgements.{aside, asking}
 use Rattle.answer_findings.specs.Lasts.{least_of}
-use Rattle.answer_findings.specs.Seen.{Seen, SeesVerdict, SeesDelegated, SeesNoDs, SeesAlias, SeesStarAlias, SeesOpen, SeesDname, SeesReferral, lead_seen, seen}
+use Rattle.answer_findings.specs.Seen.{Seen, SeesVerdict, SeesDelegated, SeesNoDs, SeesAlias, SeesStarAlias, SeesOpen, SeesDname, SeesReferral, seen}
+use Rattle.answer_shared.specs.Redirection.{lead_seen}
 use Rattle.resolution_step.specs.Counted.{plus}
 use Rattle.resolution_step.specs.KnownDs.{known_ds}
 use Rattle.resolution_step.specs.declared.telling.Counts.{Counts}

@@ -11,7 +11,7 @@ use Rattle.resolution_tree.specs.Tree.{Said, Secure, Unsigned, LeftOpen, Leads}
 use Rattle.resolution_evidence.specs.Counted.{no_counts}
 use Rattle.resolution_evidence.specs.Counts.{Counts}
 use Rattle.resolution_evidence.specs.Given.{Given}
-use Rattle.resolution_evidence.specs.Seen.{lead_seen}
+use Rattle.resolution_evidence.specs.Redirection.{lead_seen}
 use Rattle.resolution_evidence.specs.Told.{StepSeen, TellsVerdict, TellsLead, TellsDown, TellsUnsigned, TellsOpen, AsksFor}
 use Rattle.resolution_evidence.specs.Walking.{GoesDown, EndsIn, IsOnward, Tells, Follows, is_asked_of, renamed}
 use Rattle.resolution_walk.specs.Ended.{leads_to, said_of}

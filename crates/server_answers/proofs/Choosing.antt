@@ -1,5 +1,5 @@
 -- Messages for the type that is chosen where all are asked for, and what becomes of them.
-use Rattle.std.proofs.Common.{◌≡◌, ◌∙◌, ℕ, ◌+◌, ◌<◌, ◌≤◌, Bool, true, false, List, [], ◌∷◌, Vec, length, drop, get_or, max, refl, sym, ap, subst, inl, inr, arith}
+use Rattle.std.proofs.Common.{◌≡◌, ◌∙◌, ℕ, ◌+◌, ◌<◌, ◌≤◌, Bool, true, false, List, ◌∷◌, Vec, length, drop, get_or, max, refl, sym, ap, subst, inl, inr, arith}
 use Rattle.std.specs.declared.alloc.Global.{Global}
 use Rattle.std.specs.Prelude.{◌≢◌, ◌↔◌, MatchBool, Option, Some, None, Result, Ok, Err, IfErr, IfOk, IsErrOf, OnErr, OnOk}
 use Rattle.std.specs.Result.{is_err}
@@ -24,7 +24,8 @@ use Rattle.server_answers.specs.MadeOf.{IsMadeOf, ReadsWhole}
 use Rattle.server_answers.specs.Messages.{Makes}
 use Rattle.server_answers.specs.Moments.{IsOrWasNoted}
 use Rattle.server_answers.specs.Responding.{Serving, unsigned}
-use Rattle.server_answers.specs.Subset.{AnswersSubset, IsBare, IsChosen, IsFirst, IsHeld, MakesSubset, for_type, is_memory, is_no_data, wants_signatures}
+use Rattle.answer_publisher.specs.Aliases.{for_type}
+use Rattle.server_answers.specs.Subset.{AnswersSubset, IsBare, IsChosen, IsFirst, IsHeld, MakesSubset, is_memory, is_no_data, wants_signatures}
 use Rattle.server_answers.specs.Unheld.{has_answers}
 use Rattle.server_answers.specs.declared.requests.Response.{Response}
 use Rattle.server_answers.specs.declared.requests.Response.TheVariants as response

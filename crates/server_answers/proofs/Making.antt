@@ -1,13 +1,15 @@
 -- Messages that are made, and what becomes of them.
 use Rattle.std.proofs.Common.{◌≡◌, ◌∙◌, ℕ, ◌<◌, Bool, true, false, List, Vec, length, refl, sym, ap, subst, inl, inr}
 use Rattle.std.specs.declared.alloc.Global.{Global}
-use Rattle.std.specs.Prelude.{MatchBool, Option, Result, Ok, Err, IfErr, IfOk, IsOk, OnErr}
+use Rattle.std.specs.Prelude.{MatchBool, Option, Result, Ok, Err, IfErr, IfOk, IsErrOf, IsOk, OnErr}
+use Rattle.std.proofs.lemmas.Bool.{false≢true}
 use Rattle.definitions.specs.Limits.{pointer_limit}
 use Rattle.messages.specs.Message.{Asked, Message, message}
 use Rattle.messages.specs.declared.error.MessageError.{MessageError}
 use Rattle.answer_publisher.specs.Inputs.{Input, answer_inputs, keys_inputs}
 use Rattle.answer_publisher.specs.declared.publishing.Publisher.{Publisher}
 use Rattle.answer_publisher.specs.declared.fault.AnswerFault.{AnswerFault}
+use Rattle.answer_publisher.specs.declared.fault.AnswerFault.TheVariants as fault
 use Rattle.server_queries.specs.Queries.{Queried}
 use Rattle.answer_publisher.specs.Replacing.{noted}
 use Rattle.server_responses.specs.Responses.{is_dnssec_ok}
@@ -17,11 +19,13 @@ use Rattle.server_signatures.specs.declared.answering.Signed.{Signed}
 use Rattle.server_signatures.specs.declared.answering.Signed.TheVariants as signed
 use Rattle.server_signatures.proofs.Signing.{own_entries}
 use Rattle.server_answers.specs.Messages.{Makes}
-use Rattle.server_answers.specs.Answering.{AnswersQueried}
+use Rattle.server_answers.specs.Answering.{AnswersBy, AnswersItself, AnswersQueried}
 use Rattle.server_answers.specs.MadeOf.{IsMadeOf, ReadsWhole}
 use Rattle.server_answers.specs.Moments.{IsOrWasNoted}
 use Rattle.server_answers.specs.Responding.{AnswersHeld, IsMessage, Serving, is_for_keys}
-use Rattle.server_answers.specs.Subset.{AnswersSubset, asks_all}
+use Rattle.answer_publisher.specs.Aliases.{alias_of, asks_all, is_answered}
+use Rattle.answer_publisher.specs.World.{served_in}
+use Rattle.server_answers.specs.Subset.{AnswersSubset}
 use Rattle.server_answers.specs.Unheld.{AnswersUnheld, IsMadeUnheld, IsRefusal, is_unheld, keeps_back, reserved}
 use Rattle.server_answers.specs.declared.requests.Response.{Response}
 use Rattle.server_answers.specs.declared.requests.Response.TheVariants as response
@@ -37,16 +41,17 @@ of_err (Err e) p = p
 -- ---- of a publisher's answers
 
 pub by_table : (s : Serving) (asked : Asked) (old new : Option ℕ) (r : Result Signed AnswerFault) → IfOk r (IsSigned s.table (AnswersEach s.table s.world s.keys s.at asked) (answer_inputs s.world s.keys s.at asked))
-    → IfErr r (RefusesEach s.table s.world s.keys s.at asked) → new ≡ latest_after r old s.at → Makes s asked false true old new r
-by_table s asked old new (Ok (signed.Message m)) is refused noted_is = (is, noted_is)
-by_table s asked old new (Ok (signed.Missing v)) is refused noted_is = (refl, is.0, is.1, noted_is)
-by_table s asked old new (Err f) is refused noted_is = (refused, noted_is)
+    → IfErr r (RefusesEach s.table s.world s.keys s.at asked) → (IsErrOf r fault.QuestionNotAllowed → is_answered s.world.zone.apex asked ≡ false) → new ≡ latest_after r old s.at
+    → Makes s asked false true old new r
+by_table s asked old new (Ok (signed.Message m)) is refused allowed noted_is = (is, noted_is)
+by_table s asked old new (Ok (signed.Missing v)) is refused allowed noted_is = (refl, is.0, is.1, noted_is)
+by_table s asked old new (Err f) is refused allowed noted_is = (refused, noted_is, λ keys e. allowed (ap Err e))
 
 pub keys_by_table : (s : Serving) (asked : Asked) (old : Option ℕ) (r : Result Signed AnswerFault) → IfOk r (IsSigned s.table (AnswersKeysEach s.table s.world s.keys s.at) (keys_inputs s.world s.keys s.at))
     → IfErr r (RefusesKeysEach s.table s.world s.keys s.at) → Makes s asked true true old old r
 keys_by_table s asked old (Ok (signed.Message m)) is refused = (is, refl)
 keys_by_table s asked old (Ok (signed.Missing v)) is refused = (refl, is.0, is.1, refl)
-keys_by_table s asked old (Err f) is refused = (refused, refl)
+keys_by_table s asked old (Err f) is refused = (refused, refl, λ keys e. absurd (false≢true (sym keys)))
 
 -- ---- messages read
 
@@ -72,19 +77,19 @@ was_noted s asked false dnssec_ok old new (Ok (signed.Message m)) h = inr h.1
 was_noted s asked keys dnssec_ok old new (Ok (signed.Missing v)) h = inl h.3
 was_noted s asked keys dnssec_ok old new (Err f) h = inl h.1
 
-pub is_answered : (s : Serving) (q : Queried) (old new : Option ℕ) (made : Result Signed AnswerFault) (r : Response) → Makes s q.asked (is_for_keys s.world.zone.apex q.asked) (is_dnssec_ok q) old new made → IsMadeOf s.limit s.size q s.addresses made r
+pub held_answered : (s : Serving) (q : Queried) (old new : Option ℕ) (made : Result Signed AnswerFault) (r : Response) → Makes s q.asked (is_for_keys s.world.zone.apex q.asked) (is_dnssec_ok q) old new made → IsMadeOf s.limit s.size q s.addresses made r
     → AnswersHeld s q old new r
-is_answered s q old new (Ok (signed.Message m)) (response.Reply v) h k = inl (record { m = m.items; is_message = h.0; answers = k; noted_is = h.1 })
-is_answered s q old new (Ok (signed.Message m)) response.Nothing h k = absurd k
-is_answered s q old new (Ok (signed.Message m)) (response.Sign v) h k = absurd k
-is_answered s q old new (Ok (signed.Missing inputs)) (response.Sign v) h k =
+held_answered s q old new (Ok (signed.Message m)) (response.Reply v) h k = inl (record { m = m.items; is_message = h.0; answers = k; noted_is = h.1 })
+held_answered s q old new (Ok (signed.Message m)) response.Nothing h k = absurd k
+held_answered s q old new (Ok (signed.Message m)) (response.Sign v) h k = absurd k
+held_answered s q old new (Ok (signed.Missing inputs)) (response.Sign v) h k =
     let is : v.items ≡ inputs.items = ap (λ x. x.items) k in
     (h.0, is ∙ h.1, subst (λ (l : List Input). 0 < length l) (sym is) h.2, h.3)
-is_answered s q old new (Ok (signed.Missing inputs)) response.Nothing h k = absurd k
-is_answered s q old new (Ok (signed.Missing inputs)) (response.Reply v) h k = absurd k
-is_answered s q old new (Err f) (response.Reply v) h k = inr (record { f = f; is_fault = h.0; enough_memory = k.0; octets_are = k.1; unchanged = h.1 })
-is_answered s q old new (Err f) response.Nothing h k = absurd k
-is_answered s q old new (Err f) (response.Sign v) h k = absurd k
+held_answered s q old new (Ok (signed.Missing inputs)) response.Nothing h k = absurd k
+held_answered s q old new (Ok (signed.Missing inputs)) (response.Reply v) h k = absurd k
+held_answered s q old new (Err f) (response.Reply v) h k = inr (record { f = f; is_fault = h.0; enough_memory = k.0; octets_are = k.1; unchanged = h.1 })
+held_answered s q old new (Err f) response.Nothing h k = absurd k
+held_answered s q old new (Err f) (response.Sign v) h k = absurd k
 
 -- ---- of a type that the zone does not hold
 
@@ -115,6 +120,10 @@ module _ (s : Serving) (q : Queried) (old new : Option ℕ) where
 abbrev by_type : Serving → Queried → Option ℕ → Option ℕ → Response → Bool → Bool → Type 0
 by_type s q old new r unheld all = MatchBool unheld (AnswersUnheld s q old new r) (MatchBool all (AnswersSubset s q old new r) (AnswersHeld s q old new r))
 
-pub answered_so : (s : Serving) (q : Queried) (old new : Option ℕ) (r : Response) (unheld all : Bool) → is_unheld s.world.zone.apex q.asked ≡ unheld → asks_all q.asked ≡ all → by_type s q old new r unheld all → AnswersQueried s q old new r
+pub answered_so : (s : Serving) (q : Queried) (old new : Option ℕ) (r : Response) (unheld all : Bool) → is_unheld s.world.zone.apex q.asked ≡ unheld → asks_all q.asked ≡ all → by_type s q old new r unheld all → AnswersItself s q old new r
 answered_so s q old new r unheld all is is_all k =
     subst (λ (b : Bool). by_type s q old new r b (asks_all q.asked)) (sym is) (subst (by_type s q old new r unheld) (sym is_all) k)
+
+-- by the RRset of an alias, or where none answers
+pub by_alias : (s : Serving) (q : Queried) (old new : Option ℕ) (r : Response) (o : Option Asked) → o ≡ alias_of s.world.zone.mode (served_in s.world).zone q.asked → AnswersBy s q old new r o → AnswersQueried s q old new r
+by_alias s q old new r o is k = subst (AnswersBy s q old new r) is k

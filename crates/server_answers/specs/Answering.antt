@@ -1,8 +1,12 @@
 -- What a server answers to a query, by what it asks for.
-use Rattle.std.specs.Prelude.{MatchBool, ℕ, Option}
+use Rattle.std.specs.Prelude.{MatchBool, ℕ, Option, Some, None}
+use Rattle.answer_publisher.specs.Aliases.{alias_of, asks_all}
+use Rattle.answer_publisher.specs.World.{served_in}
+use Rattle.messages.specs.Message.{Asked}
 use Rattle.server_queries.specs.Queries.{Queried}
+use Rattle.server_answers.specs.Aliased.{AnswersAlias}
 use Rattle.server_answers.specs.Responding.{AnswersHeld, Serving}
-use Rattle.server_answers.specs.Subset.{AnswersSubset, asks_all}
+use Rattle.server_answers.specs.Subset.{AnswersSubset}
 use Rattle.server_answers.specs.Unheld.{AnswersUnheld, is_unheld}
 use Rattle.server_answers.specs.declared.requests.Response.{Response}
 
@@ -10,6 +14,14 @@ use Rattle.server_answers.specs.declared.requests.Response.{Response}
 abbrev pub AnswersOther : Serving → Queried → Option ℕ → Option ℕ → Response → Type 0
 AnswersOther s q old new response = MatchBool (asks_all q.asked) (AnswersSubset s q old new response) (AnswersHeld s q old new response)
 
--- for a type that no accepted zone holds at the name, or for another
+-- where no alias answers: for a type that no accepted zone holds at the name, or for another
+abbrev pub AnswersItself : Serving → Queried → Option ℕ → Option ℕ → Response → Type 0
+AnswersItself s q old new response = MatchBool (is_unheld s.world.zone.apex q.asked) (AnswersUnheld s q old new response) (AnswersOther s q old new response)
+
+abbrev pub AnswersBy : Serving → Queried → Option ℕ → Option ℕ → Response → Option Asked → Type 0
+AnswersBy s q old new response None = AnswersItself s q old new response
+AnswersBy s q old new response (Some alias) = AnswersAlias s q alias old new response
+
+-- by the RRset of an alias, where one answers
 abbrev pub AnswersQueried : Serving → Queried → Option ℕ → Option ℕ → Response → Type 0
-AnswersQueried s q old new response = MatchBool (is_unheld s.world.zone.apex q.asked) (AnswersUnheld s q old new response) (AnswersOther s q old new response)
+AnswersQueried s q old new response = AnswersBy s q old new response (alias_of s.world.zone.mode (served_in s.world).zone q.asked)

@@ -1,3 +1,4 @@
+pub mod Aliased
 pub mod Answering
 pub mod Blank
 pub mod Glued
@@ -9,6 +10,7 @@ pub mod Requests
 pub mod Responding
 pub mod Subset
 pub mod Unheld
+pub use Rattle.answer_publisher.specs.Aliases
 pub use Rattle.answer_publisher.specs.World
 pub use Rattle.answer_publisher.specs.Inputs
 pub use Rattle.server_signatures.specs.Table

@@ -1,9 +1,9 @@
 -- What a server answers to questions for all records of a name, or for all signatures there: one RRset of the name (RFC 8482, 4.1).
 use Rattle.std.specs.Prelude.{◌≡◌, ◌≢◌, ◌⊎◌, MatchBool, ℕ, ◌<◌, Bool, true, false, not, ◌&&◌, ◌||◌, ◌==◌, List, [], ◌∷◌, length, Option, Result, Ok, Err, slice_index}
-use Rattle.messages.specs.HandedRr.{among}
 use Rattle.messages.specs.Message.{Asked}
 use Rattle.answer_shared.specs.Asking.{is_allowed}
 use Rattle.answer_publisher_keys.specs.Bindings.{ZoneKeys}
+use Rattle.answer_publisher.specs.Aliases.{for_type}
 use Rattle.answer_publisher.specs.Replacing.{noted}
 use Rattle.answer_publisher.specs.World.{AnswersQuestion, RefusesQuestion, SpellsAnswer, World}
 use Rattle.answer_publisher.specs.declared.fault.AnswerFault.{AnswerFault}
@@ -20,14 +20,6 @@ use Rattle.server_answers.specs.Responding.{IsFault, IsMessage, Serving, inputs_
 use Rattle.server_answers.specs.Unheld.{has_answers}
 use Rattle.server_answers.specs.declared.requests.Response.{Response}
 use Rattle.server_answers.specs.declared.requests.Response.TheVariants.{Nothing, Reply, Sign}
-
--- ANY, 255 (RFC 1035, 3.2.3), or RRSIG, 46: signatures are no RRset of their own (RFC 4035, 2.2)
-abbrev pub asks_all : Asked → Bool
-asks_all a = among (46 ∷ 255 ∷ []) a.rtype
-
--- the question for a type in the place of another
-abbrev pub for_type : ℕ → Asked → Asked
-for_type t a = record { name = a.name; rtype = t; class = a.class }
 
 -- a question for signatures has them without DO too
 abbrev pub wants_signatures : Queried → Bool

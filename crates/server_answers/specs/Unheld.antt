@@ -1,4 +1,4 @@
--- What a server answers to questions for types of which no accepted zone holds a record, and for NSEC.
+-- What a server answers to questions for types of which no zone holds a record at a name that no alias answers for, and for NSEC.
 use Rattle.std.specs.Prelude.{◌≡◌, ◌≢◌, ◌⊎◌, MatchBool, ℕ, ◌<◌, Bool, true, false, not, ◌&&◌, ◌||◌, ◌==◌, List, [], ◌∷◌, length, Option, Result, Ok, Err, nat_lt, slice_index}
 use Rattle.definitions.specs.Name.{Name, same}
 use Rattle.messages.specs.HandedRr.{HandedRr, among}

@@ -3,6 +3,7 @@
 //! RFC 4035, 3.1; RFC 6891).
 #![tactic(auto)]
 
+mod aliased;
 mod blank;
 mod listed;
 mod message;

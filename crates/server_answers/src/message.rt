@@ -59,7 +59,7 @@ pub(crate) fn zone_message<S: Scheme, H: Nsec3Hasher>(
     if is_signed {
         return answer_by_table(publisher, table, question, at);
     }
-    match publisher.answer_with(&BlankScheme, question, at) {
+    match publisher.answer_any_with(&BlankScheme, question, at) {
         Ok(message) => Ok(Signed::Message(message)),
         Err(fault) => Err(fault),
     }

@@ -8,16 +8,18 @@ ghost use Rattle.server_answers.specs.Glued.{AnswersGlued};
 ghost use Rattle.server_answers.specs.MadeOf.{IsMadeOf, ReadsWhole};
 ghost use Rattle.server_answers.specs.Moments.{IsOrWasNoted, backdated};
 ghost use Rattle.server_answers.specs.Requests.{Responds};
-ghost use Rattle.server_answers.specs.Answering.{AnswersQueried};
+ghost use Rattle.server_answers.specs.Answering.{AnswersItself, AnswersQueried};
 ghost use Rattle.server_answers.specs.Responding.{AnswersHeld, serving};
 ghost use Rattle.server_queries.specs.Views.{queried_of};
 
+use crate::aliased::answer_alias;
 use crate::message::message_for;
 use crate::moment::backdated;
-use crate::subset::{answer_subset, asks_all};
+use crate::subset::answer_subset;
 use crate::unheld::{answer_unheld, is_unheld};
 use answer_publisher::fault::AnswerFault;
 use answer_publisher::publishing::Publisher;
+use answer_publisher::publishing::aliases::asks_all;
 use answer_scheme::Scheme;
 use denial_nsec3_hash::hasher::Nsec3Hasher;
 use keyset::UnixTime;
@@ -53,7 +55,7 @@ pub enum Response {
 }
 
 /// The response code of a server that fails (RFC 1035, 4.1.1).
-const SERVFAIL: u16 = 2;
+pub(crate) const SERVFAIL: u16 = 2;
 
 /// The response code of a question that a server does not answer.
 pub(crate) const REFUSED: u16 = 5;
@@ -62,12 +64,14 @@ pub(crate) const REFUSED: u16 = 5;
 ///
 /// Everything that an answer says is of the moment that lies `backdate` seconds before the clock:
 /// when its signatures begin, and the second that the publisher notes. A request that is no query
-/// is answered as [`read_query`] says. Questions for CNAME, DNAME and NSEC3 records, and but at the
-/// apex for DNSKEY and NSEC3PARAM records, are answered as the zone answers for a type that it does
-/// not hold; questions for NSEC with the NSEC record of the name, or else in the same way; questions
-/// for ANY and RRSIG with one RRset of the name. Any other question that the publisher does not
-/// answer is REFUSED, and one for the NSEC record of a wildcard; SERVFAIL says that no message holds
-/// the answer, or that a name has no hash. Without DO nothing is signed, but for RRSIG. A referral
+/// is answered as [`read_query`] says. A CNAME or DNAME RRset answers for its names (RFC 1034, 4.3.2),
+/// the latter with the CNAME that it makes of a name (RFC 6672, 3.1); what these lead to is not
+/// sought. Else questions for CNAME, DNAME and NSEC3 records, and but at the apex for DNSKEY and
+/// NSEC3PARAM records, are answered as the zone answers for a type that it does not hold; questions
+/// for NSEC with the NSEC record of the name, or else in the same way; questions for ANY and RRSIG
+/// with one RRset of the name. Any other question that the publisher does not answer is REFUSED, and
+/// one for the NSEC record of a wildcard; SERVFAIL says that no message holds the answer, or that a
+/// name has no hash. Without DO nothing is signed, but for RRSIG. A referral
 /// has its glue among the addresses of the zone (RFC 9471). Where memory is refused, the second may
 /// have been noted.
 pub fn respond<S: Scheme, H: Nsec3Hasher>(
@@ -105,8 +109,8 @@ pub fn respond<S: Scheme, H: Nsec3Hasher>(
     }
 }
 
-/// Answers a query at a moment: by what the zone holds, by what it says of a type that it does not
-/// hold, or by one RRset where all are asked for.
+/// Answers a query at a moment: by the RRset of an alias, or where none answers by what else the
+/// zone says.
 fn answer_query<S: Scheme, H: Nsec3Hasher>(
     alloc: Global,
     publisher: &mut Publisher<'_, S, H>,
@@ -127,6 +131,39 @@ fn answer_query<S: Scheme, H: Nsec3Hasher>(
         (IsOrWasNoted at.now publisher.old.latest publisher.new.latest) }
 {
     let question = question_of(alloc, query)?;
+    if let Some(alias) = publisher.alias_of(&question)? {
+        return answer_alias(
+            alloc, publisher, addresses, table, query, &alias, at, limit, udp_size,
+        );
+    }
+    answer_itself(
+        alloc, publisher, addresses, table, query, question, at, limit, udp_size,
+    )
+}
+
+/// Answers a query for which no alias answers: by what the zone holds, by what it says of a type
+/// that it does not hold, or by one RRset where all are asked for.
+fn answer_itself<S: Scheme, H: Nsec3Hasher>(
+    alloc: Global,
+    publisher: &mut Publisher<'_, S, H>,
+    addresses: &Addresses,
+    table: &[MadeSignature<'_>],
+    query: &Query<'_>,
+    question: Question,
+    at: &UnixTime,
+    limit: u16,
+    udp_size: u16,
+) -> Result<Response, AllocError>
+    requires { asked_of question ≡ (queried_of query.now).asked }
+    ensures response { let p = publisher.old in
+        let w = world_of S.signature_of S.verifies S.digest_of H.hash_of p in
+        let s = serving w p.keys table.now at.now limit udp_size addresses.now in
+        let q = queried_of query.now in
+        IfOk result (AnswersItself s q p.latest publisher.new.latest) }
+    ensures rest { publisher.new ≡ record publisher.old { latest = publisher.new.latest } }
+    ensures memory { OnErr result
+        (IsOrWasNoted at.now publisher.old.latest publisher.new.latest) }
+{
     if is_unheld(publisher.apex(), &question) {
         return answer_unheld(
             alloc, publisher, addresses, table, query, question, at, limit, udp_size,

@@ -6,7 +6,8 @@ ghost use Rattle.messages.specs.Questions.{asked_of};
 ghost use Rattle.server_answers.specs.Listed.{listed};
 ghost use Rattle.server_answers.specs.Moments.{IsOrWasNoted};
 ghost use Rattle.server_answers.specs.Responding.{serving, unsigned};
-ghost use Rattle.server_answers.specs.Subset.{AnswersSubset, IsChosen, IsFirst, IsHeld, MakesSubset, asks_all, for_type, is_memory, is_no_data, wants_signatures};
+ghost use Rattle.answer_publisher.specs.Aliases.{for_type};
+ghost use Rattle.server_answers.specs.Subset.{AnswersSubset, IsChosen, IsFirst, IsHeld, MakesSubset, is_memory, is_no_data, wants_signatures};
 ghost use Rattle.server_queries.specs.Views.{queried_of};
 
 use crate::listed::listed_types;
@@ -26,14 +27,8 @@ use server_responses::is_dnssec_ok;
 use server_signatures::{MadeSignature, Signed};
 use std::alloc::{AllocError, Global};
 
-/// Whether a question is for all records of its name, ANY, or for all signatures there, RRSIG.
-pub(crate) fn asks_all(question: &Question) -> bool
-    ensures { result ≡ asks_all (asked_of question.now) }
-{
-    matches!(question.rtype.to_int(), 46 | 255)
-}
-
-/// The answer to such a question at a moment: what the zone answers for one type. That is the least
+/// The answer to a question for all records of a name, ANY, or for all signatures there, RRSIG, at a
+/// moment: what the zone answers for one type. That is the least
 /// type of which it has records at the name, or at the wildcard that stands for it; where it has
 /// none, it says so of the reserved type (RFC 8482, 4.1). With RRSIG come the signatures of that
 /// RRset, without DO too.
@@ -64,7 +59,7 @@ pub(crate) fn answer_subset<S: Scheme, H: Nsec3Hasher>(
 }
 
 /// Whether a query wants signatures: by DO, or by its type.
-fn wants_signatures(query: &Query<'_>) -> bool
+pub(crate) fn wants_signatures(query: &Query<'_>) -> bool
     ensures { result ≡ wants_signatures (queried_of query.now) }
 {
     is_dnssec_ok(query) || query.question.rtype == Rtype::RRSIG

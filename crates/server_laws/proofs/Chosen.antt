@@ -1,5 +1,5 @@
 -- The type that is chosen where all are asked for is one that the zone answers for.
-use Rattle.std.proofs.Common.{◌≡◌, ◌∙◌, ℕ, Bool, true, false, not, ◌&&◌, ◌||◌, List, [], ◌∷◌, nat_le, eqb, refl, sym, subst}
+use Rattle.std.proofs.Common.{◌≡◌, ℕ, Bool, true, false, not, ◌&&◌, ◌||◌, List, [], ◌∷◌, nat_le, eqb, refl, sym, subst}
 use Rattle.std.specs.Prelude.{MatchBool}
 use Rattle.std.proofs.lemmas.Bool.{and_parts, or_parts}
 use Rattle.definitions.specs.Name.{at_or_above}
@@ -8,10 +8,11 @@ use Rattle.messages.specs.Message.{Asked}
 use Rattle.answer_shared.specs.Asking.{is_allowed}
 use Rattle.answer_publisher_keys.specs.Bindings.{ZoneKeys}
 use Rattle.server_answers.specs.Listed.{listed}
-use Rattle.server_answers.specs.Subset.{IsChosen, IsFirst, IsHeld, for_type, is_no_data}
+use Rattle.server_answers.specs.Aliases.{for_type}
+use Rattle.server_answers.specs.Subset.{IsChosen, IsFirst, IsHeld, is_no_data}
 use Rattle.server_answers.specs.World.{World}
 
-not_true : (b : Bool) → not b ≡ true → b ≡ false
+pub not_true : (b : Bool) → not b ≡ true → b ≡ false
 not_true true e = sym e
 not_true false e = refl
 

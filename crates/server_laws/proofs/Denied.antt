@@ -1,11 +1,11 @@
 -- A judge says of a response to a question for a type that no zone holds, or for all types, what it says of the message for the type in its place.
-use Rattle.std.proofs.Common.{◌≡◌, ℕ, ◌≤◌, ◌<◌, Bool, true, false, ◌||◌, List, [], ◌∷◌, ◌++◌, length, map, Result, Ok, Err, eqb, refl, sym, subst, ap, ◌∙◌, ⊎_elim, arith, lit<}
+use Rattle.std.proofs.Common.{◌≡◌, ℕ, ◌≤◌, ◌<◌, Bool, true, false, ◌||◌, List, [], ◌∷◌, ◌++◌, length, map, Ok, eqb, refl, sym, subst, ap, ◌∙◌, ⊎_elim, arith, lit<}
 use Rattle.std.specs.List.{AllByRecursion}
-use Rattle.std.proofs.lemmas.Bool.{eqb-true, false≢true, or_cases}
+use Rattle.std.proofs.lemmas.Bool.{eqb-true, or_cases}
 use Rattle.definitions.specs.Limits.{pointer_limit}
+use Rattle.denial_laws.specs.Aliases.{is_alias_type}
 use Rattle.messages.specs.HandedRr.{HandedRr, among}
 use Rattle.messages.specs.Message.{Asked, Message, Spelled, message}
-use Rattle.messages.specs.declared.error.MessageError.{MessageError}
 use Rattle.messages.specs.Written.{Written}
 use Rattle.messages.specs.WrittenLaws.{IsQuestion, first_place, spelled_from}
 use Rattle.answer_scheme.specs.Answers.{Answers}
@@ -15,7 +15,8 @@ use Rattle.answer_judge_facts.specs.Judged.{judged}
 use Rattle.server_answers.specs.Composed.{joined}
 use Rattle.server_answers.specs.Glue.{IsAddress, glue}
 use Rattle.server_answers.specs.Responding.{IsMessage, Serving}
-use Rattle.server_answers.specs.Subset.{for_type, wants_signatures}
+use Rattle.server_answers.specs.Aliases.{for_type}
+use Rattle.server_answers.specs.Subset.{wants_signatures}
 use Rattle.server_answers.specs.Unheld.{reserved}
 use Rattle.server_answers.specs.Table.{sign_by, verify_by}
 use Rattle.server_answers.specs.World.{AnswersQuestion}
@@ -24,12 +25,12 @@ use Rattle.server_queries.specs.Queries.{Queried}
 use Rattle.server_responses.specs.Links.{shows_link}
 use Rattle.server_responses.specs.Responses.{AnswersQuery, is_dnssec_ok, response_of}
 use Rattle.server_responses.specs.Sections.{written_as_handed}
-use Rattle.server_laws.specs.Heard.{DenialsJudgedAlike, HoldsAll, IsWhole, SubsetsJudgedAlike, has_link_in, is_link_shown, is_truncated}
+use Rattle.server_laws.specs.Heard.{AliasesJudgedAlike, DenialsJudgedAlike, HoldsAll, IsWhole, SubsetsJudgedAlike, has_link_in, is_link_shown, is_truncated}
 use Rattle.server_laws.proofs.Alone.{SignsOther}
 use Rattle.server_laws.proofs.AnyQuestion.{any_alike, any_uncovered}
 use Rattle.server_laws.proofs.Chosen.{chosen_plain}
 use Rattle.server_laws.proofs.Heard.{AreBare, alone, bare, by_table, hold_all, ok_is, opt_unjudged, told, unjudged, unused_all}
-use Rattle.server_laws.proofs.Shown.{IsAlone, IsUnused, alone_read, in_message, message_read, none_covers, shown_message, spelled_all, unasked, whole, whole_reads, whole_used, whole_where_clear}
+use Rattle.server_laws.proofs.Shown.{IsAlone, IsUnused, alone_read, in_message, message_read, none_covers, shown_message, spelled_all, whole, whole_reads, whole_used, whole_where_clear}
 
 module _ (flags : ℕ) (asked : Asked) (first second : List Written) (m : List ℕ) (limit size : ℕ) (q : Queried) (is_alone : IsAlone flags asked first second m) (small : size < 65536) (fits : limit ≤ 65535) (is : IsQuestion q.asked) (wanted : is_dnssec_ok q ≡ true) (gs : List HandedRr) (each : AllByRecursion IsAddress gs) (are_bare : AreBare gs (first ++ second)) (silent : shows_link q m (spelled_from (first_place asked) (first ++ second)) ≡ false) where
   abbrev more : List Written
@@ -134,3 +135,17 @@ subsets_judged s q old new octets h d silent small =
     let signs : wants_signatures q ≡ true = ap (λ b. b || eqb q.asked.rtype 46) h.wanted in
     let made = subst (λ (b : Bool). IsMessage s (for_type d.t q.asked) false b d.m) signs d.is_message in
     typed_judged s q octets h d.t small (chosen_plain s.world s.keys s.at q.asked d.t d.chosen) d.m silent (made.0 (sign_by s.table) (verify_by s.table) (own_entries s.table)).0 d.answers.each d.answers.answers
+
+-- a type of aliases is one of two
+pub of_aliases : (P : ℕ → Type 0) → P 5 → P 39 → (t : ℕ) → is_alias_type t ≡ true → P t
+of_aliases P five other t e = ⊎_elim
+    (λ is. subst P (sym (eqb-true t 5 is)) five)
+    (λ is. subst P (sym (eqb-true t 39 is)) other)
+    (or_cases (eqb t 5) (eqb t 39) e)
+
+pub aliases_judged : AliasesJudgedAlike
+aliases_judged s q t m octets h alias is answers silent =
+    let signs : wants_signatures q ≡ true = ap (λ b. b || eqb q.asked.rtype 46) h.wanted in
+    let made = subst (λ (b : Bool). IsMessage s (for_type t q.asked) false b m) signs is in
+    typed_judged s q octets h t (of_aliases (λ u. u < 65536) (lit< tt) (lit< tt) t alias) (of_aliases (λ u. among (46 ∷ 47 ∷ 50 ∷ []) u ≡ false) refl refl t alias) m silent
+    (made.0 (sign_by s.table) (verify_by s.table) (own_entries s.table)).0 answers.each answers.answers

@@ -1,5 +1,5 @@
 -- A judge says of a whole response what it says of the message that it is made of.
-use Rattle.std.proofs.Common.{◌≡◌, ◌⊎◌, ℕ, ◌+◌, ◌/◌, ◌%◌, ◌≤◌, ◌<◌, Bool, true, false, not, ◌&&◌, ◌||◌, List, [], ◌∷◌, ◌++◌, length, map, nat_eq, nat_le, Option, Some, None, Result, Ok, cond, eqb, inl, inr, refl, sym, subst, ap, ◌∙◌, ⊎_elim, arith, length-append, lit<}
+use Rattle.std.proofs.Common.{◌≡◌, ◌⊎◌, ℕ, ◌/◌, ◌%◌, ◌≤◌, ◌<◌, Bool, true, false, not, ◌&&◌, ◌||◌, List, [], ◌∷◌, ◌++◌, length, map, nat_eq, nat_le, Option, Some, None, Result, Ok, cond, eqb, inl, inr, refl, sym, subst, ap, ◌∙◌, ⊎_elim, arith, length-append, lit<}
 use Rattle.std.specs.Prelude.{if◌then◌else◌}
 use Rattle.std.specs.List.{AllByRecursion, AllZip, flat_map, list_any}
 use Rattle.std.proofs.lemmas.Bool.{and_parts, eqb-true, or_cases, or_parts}

@@ -7,3 +7,4 @@ pub mod Heard
 pub mod AnyQuestion
 pub mod Chosen
 pub mod Denied
+pub mod Aliased

@@ -7,18 +7,17 @@ use Rattle.definitions.specs.Name.{IsName, Name, labels_eq, low}
 use Rattle.definitions.specs.Zone.{Delegated, NoName, NoType, Open, Records, StarNoType, StarRecords, Unsigned, Verdict, Zone, ce, cut, has, is_open, star_under, verdict}
 use Rattle.definitions.specs.ZoneChain.{Mode, Nsec, Nsec3, nsec3_names, optout_of}
 use Rattle.messages.specs.Handed.{AreHanded, IsHanded}
-use Rattle.messages.specs.HandedRr.{HandedRr}
-use Rattle.messages.proofs.Lists.{Has, all_sorted}
+use Rattle.messages.specs.HandedRr.{HandedRr, is_meta}
+use Rattle.messages.proofs.Lists.{Has, all_fail, all_sorted}
 use Rattle.messages.proofs.ZoneNames.{labels_eq-same}
-use Rattle.answer_shared.specs.Accepted.{IsAccepted}
 use Rattle.answer_shared.specs.Accepting.{record_cmp, sorted_records, zone_of, zone_with}
 use Rattle.answer_shared.specs.Chainable.{HasChain}
 use Rattle.answer_shared.specs.Hashing.{Hasher, hash_in}
 use Rattle.answer_shared.specs.Served.{Group, Served, ahead, ahead_open, answer_groups, chain_names, chain_record, if_any, owner_among, proofs_of, rrset, served_of, served_owner, soa, speaks_for, spelled_among, spelled_as, spoken, under, unsigned_ns}
 use Rattle.answer_shared.proofs.ZoneCutNames.{cut_name}
-use Rattle.answer_shared.proofs.ZoneFaultless.{no_fault_from}
 use Rattle.answer_shared.proofs.ZoneNaming.{all_filter, chain_named, either, first_name, lower_name, owner_name}
-use Rattle.answer_shared.proofs.ZoneRising.{published_from}
+use Rattle.answer_zone_records.specs.AliasFaults.{IsAcceptedWithAliases}
+use Rattle.answer_zone_records.proofs.ZoneInOrder.{records_in_order}
 use Rattle.answer_alike.proofs.GivenLists.{contained_has}
 use Rattle.server_answers.proofs.WritesData.{of_chain}
 use Rattle.server_answers.proofs.WritesGroups.{IsFormed}
@@ -215,10 +214,10 @@ module _ (hasher : Hasher) (apex : Name) (limit : ℕ) (rs : List HandedRr) wher
       let each : AllByRecursion P (nsec3_names (zone_with apex sorted) optout) = all_has P (nsec3_names (zone_with apex sorted) optout) (λ n i. spelled_apex (hash n) (chain.fit n (contained_has (nsec3_names (zone_with apex sorted) optout) n i))) in
       hash_names apex iterations salt optout hash sorted (filter (λ o. list_any (speaks_for x o) qs) (chain_names x)) (all_filter P (λ o. list_any (speaks_for x o) qs) (chain_names x) (all_sorted P _ (nsec3_names (zone_with apex sorted) optout) each))
 
-  pub are_handed : (mode : Mode) → IsName apex → AllByRecursion IsHanded rs → IsAccepted hasher apex mode limit rs → AreHanded apex sorted
-  are_handed mode name handed accepted = record { apex_is = name; records_are = all_sorted IsHanded record_cmp rs handed; known = (no_fault_from apex mode limit rs accepted.faultless).known }
+  pub are_handed : (mode : Mode) → IsName apex → AllByRecursion IsHanded rs → IsAcceptedWithAliases hasher apex mode limit rs → AreHanded apex sorted
+  are_handed mode name handed accepted = record { apex_is = name; records_are = all_sorted IsHanded record_cmp rs handed; known = all_sorted (λ r. is_meta r ≡ false) record_cmp rs (all_fail is_meta rs accepted.faultless.plain.known) }
 
-  pub groups_formed : (mode : Mode) → IsName apex → AllByRecursion IsHanded rs → IsAccepted hasher apex mode limit rs → (q : Name) (t : ℕ) → IsName q → t < 65536 → of_chain t ≡ false
+  pub groups_formed : (mode : Mode) → IsName apex → AllByRecursion IsHanded rs → IsAcceptedWithAliases hasher apex mode limit rs → (q : Name) (t : ℕ) → IsName q → t < 65536 → of_chain t ≡ false
       → AllByRecursion IsFormed (answer_groups (served_of apex mode (hash_in hasher mode) sorted) q t)
   groups_formed mode name handed accepted q t is small plain =
       let h = are_handed mode name handed accepted in
@@ -226,5 +225,5 @@ module _ (hasher : Hasher) (apex : Name) (limit : ℕ) (rs : List HandedRr) wher
       let x = served_of apex mode hash sorted in
       let v = verdict (zone_with apex sorted) (optout_of mode) q t in
       let said = spoken x (low q) (verdict (zone_with apex sorted) false q t) v in
-      answer_formed apex mode hash sorted (published_from hasher apex mode limit rs accepted) h q t is small plain
-      (all_join Named (ahead x q t v) (proofs_of x said) (ahead_named apex mode hash sorted h q t is v) (chain_names_are mode h accepted.chain said))
+      answer_formed apex mode hash sorted (records_in_order hasher apex mode rs accepted.faultless.plain accepted.faultless.aliases accepted.chained) h q t is small plain
+      (all_join Named (ahead x q t v) (proofs_of x said) (ahead_named apex mode hash sorted h q t is v) (chain_names_are mode h accepted.chained.chain said))

@@ -5,14 +5,15 @@ use Rattle.definitions.specs.Limits.{pointer_limit}
 use Rattle.definitions.specs.Name.{IsName}
 use Rattle.definitions.specs.Zone.{verdict}
 use Rattle.definitions.specs.ZoneChain.{Mode, optout_of}
+use Rattle.denial_laws.specs.Aliases.{is_alias_type}
 use Rattle.messages.specs.Handed.{IsHanded}
 use Rattle.messages.specs.HandedRr.{HandedRr, among}
 use Rattle.messages.specs.declared.error.MessageError.{MessageError}
 use Rattle.messages.specs.Message.{Message, message, pair}
 use Rattle.messages.specs.WrittenLaws.{IsQuestion}
 use Rattle.answer_scheme.specs.Answers.{Answers}
-use Rattle.answer_shared.specs.Accepted.{IsAccepted}
 use Rattle.answer_shared.specs.Accepting.{sorted_records, zone_of}
+use Rattle.answer_zone_records.specs.AliasFaults.{IsAcceptedWithAliases}
 use Rattle.answer_judge_keys.specs.Judging.{Answer, JudgeInput, Says}
 use Rattle.answer_judge_facts.specs.Judged.{AnswersAs, judged}
 use Rattle.answer_alike.specs.Meeting.{WasGiven}
@@ -21,16 +22,18 @@ use Rattle.server_queries.specs.Headers.{has_flag}
 use Rattle.server_queries.specs.Queries.{Queried}
 use Rattle.server_responses.specs.Links.{shows_link}
 use Rattle.server_responses.specs.Responses.{is_dnssec_ok}
-use Rattle.server_answers.specs.Responding.{IsAnswered, Serving}
-use Rattle.server_answers.specs.Subset.{IsSubset}
+use Rattle.server_answers.specs.Aliases.{for_type}
+use Rattle.server_answers.specs.Glued.{AnswersGlued}
+use Rattle.server_answers.specs.Responding.{IsAnswered, IsMessage, Serving}
+use Rattle.server_answers.specs.Subset.{IsSubset, wants_signatures}
 use Rattle.server_answers.specs.Unheld.{IsDenied}
 
--- the zone of a world is one of records that were handed in and accepted
+-- the zone of a world is one of records that were handed in and accepted, aliases among them or not
 pub record IsZone (w : World) : Type 0 where
   pub records : List HandedRr
   pub apex_is : IsName w.zone.apex
   pub records_are : AllByRecursion IsHanded records
-  pub accepted : IsAccepted w.answers.hash w.zone.apex w.zone.mode w.zone.limit records
+  pub accepted : IsAcceptedWithAliases w.answers.hash w.zone.apex w.zone.mode w.zone.limit records
   pub sorted : w.zone.records ≡ sorted_records records
 
 -- TC: the message holds less than was asked for (RFC 1035, 4.1.1)
@@ -87,6 +90,14 @@ abbrev pub SubsetsJudgedAlike : Type 0
 SubsetsJudgedAlike =
     (s : Serving) (q : Queried) (old new : Option ℕ) (octets : List ℕ) → HoldsAll s q octets → (d : IsSubset s q old new octets) → is_link_shown q d.m ≡ false → d.t < 65536
     → (a : Answers) (h : JudgeInput) → h.other_question ≡ true → judged a pointer_limit (record h { answer_bytes = octets }) ≡ judged a pointer_limit (record h { answer_bytes = d.m })
+
+-- The response to a question that the CNAME or DNAME RRset of the name answers is made of the message for that type: such a judge says
+-- of it what it says of that message.
+abbrev pub AliasesJudgedAlike : Type 0
+AliasesJudgedAlike =
+    (s : Serving) (q : Queried) (t : ℕ) (m octets : List ℕ) → HoldsAll s q octets → is_alias_type t ≡ true → IsMessage s (for_type t q.asked) false (wants_signatures q) m
+    → AnswersGlued s.limit s.size q s.addresses m octets → is_link_shown q m ≡ false
+    → (a : Answers) (h : JudgeInput) → h.other_question ≡ true → judged a pointer_limit (record h { answer_bytes = octets }) ≡ judged a pointer_limit (record h { answer_bytes = m })
 
 -- What a zone under keys that meet has given, a DNSKEY answer and an answer, is judged by its clients as it is: from the whole responses
 -- that they have of both, whichever servers of the zone made them, the judge says the zone's verdict.

@@ -1,5 +1,6 @@
 //! Laws of the responses of a name server.
-ghost use Rattle.server_laws.specs.Heard.{ClientsAreTold, DenialsJudgedAlike, ResponsesJudgedAlike, SubsetsJudgedAlike};
+ghost use Rattle.server_laws.specs.Aliased.{AliasesAreAnswered, AllowedAreAliased};
+ghost use Rattle.server_laws.specs.Heard.{AliasesJudgedAlike, ClientsAreTold, DenialsJudgedAlike, ResponsesJudgedAlike, SubsetsJudgedAlike};
 ghost use Rattle.server_laws.specs.Unheld.{AbsentAnsweredAlike, UnheldAnsweredAlike};
 
 /// A judge says of a whole response to a query that wants records of DNSSEC what it says of the
@@ -13,8 +14,8 @@ pub fn responses_are_judged_alike()
     ensures { ResponsesJudgedAlike }
 {}
 
-/// A response to a question for a type that no zone holds (CNAME, DNAME, NSEC3; but at the apex
-/// DNSKEY and NSEC3PARAM), or for NSEC, is made of the zone's message for a reserved type: of such a
+/// A response to a question for a type that the zone does not hold at the name (CNAME, DNAME, NSEC3;
+/// but at the apex DNSKEY and NSEC3PARAM), or for NSEC, is made of the message for a reserved type: of such a
 /// response, whole and with records of DNSSEC, a judge that takes an answer to another question says
 /// what it says of that message. The law does not cover a response that has the NSEC record that is
 /// asked for, and so no SOA record.
@@ -27,6 +28,22 @@ pub fn denials_are_judged_alike()
 /// takes an answer to another question says what it says of that message.
 pub fn subsets_are_judged_alike()
     ensures { SubsetsJudgedAlike }
+{}
+
+/// A response to a question that the CNAME RRset of the name answers, or its DNAME RRset where that
+/// is asked for, is made of the zone's message for that type: of such a response, whole and with
+/// records of DNSSEC, a judge that takes an answer to another question says what it says of that
+/// message.
+pub fn aliases_are_judged_alike()
+    ensures { AliasesJudgedAlike }
+{}
+
+/// Whether an RRset of an alias answers: of an allowed question exactly where the name is an alias
+/// for the type (RFC 1034, 4.3.2; RFC 6672, 3.2). The question that is answered then is one that a
+/// publisher answers, so no such response is REFUSED.
+pub fn aliases_answer_for_their_names()
+    ensures exactly { AllowedAreAliased }
+    ensures answered { AliasesAreAnswered }
 {}
 
 /// So the verdict reaches the clients of a name server: from the whole responses to two queries,

@@ -31,12 +31,12 @@ eleven r =
       wire_len-some r.owner,
     )
 
-elevens : (rs : List Written) → length rs * 11 ≤ length (flat_map record_octets rs)
+pub elevens : (rs : List Written) → length rs * 11 ≤ length (flat_map record_octets rs)
 elevens [] = omega arith
 elevens (r ∷ rs) = omega (arith, length-append (record_octets r) (flat_map record_octets rs), eleven r, elevens rs)
 
 -- octets within others
-inside : (a b c d : List ℕ) → length c ≤ length (a ++ (b ++ c) ++ d)
+pub inside : (a b c d : List ℕ) → length c ≤ length (a ++ (b ++ c) ++ d)
 inside a b c d = omega (arith, length-append (a ++ (b ++ c)) d, length-append a (b ++ c), length-append b c)
 
 -- more records than a message has room for

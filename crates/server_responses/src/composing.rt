@@ -9,7 +9,8 @@ ghost use Rattle.messages.specs.Written.{record_octets};
 ghost use Rattle.server_queries.specs.Views.{queried_of};
 ghost use Rattle.server_responses.specs.Responses.{AnswersQuery, IsUnreadable, answers_shown};
 ghost use Rattle.server_responses.specs.Responses.{authority_shown, error_response, is_dnssec_ok};
-ghost use Rattle.server_responses.specs.Responses.{response_flags, whole_response};
+ghost use Rattle.server_responses.specs.Responses.{response_flags, truncated_response};
+ghost use Rattle.server_responses.specs.Responses.{whole_response};
 ghost use Rattle.server_responses.specs.Sections.{written_as_handed};
 
 use crate::links::{push_links, shows_link};
@@ -82,8 +83,21 @@ pub fn response(
     if let Some(whole) = found {
         return Ok(whole);
     }
+    Ok(truncated_response(alloc, query, message, udp_size)?)
+}
+
+/// The response that has TC and no record but OPT (RFC 2181, 9).
+pub(crate) fn truncated_response(
+    alloc: Global,
+    query: &Query<'_>,
+    message: &[u8],
+    udp_size: u16,
+) -> Result<Vec<u8>, AllocError>
+    ensures { let q = queried_of query.now in
+        IfOk result (λ v. v.items ≡ truncated_response udp_size q message.now) }
+{
     let flags = response_flags(query.header, pair_at(message, 2), true);
-    Ok(reply_octets(alloc, query, flags, Counts::NONE, &[], udp_size)?)
+    reply_octets(alloc, query, flags, Counts::NONE, &[], udp_size)
 }
 
 /// The response with all of its records, where it has no more octets than the limit.
@@ -152,7 +166,7 @@ fn push_additional(out: &mut Vec<u8>, records: &[&ZoneRecord]) -> Result<(), All
 }
 
 /// Appends what the response has of the answer section, and says how many records these are.
-fn push_answers(
+pub(crate) fn push_answers(
     out: &mut Vec<u8>,
     query: &Query<'_>,
     message: &[u8],
@@ -185,7 +199,7 @@ fn push_answers(
 }
 
 /// Appends what the response has of the authority section, and says how many records these are.
-fn push_authority(
+pub(crate) fn push_authority(
     out: &mut Vec<u8>,
     query: &Query<'_>,
     message: &[u8],
@@ -237,7 +251,7 @@ pub fn error_response(
 }
 
 /// The flags of a response: QR, RD of the query, AA and the RCODE of the message, and TC.
-fn response_flags(header: RequestHeader, message_flags: u16, is_truncated: bool) -> u16
+pub(crate) fn response_flags(header: RequestHeader, message_flags: u16, is_truncated: bool) -> u16
     ensures { result ≡ response_flags header message_flags is_truncated }
 {
     let desired = u16::from(header.is_recursion_desired());

@@ -5,9 +5,11 @@
 pub mod composing;
 pub mod links;
 mod records;
+pub mod redirects;
 pub mod transport;
 mod write;
 
 pub use crate::composing::{ResponseError, error_response, is_dnssec_ok, response};
 pub use crate::links::is_link_hidden;
+pub use crate::redirects::redirect_response;
 pub use crate::transport::{Transport, size_limit};

@@ -1,5 +1,6 @@
 //! Answers by a table of signatures.
-ghost use Rattle.std.specs.Prelude.{◌≡◌, ◌<◌, IfErr, IfOk, length};
+ghost use Rattle.std.specs.Prelude.{◌≡◌, ◌<◌, false, IfErr, IfOk, IsErrOf, length};
+ghost use Rattle.answer_publisher.specs.Aliases.{is_answered};
 ghost use Rattle.answer_publisher.specs.Inputs.{answer_inputs, keys_inputs};
 ghost use Rattle.answer_publisher.specs.World.{world_of};
 ghost use Rattle.messages.specs.Questions.{asked_of};
@@ -27,9 +28,9 @@ pub enum Signed {
     Missing(Vec<SigningInput>),
 }
 
-/// Answers a question as [`Publisher::answer`] does, signed by a table of signatures that were made
-/// elsewhere. What the table lacks is asked for, all at once, and nothing is noted. Where it lacks
-/// nothing, nothing is asked for.
+/// Answers a question as [`Publisher::answer_any`] does, signed by a table of signatures that were
+/// made elsewhere. What the table lacks is asked for, all at once, and nothing is noted. Where it
+/// lacks nothing, nothing is asked for.
 ///
 /// A caller begins with no entry, makes what is asked for in any order, puts it into its table and
 /// calls again. Entries of other answers do no harm; of two with one key and octets the first
@@ -47,10 +48,12 @@ pub fn answer_by_table<S: Scheme, H: Nsec3Hasher>(
     ensures fault { let p = publisher.old in let asked = asked_of question.now in
         let w = world_of S.signature_of S.verifies S.digest_of H.hash_of p in
         IfErr result (RefusesEach table.now w p.keys now.now asked) }
+    ensures allowed { let answered = is_answered publisher.old.zone.apex (asked_of question.now) in
+        IsErrOf result AnswerFault.QuestionNotAllowed → answered ≡ false }
     ensures noted { let latest = latest_after result publisher.old.latest now.now in
         publisher.new ≡ record publisher.old { latest = latest } }
 {
-    match publisher.answer_with(&TableScheme { table }, question, now) {
+    match publisher.answer_any_with(&TableScheme { table }, question, now) {
         Ok(message) => Ok(Signed::Message(message)),
         Err(fault) => {
             if is_sign_failed(fault) {
@@ -78,9 +81,11 @@ fn missing_for<S: Scheme, H: Nsec3Hasher>(
     ensures fault { let p = publisher.now in let asked = asked_of question.now in
         let w = world_of S.signature_of S.verifies S.digest_of H.hash_of p in
         IfErr result (RefusesEach table.now w p.keys now.now asked) }
+    ensures allowed { let answered = is_answered publisher.now.zone.apex (asked_of question.now) in
+        IsErrOf result AnswerFault.QuestionNotAllowed → answered ≡ false }
     ensures unnoted { latest_after result publisher.now.latest now.now ≡ publisher.now.latest }
 {
-    match publisher.signing_inputs(question, now) {
+    match publisher.any_signing_inputs(question, now) {
         Ok(inputs) => Ok(Signed::Missing(missing(table, inputs))),
         Err(fault) => Err(fault),
     }

@@ -5,11 +5,11 @@ use Rattle.definitions.specs.Name.{Name}
 use Rattle.definitions.specs.ZoneChain.{Mode}
 use Rattle.messages.specs.HandedRr.{HandedRr, handed_of}
 use Rattle.answer_zone.specs.HashedZone.{accepted_zone}
-use Rattle.answer_zone_records.specs.Faults.{first_fault}
+use Rattle.answer_zone_records.specs.AliasFaults.{IsOrderlyList, first_plain_fault}
 use Rattle.answer_zone_records.specs.declared.fault.ZoneFault.TheVariants as fault
 use Rattle.answer_publisher_keys.specs.Bindings.{no_keys}
 use Rattle.answer_publisher.specs.World.{zone_by}
-use Rattle.answer_shared.specs.Accepting.{IsFaultless, sorted_records}
+use Rattle.answer_shared.specs.Accepting.{sorted_records}
 use Rattle.answer_shared.specs.Hashing.{Hasher}
 use Rattle.answer_shared.specs.ZoneView.{AcceptedZone}
 use Rattle.answer_publisher.specs.declared.publishing.Publisher.{Publisher}
@@ -86,14 +86,13 @@ fresh_of {S = S} {H = H} scheme hasher zl rs z p same scheme_is hasher_is unansw
   addresses = (rs, ap (λ (q : Publisher S H). q.zone.records) same ∙ ap (λ (y : AcceptedZone). y.records) zone, addresses);
 }
 
--- an accepted list has no fault of its own
-pub no_first : (apex : Name) (mode : Mode) (limit : ℕ) (rs : List HandedRr) → IsFaultless apex mode limit rs → first_fault apex mode limit rs ≡ None
-no_first apex mode limit rs f = λ i.
-    if f.of_class_in i then Some fault.WrongClass
-    else if f.inside i then Some fault.OutsideApex
-    else if f.unsigned i then Some fault.SignedType
-    else if f.no_alias i then Some fault.Alias
-    else if f.known i then Some fault.MetaType
-    else if f.no_star_delegation i then Some fault.StarNs
+-- an accepted list has no fault but of aliases or the chain
+pub no_plain : (apex : Name) (mode : Mode) (limit : ℕ) (rs : List HandedRr) → IsOrderlyList apex mode limit rs → first_plain_fault apex mode limit rs ≡ None
+no_plain apex mode limit rs f = λ i.
+    if f.plain.of_class_in i then Some fault.WrongClass
+    else if f.plain.inside i then Some fault.OutsideApex
+    else if f.plain.unsigned i then Some fault.SignedType
+    else if f.plain.known i then Some fault.MetaType
+    else if f.plain.no_star_delegation i then Some fault.StarNs
     else if f.within_limit i then Some fault.IterationsOverLimit
     else None

@@ -3,7 +3,7 @@ use Rattle.std.specs.Prelude.{◌≡◌, ℕ, ◌+◌, ◌<◌, ◌≤◌, ◌==
 use Rattle.std.specs.Str.{is_utf8}
 use Rattle.messages.specs.HandedRr.{HandedRr, handed_of}
 use Rattle.answer_shared.specs.Hashing.{Hasher}
-use Rattle.answer_zone_records.specs.Faults.{RefusesZone}
+use Rattle.answer_zone_records.specs.AliasFaults.{RefusesZoneWithAliases}
 use Rattle.denialbench_session.specs.Grammar.{◌>>=◌, ZoneLine, zone_line}
 use Rattle.denialbench_session.specs.Lines.{is_passed_over}
 use Rattle.denialbench_session.specs.Readings.{zone_view}
@@ -132,7 +132,7 @@ RefusesFirst line f = ⊥
 -- why it is refused where the zone's own records stand, which the first event takes together: no answer was given, so no
 -- replacement comes too soon
 abbrev pub RefusesOwn : Digest → Hasher → ZoneLine → List HandedRr → StateLine → Refusal → Type 0
-RefusesOwn digest hash z rs l (refusal.Zone f) = RefusesZone hash z.apex z.mode z.limit rs f
+RefusesOwn digest hash z rs l (refusal.Zone f) = RefusesZoneWithAliases hash z.apex z.mode z.limit rs f
 RefusesOwn digest hash z rs l f = RefusesTo digest hash None (made z rs) l f
 
 abbrev pub RefusesBeginning : Digest → Hasher → ZoneLine → List HandedRr → List ℕ → Refusal → Type 0
@@ -149,7 +149,7 @@ RefusesBehind digest hash (Running s) line f = RefusesLine digest hash None s li
 -- why there is no zone at the end of the lines
 abbrev pub RefusesEnd : Hasher → Phase → Refusal → Type 0
 RefusesEnd hash Empty (refusal.Unreadable NoZone) = Unit {0}
-RefusesEnd hash (Beginning z rs) (refusal.Zone f) = RefusesZone hash z.apex z.mode z.limit rs f
+RefusesEnd hash (Beginning z rs) (refusal.Zone f) = RefusesZoneWithAliases hash z.apex z.mode z.limit rs f
 RefusesEnd hash p f = ⊥
 
 -- why nothing follows: the first of the lines is refused, or there is none, and no zone

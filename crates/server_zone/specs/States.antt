@@ -4,15 +4,16 @@ use Rattle.std.specs.List.{AllByRecursion}
 use Rattle.definitions.specs.Dnskey.{Dnskey}
 use Rattle.messages.specs.Handed.{IsHanded}
 use Rattle.messages.specs.HandedRr.{HandedRr, handed_of}
-use Rattle.answer_shared.specs.Accepted.{IsAccepted}
 use Rattle.answer_shared.specs.Accepting.{sorted_records}
 use Rattle.answer_shared.specs.Hashing.{Hasher}
 use Rattle.answer_shared.specs.ZoneView.{AcceptedZone}
 use Rattle.answer_zone.specs.HashedZone.{accepted_zone}
+use Rattle.answer_zone_records.specs.AliasFaults.{IsAcceptedWithAliases}
 use Rattle.answer_publisher_keys.specs.Bindings.{Call, Outcome, ZoneKeys, apply, no_keys}
 use Rattle.answer_publisher_keys.specs.KeyCalls.{Fails, IsNamed, RanOut, fault_of}
 use Rattle.answer_publisher.specs.Publishing.{digest_at}
-use Rattle.answer_publisher.specs.Replacing.{RefusesReplacement, is_too_soon}
+use Rattle.answer_publisher.specs.Aliases.{RefusesReplacementWithAliases}
+use Rattle.answer_publisher.specs.Replacing.{is_too_soon}
 use Rattle.answer_publisher.specs.World.{zone_by}
 use Rattle.answer_publisher.specs.declared.publishing.Publisher.{Publisher}
 use Rattle.denialbench_session.specs.Grammar.{◌>>=◌, ZoneLine}
@@ -89,7 +90,7 @@ Follows digest hash latest s (Added r) applied.Gathered t = (s.begun ≡ true) �
 Follows digest hash latest s (Replaced at) applied.Replaced t =
     (is_too_soon latest at ≡ false)
     × AllByRecursion IsHanded s.gathered
-    × IsAccepted hash s.zone.apex s.zone.mode s.zone.limit s.gathered
+    × IsAcceptedWithAliases hash s.zone.apex s.zone.mode s.zone.limit s.gathered
     × (t ≡ replaced s)
 Follows digest hash latest s (Called at c) (applied.Actions actions) t =
     (keys : ZoneKeys) × (apply (digests digest s) c at s.keys ≡ Ok (keys, actions.items)) × (t ≡ called keys s)
@@ -107,7 +108,7 @@ RefusesRecord s _ = ⊥
 
 abbrev pub RefusesReplaced : Hasher → Option ℕ → State → ℕ → Refusal → Type 0
 RefusesReplaced hash latest s at refusal.Memory = Unit {0}
-RefusesReplaced hash latest s at (refusal.Replace f) = RefusesReplacement hash s.zone latest at s.gathered f
+RefusesReplaced hash latest s at (refusal.Replace f) = RefusesReplacementWithAliases hash s.zone latest at s.gathered f
 RefusesReplaced hash latest s at _ = ⊥
 
 abbrev pub RefusesCall : Digest → State → ℕ → Call → Refusal → Type 0

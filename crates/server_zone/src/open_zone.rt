@@ -180,7 +180,7 @@ impl<'a, S: Scheme, H: Nsec3Hasher> Zone<'a, S, H> {
     {
         let copies = copy_records(self.alloc, &self.gathered)?;
         let addresses = Addresses::of(self.alloc, &self.gathered)?;
-        match self.publisher.replace_zone(copies, at) {
+        match self.publisher.replace_zone_with_aliases(copies, at) {
             Ok(()) => {
                 self.addresses = addresses;
                 self.gathered = Vec::new(self.alloc);

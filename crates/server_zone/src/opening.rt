@@ -1,7 +1,7 @@
 //! Opening a zone from its journal.
 ghost use Rattle.std.specs.Prelude.{◌≡◌, ◌++◌, ◌≤◌, ◌==◌, length, map, IfErr, IfOk, Some, false, take, true};
 ghost use Rattle.messages.specs.HandedRr.{handed_of};
-ghost use Rattle.answer_zone_records.specs.Faults.{RefusesZone};
+ghost use Rattle.answer_zone_records.specs.AliasFaults.{RefusesZoneWithAliases};
 ghost use Rattle.denialbench_session.specs.Readings.{zone_view};
 ghost use Rattle.server_zone.specs.Journals.{HasRead, IsFresh, IsOpenError, IsOpening, IsSettledAt, NoneSettledBehind, RefusesBehind, RefusesBeginning, RefusesEnd, RefusesFirst, RefusesOwn, ended, first_line, is_settled, journal_state, own_line, phase_view, ran, with_line, with_own};
 ghost use Rattle.server_zone.specs.Lines.{has_feed, unfinished};
@@ -261,10 +261,10 @@ impl<'a, S: Scheme, H: Nsec3Hasher> Opener<'a, S, H> {
         ensures fresh { IfOk result (IsFresh self.now.scheme.now self.now.hasher.now) }
         ensures err { let z = zone_view zone in let rs = map handed_of records.items in
             let hash = H.hash_of self.now.hasher.now in
-            IfErr result (RefusesZone hash z.apex z.mode z.limit rs) }
+            IfErr result (RefusesZoneWithAliases hash z.apex z.mode z.limit rs) }
     {
         let addresses = Addresses::of(self.alloc, &records);
-        let publisher = Publisher::new(
+        let publisher = Publisher::with_aliases(
             self.alloc,
             zone.apex,
             records,

@@ -71,7 +71,8 @@ impl Desk {
         let apex = name_of(alloc, "example")?;
         let addresses = Addresses::of(alloc, &records).ok()?;
         let (scheme, hasher) = (&DigestScheme, &Sha1Hasher);
-        match Publisher::new(alloc, apex, records, Mode::Nsec, scheme, hasher, 0, life) {
+        let mode = Mode::Nsec;
+        match Publisher::with_aliases(alloc, apex, records, mode, scheme, hasher, 0, life) {
             Ok(publisher) => {
                 self.served = Some(Served {
                     publisher,

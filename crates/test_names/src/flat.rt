@@ -39,17 +39,29 @@ pub fn told<N: ToName + Display>(alloc: Global, answer: &mut Answer, name: &N) -
     answer.value(&name.label_count());
     answer.value(&name.compose_len());
     said::label(answer, name.iter_labels().next());
-    let mut own = name.to_vec(alloc).ok()?;
+    let own = name.to_vec(alloc).ok()?;
+    let text = text(alloc, answer, name, own.as_slice())?;
+    let lower = lowered(answer, alloc, name, own);
+    answer.octets(lower.as_slice());
+    answer.word(&text);
+    Some(())
+}
+
+/// A copy of a name in lower case, where the others agree.
+pub fn lowered<N: ToName>(
+    answer: &mut Answer,
+    alloc: Global,
+    name: &N,
+    own: Name<Vec<u8>>,
+) -> Name<Vec<u8>> {
+    let mut own = own;
     answer.check(is_name(name.to_name(alloc), own.as_slice()));
     answer.check(is_name(name.try_to_name(alloc), own.as_slice()));
     answer.check(is_name(name.to_cow(alloc), own.as_slice()));
-    let text = text(alloc, answer, name, own.as_slice())?;
     own.make_canonical();
     answer.check(is_name(name.to_canonical_name(alloc), own.as_slice()));
     answer.check(is_name(name.try_to_canonical_name(alloc), own.as_slice()));
-    answer.octets(own.as_slice());
-    answer.word(&text);
-    Some(())
+    own
 }
 
 /// The text of a name with its last dot, which is read as its octets; without it the text is the
@@ -86,19 +98,31 @@ pub fn relative(alloc: Global, answer: &mut Answer, octets: &[u8]) -> Option<()>
     answer.value(&name.len());
     said::label(answer, name.first());
     said::label(answer, name.last());
-    answer.check(is_relative(name.to_relative_name(alloc), octets));
-    answer.check(is_relative(name.try_to_relative_name(alloc), octets));
-    answer.check(is_relative(name.to_cow(alloc), octets));
     answer.check(is_relative::<Vec<u8>, _>(name.for_ref().flatten_into(alloc), octets));
     answer.check(name.is_empty() == octets.is_empty());
-    let mut own = name.to_vec(alloc).ok()?;
+    let own = name.to_vec(alloc).ok()?;
     answer.check(own.as_slice() == octets);
+    let lower = lowered_relative(answer, alloc, &name, own);
+    answer.octets(lower.as_slice());
+    answer.value(&name);
+    Some(())
+}
+
+/// A copy of a relative name in lower case, where the others agree.
+pub fn lowered_relative<N: ToRelativeName>(
+    answer: &mut Answer,
+    alloc: Global,
+    name: &N,
+    own: RelativeName<Vec<u8>>,
+) -> RelativeName<Vec<u8>> {
+    let mut own = own;
+    answer.check(is_relative(name.to_relative_name(alloc), own.as_slice()));
+    answer.check(is_relative(name.try_to_relative_name(alloc), own.as_slice()));
+    answer.check(is_relative(name.to_cow(alloc), own.as_slice()));
     own.make_canonical();
     answer.check(is_relative(name.to_canonical_relative_name(alloc), own.as_slice()));
     answer.check(is_relative(name.try_to_canonical_relative_name(alloc), own.as_slice()));
-    answer.octets(own.as_slice());
-    answer.value(&name);
-    Some(())
+    own
 }
 
 /// The root, the wildcard name and the empty one, as each of their functions makes them.

@@ -47,7 +47,13 @@ fn answer_to(alloc: Global, answer: &mut Answer, line: &str) -> Option<()> {
 fn answer_to_octets(alloc: Global, answer: &mut Answer, word: &str, line: &str) -> Option<()> {
     let (first, rest) = first_word(line);
     match word {
-        "pair" | "relative-pair" | "label-pair" | "chain" | "strip" | "strip-relative" => {
+        "pair"
+        | "relative-pair"
+        | "label-pair"
+        | "chain"
+        | "relative-chain"
+        | "strip"
+        | "strip-relative" => {
             let (first, second) = (octets_of(alloc, first)?, octets_of(alloc, rest)?);
             orders::answer_to(alloc, answer, word, &first, &second)
         }
@@ -56,6 +62,7 @@ fn answer_to_octets(alloc: Global, answer: &mut Answer, word: &str, line: &str) 
             let (begin, end) = (begin.parse().ok()?, end.parse().ok()?);
             parts::answer_between(answer, word, octets_of(alloc, first)?, begin, end)
         }
+        "value" => wire_numbers::value(alloc, answer, first, &octets_of(alloc, rest)?),
         "flat-turns" | "relative-turns" => {
             parts::answer_by_turns(answer, word, first, &octets_of(alloc, rest)?)
         }

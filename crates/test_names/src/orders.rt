@@ -1,5 +1,6 @@
 //! Two names or labels: how they stand to one another, and one in front of the other or without it.
 
+use crate::flat::{lowered, lowered_relative};
 use crate::said;
 use names::{
     Label, Labels, Name, OwnedLabel, ParsedName, Parser, RelativeName, ToLabelIter, ToName,
@@ -25,6 +26,7 @@ pub fn answer_to(
         "relative-pair" => relative_pair(answer, first, second),
         "label-pair" => label_pair(answer, first, second),
         "chain" => chain(alloc, answer, first, second),
+        "relative-chain" => relative_chain(alloc, answer, first, second),
         "strip" => {
             let base = Name::from_slice(second).ok()?;
             let name = Name::from_slice(first).ok()?.to_vec(alloc).ok()?;
@@ -113,7 +115,7 @@ fn hash_of(label: Label<'_>) -> u64 {
     hasher.finish()
 }
 
-/// A name in front of another one, in wire form; or why they are too long.
+/// A name in front of another one, in wire form, where all copies agree; or why they are too long.
 fn chain(alloc: Global, answer: &mut Answer, front: &[u8], end: &[u8]) -> Option<()> {
     let front = RelativeName::from_slice(front).ok()?;
     let end = Name::from_slice(end).ok()?;
@@ -132,6 +134,19 @@ fn chain(alloc: Global, answer: &mut Answer, front: &[u8], end: &[u8]) -> Option
     answer.octets(flat.as_slice());
     answer.value(&chain.label_count());
     answer.value(&chain.compose_len());
+    let lower = lowered(answer, alloc, &chain, flat);
+    answer.check(chain.name_eq(&lower));
+    Some(())
+}
+
+/// A relative name in front of another one, in wire form and in lower case, where all copies agree.
+fn relative_chain(alloc: Global, answer: &mut Answer, front: &[u8], end: &[u8]) -> Option<()> {
+    let front = RelativeName::from_slice(front).ok()?;
+    let chain = front.chain(RelativeName::from_slice(end).ok()?).ok()?;
+    let flat = chain.to_vec(alloc).ok()?;
+    answer.octets(flat.as_slice());
+    let lower = lowered_relative(answer, alloc, &chain, flat);
+    answer.octets(lower.as_slice());
     Some(())
 }
 

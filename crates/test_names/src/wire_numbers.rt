@@ -2,18 +2,20 @@
 
 use names::{Compose, Parse, ParseError, Parser, Serial};
 use std::alloc::Global;
+use std::fmt::Display;
+use std::net::{Ipv4Addr, Ipv6Addr};
 use test_lines::Answer;
 
-/// A number that is read, and written behind the others.
-fn copied<N: Parse + Compose + Copy>(
+/// Says a number that is read, and writes it behind the others.
+fn push<N: Parse + Compose + Display + Drop>(
+    answer: &mut Answer,
     parser: &mut Parser<'_>,
     target: &mut Vec<u8>,
-) -> Result<N, ParseError> {
+) -> Result<(), ParseError> {
     let number = N::parse(parser)?;
-    match number.compose(target) {
-        Ok(()) => Ok(number),
-        Err(_) => Err(ParseError::ShortInput),
-    }
+    answer.check(is_appended(&number, target));
+    answer.value(&number);
+    Ok(())
 }
 
 /// Octets as numbers of 8, 16 and 32 bits, one of 16 with its sign and two octets, or the fault of
@@ -32,14 +34,45 @@ fn push_numbers(
     parser: &mut Parser<'_>,
     written: &mut Vec<u8>,
 ) -> Result<(), ParseError> {
-    answer.value(&copied::<u8>(parser, written)?);
-    answer.value(&copied::<u16>(parser, written)?);
-    answer.value(&copied::<u32>(parser, written)?);
-    answer.value(&copied::<i16>(parser, written)?);
-    let pair = copied::<[u8; 2]>(parser, written)?;
+    push::<u8>(answer, parser, written)?;
+    push::<u16>(answer, parser, written)?;
+    push::<u32>(answer, parser, written)?;
+    push::<i16>(answer, parser, written)?;
+    let pair = <[u8; 2]>::parse(parser)?;
+    answer.check(is_appended(&pair, written));
     answer.octets(&pair);
-    answer.value(&copied::<u8>(parser, written)?);
-    Ok(())
+    push::<u8>(answer, parser, written)
+}
+
+/// Octets as one value of a kind, and the octets that are written by a reference to it.
+pub fn value(alloc: Global, answer: &mut Answer, kind: &str, octets: &[u8]) -> Option<()> {
+    match kind {
+        "u64" => written_again::<u64>(alloc, answer, octets),
+        "i8" => written_again::<i8>(alloc, answer, octets),
+        "i32" => written_again::<i32>(alloc, answer, octets),
+        "i64" => written_again::<i64>(alloc, answer, octets),
+        "ipv4" => written_again::<Ipv4Addr>(alloc, answer, octets),
+        "ipv6" => written_again::<Ipv6Addr>(alloc, answer, octets),
+        _ => None,
+    }
+}
+
+fn written_again<V: Parse + Compose + Display + Drop>(
+    alloc: Global,
+    answer: &mut Answer,
+    octets: &[u8],
+) -> Option<()> {
+    let value = V::parse(&mut Parser::from_ref(octets)).ok()?;
+    let mut written = Vec::new(alloc);
+    answer.check(is_appended(&&value, &mut written));
+    answer.value(&value);
+    answer.octets(&written);
+    Some(())
+}
+
+/// Whether a value is appended, by its own bound.
+fn is_appended<V: Compose>(value: &V, target: &mut Vec<u8>) -> bool {
+    value.compose(target).is_ok()
 }
 
 /// Where a parser of octets stands that is to go to a place and on by so many: or the fault, and

@@ -1,5 +1,6 @@
 //! Bitmaps of types.
 
+use arrayvec::ArrayVec;
 use denial_data::{RtypeBitmap, RtypeBitmapBuilder};
 use names::Rtype;
 use std::alloc::Global;
@@ -10,6 +11,7 @@ pub fn answer_to(alloc: Global, answer: &mut Answer, asked: &str, line: &str) ->
     match asked {
         "bitmap" => bitmap_of(alloc, answer, numbers_of(alloc, line)?),
         "each" => bitmap_of_each(alloc, answer, line.parse().ok()?),
+        "room" => in_five_octets(answer, &numbers_of(alloc, line)?),
         _ => {
             let (octets, types) = line.split_once(' ')?;
             let (octets, types) = (octets_of(alloc, octets)?, numbers_of(alloc, types)?);
@@ -50,6 +52,19 @@ fn add(builder: &mut RtypeBitmapBuilder<Vec<u8>>, types: &[u16]) -> Option<()> {
     for rtype in types {
         builder.add(Rtype::from_int(*rtype)).ok()?;
     }
+    Some(())
+}
+
+/// Which types are added to a bitmap that never has more than five octets, and the bitmap.
+fn in_five_octets(answer: &mut Answer, types: &[u16]) -> Option<()> {
+    let mut builder = RtypeBitmapBuilder::with_builder(ArrayVec::<u8, 5>::new());
+    for rtype in types {
+        answer.yes(builder.add(Rtype::from_int(*rtype)).is_ok());
+    }
+    let bitmap = builder.finalize();
+    answer.octets(bitmap.as_slice());
+    answer.check(bitmap.as_octets().len() == bitmap.as_slice().len());
+    answer.octets(bitmap.into_octets().as_slice());
     Some(())
 }
 

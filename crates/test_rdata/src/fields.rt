@@ -1,5 +1,6 @@
 //! Times, salts, hashes, and texts in base32hex.
 
+use arrayvec::ArrayVec;
 use denial_data::{Nsec3Salt, OwnerHash, Timestamp};
 use names::{CanonicalOrd, Parser};
 use plain::base32hex;
@@ -89,6 +90,29 @@ pub fn salt_of(answer: &mut Answer, octets: &[u8]) {
         }
         Err(error) => answer.refused(&error),
     }
+}
+
+/// Whether the first octets, and then others, are written as a salt, and as a hash, to a buffer
+/// that never has more than four octets; and the buffers.
+pub fn in_four_octets(answer: &mut Answer, first: &[u8], second: &[u8]) -> Option<()> {
+    let (mut salts, mut hashes) = (ArrayVec::<u8, 4>::new(), ArrayVec::<u8, 4>::new());
+    for octets in [first, second] {
+        answer.yes(
+            Nsec3Salt::from_slice(octets)
+                .ok()?
+                .compose(&mut salts)
+                .is_ok(),
+        );
+        answer.yes(
+            OwnerHash::from_slice(octets)
+                .ok()?
+                .compose(&mut hashes)
+                .is_ok(),
+        );
+    }
+    answer.octets(salts.as_slice());
+    answer.octets(hashes.as_slice());
+    Some(())
 }
 
 /// The hash of a text: its text, and its octets.

@@ -8,7 +8,8 @@
 //!   point, revoked.
 //! - `digest OWNER KEY`: the SHA-256 digest of a DS record for a key at an owner in wire octets.
 //! - `bitmap TYPES`: the bitmap of types, joined by commas, and the types that it gives; `each
-//!   NUMBER`: that of its multiples.
+//!   NUMBER`: that of its multiples; `room TYPES`: which of them a bitmap of five octets at most
+//!   takes, and the bitmap, twice.
 //! - `types OCTETS`: of a bitmap how many octets it has, whether it has none, and its types as
 //!   text; `has OCTETS TYPES`: which it has; `lengths OCTETS`: how many octets from the front on
 //!   are one; `bitmaps OCTETS OCTETS`: how one stands to another.
@@ -29,8 +30,8 @@
 //! - `near SECONDS REFERENCE`, `time OCTETS`, `time-text TEXT`, `times SECONDS SECONDS`: times of
 //!   signatures.
 //! - `salt TEXT`, `salt-octets OCTETS`, `salts OCTETS OCTETS`; `owner-hash TEXT`, `hash-octets
-//!   OCTETS`, `hashes OCTETS OCTETS`: salts and hashes, read, printed and compared; `base32hex
-//!   TEXT`: octets of digits.
+//!   OCTETS`, `hashes OCTETS OCTETS`: salts and hashes, read, printed and compared; `rooms OCTETS
+//!   OCTETS`: both of each written to four octets at most; `base32hex TEXT`: octets of digits.
 //! - `hash NAME ITERATIONS SALT`: the hash of a name in wire octets, in base32hex.
 //! - `signed RRSIG OWNER DATA`: the octets that a signature is made over, of an RRset of data
 //!   joined by commas.
@@ -63,7 +64,7 @@ fn answer_to(alloc: Global, answer: &mut Answer, line: &str) -> Option<()> {
         "data" | "text" | "canonical" | "fault" | "order" | "end" => {
             typed::answer_to(alloc, answer, asked, rest)
         }
-        "bitmap" | "each" | "has" => bitmaps::answer_to(alloc, answer, asked, rest),
+        "bitmap" | "each" | "room" | "has" => bitmaps::answer_to(alloc, answer, asked, rest),
         "longest" => longest::longest(alloc, answer, rest),
         "faults" => faults::faults(answer, rest),
         "nsec3" => links::nsec3_of(alloc, answer, rest),
@@ -123,6 +124,7 @@ fn answer_to_two(
         "digest" => keys::digest_of(alloc, answer, first, second),
         "same-fields" => signatures::are_equal_fields(answer, first, second),
         "signature" => signatures::resigned(answer, first, second),
+        "rooms" => fields::in_four_octets(answer, first, second),
         "renamed" => links::renamed(answer, first, second),
         "rehashed" => links::rehashed(answer, first, second),
         "salts" => {

@@ -6,6 +6,7 @@ use denial_rrsets::groups::{MultipleTtlValues, Rrset};
 use denial_rrsets::slices::SliceRefsOrOwned;
 use denial_rrsets::walks::RecordsIter;
 use names::{Name, Rtype, UnknownRecordData};
+use plain::Class;
 use std::alloc::Global;
 use test_lines::{Answer, Between, octets_of};
 
@@ -36,18 +37,34 @@ pub fn answer_to(alloc: Global, answer: &mut Answer, word: &str, line: &str) -> 
 }
 
 /// Answers a line of a name, and of records behind it; in front of them stands a type, where one is
-/// to be found.
+/// to be found, or the class of a group.
 pub fn answer_to_name(alloc: Global, answer: &mut Answer, word: &str, line: &str) -> Option<()> {
     let (name, rest) = line.split_once(' ')?;
     let name = Name::from_octets(octets_of(alloc, name)?).ok()?;
     if word == "zone" {
         return zone(alloc, answer, &name, &sorted_of(alloc, rest)?);
     }
-    let (rtype, rest) = rest.split_once(' ')?;
-    let rtype = Rtype::from_int(rtype.parse().ok()?);
+    let (number, rest) = rest.split_once(' ')?;
+    let number = number.parse().ok()?;
     let sorted = sorted_of(alloc, rest)?;
-    found(alloc, answer, sorted.find_apex_rtype(&name, rtype));
+    if word == "group" {
+        answer.value(&group_len(&sorted, number, &name));
+        return Some(());
+    }
+    found(
+        alloc,
+        answer,
+        sorted.find_apex_rtype(&name, Rtype::from_int(number)),
+    );
     Some(())
+}
+
+/// How many records an owner has in a class.
+pub fn group_len(sorted: &Sorted, class: u16, owner: &Owner) -> usize {
+    match sorted.find_owner(Class::from_int(class), owner) {
+        Some(group) => group.records().count(),
+        None => 0,
+    }
 }
 
 /// The owners of records in groups, with the class and how many records each has.

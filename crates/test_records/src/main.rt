@@ -12,6 +12,7 @@ mod data;
 mod groups;
 mod named_numbers;
 mod records;
+mod rooms;
 mod sorted;
 
 use std::alloc::Global;
@@ -37,11 +38,12 @@ fn answer_to(alloc: Global, answer: &mut Answer, line: &str) -> Option<()> {
         "zeros" => data::zeros(alloc, answer, rest),
         "record" => records::record(alloc, answer, rest),
         "record-order" => records::order(alloc, answer, rest),
+        "rooms" => rooms::rooms(alloc, answer, rest),
         "sort" => sorted::sort(alloc, answer, rest),
         "extend" | "insert" => sorted::answer_to_added(alloc, answer, word, rest),
         "remove-first" | "remove-all" => sorted::remove(alloc, answer, word, rest),
         "owners" | "sets" | "find-soa" | "singles" => groups::answer_to(alloc, answer, word, rest),
-        "find" | "zone" => groups::answer_to_name(alloc, answer, word, rest),
+        "find" | "group" | "zone" => groups::answer_to_name(alloc, answer, word, rest),
         _ => named_numbers::answer_to(answer, word, rest),
     }
 }

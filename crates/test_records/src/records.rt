@@ -12,11 +12,11 @@ use test_lines::{Answer, Between, octets_of};
 pub type Rr = Record<Name<Vec<u8>>, UnknownRecordData<Vec<u8>>>;
 
 /// A record over the octets of a line.
-type ZoneRr<'a> = Record<Name<&'a [u8]>, Data<'a>>;
+pub type ZoneRr<'a> = Record<Name<&'a [u8]>, Data<'a>>;
 
 /// The fields of a record.
 #[derive(Drop)]
-struct Fields {
+pub struct Fields {
     owner: Vec<u8>,
     class: Class,
     ttl: Ttl,
@@ -25,7 +25,7 @@ struct Fields {
 }
 
 impl Fields {
-    fn read(alloc: Global, text: &str) -> Option<Fields> {
+    pub fn read(alloc: Global, text: &str) -> Option<Fields> {
         let (owner, rest) = text.split_once(',')?;
         let (class, rest) = rest.split_once(',')?;
         let (ttl, rest) = rest.split_once(',')?;
@@ -39,7 +39,7 @@ impl Fields {
         })
     }
 
-    fn zone_record(&self) -> Option<ZoneRr<'_>> {
+    pub fn zone_record(&self) -> Option<ZoneRr<'_>> {
         let owner = Name::from_slice(&self.owner).ok()?;
         let content = ZoneRecordData::parse(self.rtype, &mut Parser::from_ref(&self.content)).ok()?;
         Some(Record::new(owner, self.class, self.ttl, content))

@@ -1,7 +1,8 @@
 //! Records put in order, added and taken out.
 
+use crate::groups::group_len;
 use crate::records::{Rr, record_of, shown};
-use denial_sorted::laws::unknown_data_order_is_total;
+use denial_sorted::laws::{added_records_are_the_first, unknown_data_order_is_total};
 use denial_sorted::sorted::{InsertError, SortedRecords};
 use denial_sorted::sorter::DefaultSorter;
 use names::{Name, Rtype, UnknownRecordData};
@@ -9,7 +10,11 @@ use plain::Class;
 use std::alloc::Global;
 use test_lines::{Answer, octets_of};
 
-pub type Sorted = SortedRecords<Name<Vec<u8>>, UnknownRecordData<Vec<u8>>, DefaultSorter>;
+type Owner = Name<Vec<u8>>;
+
+type Data = UnknownRecordData<Vec<u8>>;
+
+pub type Sorted = SortedRecords<Owner, Data, DefaultSorter>;
 
 /// The records of a line, one blank apart.
 fn records_of(alloc: Global, line: &str) -> Option<Vec<Rr>> {
@@ -58,6 +63,8 @@ pub fn sort(alloc: Global, answer: &mut Answer, line: &str) -> Option<()> {
 
 /// Answers a line of records in order, and others behind `+`, which are added to them.
 pub fn answer_to_added(alloc: Global, answer: &mut Answer, word: &str, line: &str) -> Option<()> {
+    // A law of what is added.
+    added_records_are_the_first::<Owner, Data>();
     let (first, more) = line.split_once(" + ")?;
     let mut sorted = sorted_of(alloc, first)?;
     if word == "insert" {
@@ -93,7 +100,7 @@ fn asked(word: &str) -> Option<Option<u16>> {
 }
 
 /// Whether there was a record of an owner, class and type, and what is left when it, or all of
-/// them, are taken out.
+/// them, are taken out; and how many records the owner then has in class 1.
 pub fn remove(alloc: Global, answer: &mut Answer, which: &str, line: &str) -> Option<()> {
     let (owner, rest) = line.split_once(' ')?;
     let (class, rest) = rest.split_once(' ')?;
@@ -107,5 +114,7 @@ pub fn remove(alloc: Global, answer: &mut Answer, which: &str, line: &str) -> Op
         _ => sorted.remove_first_by_name_class_rtype(&owner, class, rtype),
     });
     answer.append(held(alloc, sorted.as_slice()));
+    answer.word("|");
+    answer.value(&group_len(&sorted, 1, &owner));
     Some(())
 }

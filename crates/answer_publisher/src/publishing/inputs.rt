@@ -1,7 +1,9 @@
 //! What the signatures of an answer are made over, for keys that sign elsewhere.
-ghost use Rattle.std.specs.Prelude.{◌≡◌, IfErr, IfOk};
+ghost use Rattle.std.specs.Prelude.{◌≡◌, true, IfErr, IfOk, IsErrOf};
+ghost use Rattle.definitions.specs.Name.{at_or_above};
 ghost use Rattle.answer_publisher.specs.Inputs.{RefusesInputs, answer_inputs, keys_inputs};
 ghost use Rattle.answer_publisher.specs.World.{world_of};
+ghost use Rattle.answer_zone.specs.Questions.{IsPlain};
 ghost use Rattle.messages.specs.Questions.{asked_of};
 
 use crate::fault::AnswerFault;
@@ -33,6 +35,25 @@ impl<'a, S: Scheme, H: Nsec3Hasher> Publisher<'a, S, H> {
         if !is_allowed(self.zone.apex(), question) {
             return Err(AnswerFault::QuestionNotAllowed);
         }
+        self.plain_inputs(question, now)
+    }
+
+    /// What the signatures of an answer to a question inside for another type than those of the
+    /// chain are made over.
+    pub(super) fn plain_inputs(
+        &self,
+        question: &Question,
+        now: &UnixTime,
+    ) -> Result<Vec<SigningInput>, AnswerFault>
+        requires plain { IsPlain question.now.rtype }
+        requires inside { at_or_above self.now.zone.apex question.now.name ≡ true }
+        ensures inputs { let p = self.now in let asked = asked_of question.now in
+            let w = world_of S.signature_of S.verifies S.digest_of H.hash_of p in
+            IfOk result (λ v. v.items ≡ answer_inputs w p.keys now.now asked) }
+        ensures fault { let w = world_of S.signature_of S.verifies S.digest_of H.hash_of self.now in
+            IfErr result (RefusesInputs w (asked_of question.now)) }
+        ensures allowed { IsErrOf result AnswerFault.QuestionNotAllowed → ⊥ }
+    {
         let found = self
             .zone
             .answer_to(self.alloc, &question.name, question.rtype)?;

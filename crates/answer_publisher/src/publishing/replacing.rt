@@ -64,7 +64,7 @@ impl<'a, S: Scheme, H: Nsec3Hasher> Publisher<'a, S, H> {
     }
 
     /// Whether an answer was given in the second of a moment, or in a later one.
-    fn is_too_soon(&self, now: &UnixTime) -> bool
+    pub(super) fn is_too_soon(&self, now: &UnixTime) -> bool
         ensures { result ≡ is_too_soon self.now.latest now.now }
     {
         match self.latest {

@@ -1,4 +1,3 @@
-use Rattle.std.proofs.Common.{◌≡◌}
 use Rattle.answer_publisher.specs.Replacing.{noted}
 use Rattle.answer_publisher.specs.World.{AnswersQuestion, SpellsAnswer, world_of}
 use Rattle.answer_shared.specs.Asking.{is_allowed}

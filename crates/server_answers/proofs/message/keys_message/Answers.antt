@@ -1,5 +1,6 @@
 use Rattle.std.proofs.Common.{[], Bool, true, refl, subst, sym}
 use Rattle.std.specs.Prelude.{Ok, Err}
+use Rattle.std.proofs.lemmas.Bool.{false≢true}
 use Rattle.answer_publisher.specs.World.{world_of}
 use Rattle.server_signatures.specs.declared.answering.Signed.TheVariants as signed
 use Rattle.server_answers.specs.Messages.{Makes}
@@ -24,4 +25,4 @@ pub returns-in-Err : goal.returns-in-Err
 returns-in-Err g c asked =
     let p = c.args.publisher.now in
     let s = serving (world_of g.S.Scheme.signature_of g.S.Scheme.verifies g.S.Scheme.digest_of g.H.Nsec3Hasher.hash_of p) p.keys c.args.table.now c.args.at.now 0 0 [] in
-    subst (λ (b : Bool). Makes s asked true b p.latest p.latest (Err c.in-Err.fault)) (sym c.if-is_signed.false) (c.in-Err.ensures.fault, refl)
+    subst (λ (b : Bool). Makes s asked true b p.latest p.latest (Err c.in-Err.fault)) (sym c.if-is_signed.false) (c.in-Err.ensures.fault, refl, λ keys h. absurd (false≢true (sym keys)))

@@ -15,7 +15,7 @@ returns-then-is_signed-clause-made g c =
     let s = serving (world_of g.S.Scheme.signature_of g.S.Scheme.verifies g.S.Scheme.digest_of g.H.Nsec3Hasher.hash_of p) p.keys c.args.table.now c.args.at.now 0 0 [] in
     let e = c.answer_by_table.ensures in
     let new = c.answer_by_table.new.publisher.latest in
-    subst (λ (b : Bool). Makes s asked false b p.latest new c.answer_by_table.result) (sym c.if-is_signed.true) (by_table s asked p.latest new c.answer_by_table.result e.signed e.fault (ap (λ q. q.latest) e.noted))
+    subst (λ (b : Bool). Makes s asked false b p.latest new c.answer_by_table.result) (sym c.if-is_signed.true) (by_table s asked p.latest new c.answer_by_table.result e.signed e.fault e.allowed (ap (λ q. q.latest) e.noted))
 
 pub returns-in-Ok-clause-made : goal.returns-in-Ok-clause-made
 returns-in-Ok-clause-made g c =
@@ -23,7 +23,7 @@ returns-in-Ok-clause-made g c =
     let asked = asked_of c.args.question.now in
     let s = serving (world_of g.S.Scheme.signature_of g.S.Scheme.verifies g.S.Scheme.digest_of g.H.Nsec3Hasher.hash_of p) p.keys c.args.table.now c.args.at.now 0 0 [] in
     let e = c.in-Ok.ensures in
-    let new = c.answer_with.new.self.latest in
+    let new = c.answer_any_with.new.self.latest in
     subst (λ (b : Bool). Makes s asked false b p.latest new (Ok (signed.Message c.in-Ok.message))) (sym c.if-is_signed.false) ((e.bytes, e.given), ap (λ q. q.latest) e.noted)
 
 pub returns-in-Err-clause-made : goal.returns-in-Err-clause-made
@@ -32,5 +32,5 @@ returns-in-Err-clause-made g c =
     let asked = asked_of c.args.question.now in
     let s = serving (world_of g.S.Scheme.signature_of g.S.Scheme.verifies g.S.Scheme.digest_of g.H.Nsec3Hasher.hash_of p) p.keys c.args.table.now c.args.at.now 0 0 [] in
     let e = c.in-Err.ensures in
-    let new = c.answer_with.new.self.latest in
-    subst (λ (b : Bool). Makes s asked false b p.latest new (Err c.in-Err.fault)) (sym c.if-is_signed.false) (e.fault, ap (λ q. q.latest) e.refused)
+    let new = c.answer_any_with.new.self.latest in
+    subst (λ (b : Bool). Makes s asked false b p.latest new (Err c.in-Err.fault)) (sym c.if-is_signed.false) (e.fault, ap (λ q. q.latest) e.refused, λ keys h. e.allowed.0 (ap Err h))

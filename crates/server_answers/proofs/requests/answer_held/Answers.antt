@@ -8,7 +8,7 @@ use Rattle.server_responses.specs.Responses.{is_dnssec_ok}
 use Rattle.server_answers.specs.MadeOf.{IsMadeOf}
 use Rattle.server_answers.specs.Messages.{Makes}
 use Rattle.server_answers.specs.Responding.{AnswersHeld, is_for_keys, serving}
-use Rattle.server_answers.proofs.Making.{is_answered, of_err, reads_whole, was_noted}
+use Rattle.server_answers.proofs.Making.{held_answered, of_err, reads_whole, was_noted}
 use Rattle.server_answers.proofs.requests.answer_held.Goals as goal
 
 pub response_with-requires : goal.response_with-requires
@@ -30,7 +30,7 @@ returns-clause-response g c =
     subst (λ (d : Bool). Makes s asked (is_for_keys p.zone.apex asked) d p.latest new made) c.is_dnssec_ok.ensures c.message_for-made.ensures.made in
     let makes : Makes s q.asked (is_for_keys p.zone.apex q.asked) (is_dnssec_ok q) p.latest new made =
     subst (λ (a : Asked). Makes s a (is_for_keys p.zone.apex a) (is_dnssec_ok q) p.latest new made) c.requires first in
-    IfOk-weaker c.response_with.result (IsMadeOf c.args.limit c.args.udp_size q c.args.addresses.now made) (AnswersHeld s q p.latest new) (λ r k. is_answered s q p.latest new made r makes k) c.response_with.ensures
+    IfOk-weaker c.response_with.result (IsMadeOf c.args.limit c.args.udp_size q c.args.addresses.now made) (AnswersHeld s q p.latest new) (λ r k. held_answered s q p.latest new made r makes k) c.response_with.ensures
 
 pub returns-clause-memory : goal.returns-clause-memory
 returns-clause-memory g c =

@@ -1,4 +1,4 @@
-use Rattle.std.proofs.Common.{[], ◌≡◌, ◌∙◌, Bool, subst}
+use Rattle.std.proofs.Common.{[], Bool, subst}
 use Rattle.std.proofs.lemmas.Result.{IfOk-weaker}
 use Rattle.answer_publisher.specs.World.{world_of}
 use Rattle.messages.specs.Message.{Asked}

@@ -5,7 +5,8 @@ use Rattle.answer_publisher.specs.World.{RefusesQuestion, world_of}
 use Rattle.messages.specs.Questions.{asked_of}
 use Rattle.server_answers.specs.Listed.{listed}
 use Rattle.server_answers.specs.Responding.{unsigned}
-use Rattle.server_answers.specs.Subset.{IsFirst, for_type, is_no_data}
+use Rattle.answer_publisher.specs.Aliases.{for_type}
+use Rattle.server_answers.specs.Subset.{IsFirst, is_no_data}
 use Rattle.server_answers.proofs.Choosing.{chosen_where, memory_alone, noted_again, of_ok}
 use Rattle.server_answers.proofs.Making.{rest_of}
 use Rattle.server_answers.proofs.subset.choose_type.Goals as goal

@@ -9,4 +9,4 @@ returns-clause-zone g c =
 pub invariant_of-result : goal.invariant_of-result
 invariant_of-result g c =
     let made = c.in_ok-contents.ensures.made in
-    (made.published, made.handed, made.chain, made.link_ttl, made.of_class_in, made.kept)
+    (made.published, made.handed, made.chain, made.link_ttl, made.of_class_in, made.kept, made.has_aliases)

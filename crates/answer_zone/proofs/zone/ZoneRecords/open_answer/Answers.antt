@@ -1,4 +1,4 @@
-use Rattle.std.proofs.Common.{[], false, refl, ap, ◌++◌}
+use Rattle.std.proofs.Common.{[], false, refl, ◌++◌}
 use Rattle.std.proofs.lemmas.Bool.{and_parts}
 use Rattle.definitions.specs.Name.{low, strictly_above}
 use Rattle.definitions.specs.Zone.{Delegated, has}

@@ -4,7 +4,7 @@ use Rattle.definitions.specs.Zone.{has}
 use Rattle.answer_shared.specs.Accepting.{zone_with}
 use Rattle.answer_shared.specs.GroupView.{Presents}
 use Rattle.answer_shared.specs.Served.{rrset, soa}
-use Rattle.answer_shared.specs.ZoneView.{IsPublished}
+use Rattle.answer_zone_records.specs.ZoneInOrder.{AreZoneRecords}
 use Rattle.answer_shared.proofs.ZoneData.{if_ok_map}
 use Rattle.answer_zone.specs.HashedZone.{served_by}
 use Rattle.answer_zone.proofs.Verdicts.{has_soa}
@@ -14,7 +14,7 @@ pub spelled_rrset-requires-clause-there : goal.spelled_rrset-requires-clause-the
 spelled_rrset-requires-clause-there g c =
     let apex = c.args.self.now.apex in
     let rs = c.args.self.now.records in
-    let published : IsPublished apex rs = rw (← c.self.view_is) c.self.invariant.0 in
+    let published : AreZoneRecords apex rs = rw (← c.self.view_is) c.self.invariant.0 in
     ap (λ z. has (zone_with apex rs) (low z.apex) 6) c.self.view_is ∙ has_soa apex rs published.soa
 
 pub returns : goal.returns

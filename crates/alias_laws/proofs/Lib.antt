@@ -1,0 +1,4 @@
+pub mod Orderly
+pub mod Leading
+pub mod FoundFacts
+pub mod Aliases

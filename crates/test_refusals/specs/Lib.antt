@@ -1,2 +1,0 @@
--- What contracts cite.
-pub mod Statuses

@@ -1,0 +1,13 @@
+pub mod Found
+pub mod Kept
+pub mod Ends
+pub mod New
+pub mod Loops
+pub mod Counting
+pub mod Deep
+pub mod Way
+pub mod Uncut
+pub mod Few
+pub mod Ending
+pub mod Served
+pub mod Verdict

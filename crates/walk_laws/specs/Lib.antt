@@ -1,0 +1,9 @@
+pub mod New
+pub mod Loop
+pub mod Found
+pub mod Laws
+pub mod Tree
+pub mod Few
+pub mod Ending
+pub mod Served
+pub mod Verdict

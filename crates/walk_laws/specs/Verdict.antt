@@ -1,0 +1,63 @@
+-- Where a loop over evidence of a tree ends.
+use Rattle.std.specs.Prelude.{◌≡◌, ℕ, ◌+◌, ◌-◌, ◌*◌, ◌<◌, ◌≤◌, List, [], ◌∷◌, Some, None, length}
+use Rattle.std.specs.Global.{Vec}
+use Rattle.definitions.specs.Name.{Name}
+use Rattle.messages.specs.Message.{Asked}
+use Rattle.answer_findings.specs.Table.{Tried}
+use Rattle.resolution_tree.specs.Laws.{AreAlike}
+use Rattle.resolution_tree.specs.Tree.{Said, Resolves, refers_to}
+use Rattle.resolution_evidence.specs.Given.{Given}
+use Rattle.resolution_evidence.specs.KnownDs.{knows}
+use Rattle.resolution_evidence.specs.Truth.{SignedZone, tree_of, zone_of}
+use Rattle.resolution_walk.specs.Ended.{said_of}
+use Rattle.resolution_walk.specs.Truth.{WalksTruly}
+use Rattle.resolution_walk.specs.declared.ending.Ending.TheVariants as ends
+use Rattle.resolution_walk.specs.declared.ending.Walk.{Walk}
+use Rattle.resolution_walk.specs.declared.walk.Limits.{Limits}
+use Rattle.walk_laws.specs.Ending.{IsUntoldOf, LeaveRoom}
+use Rattle.walk_laws.specs.Few.{IsReadOfTree}
+use Rattle.walk_laws.specs.Loop.{Caller, Reaches, Walks}
+use Rattle.walk_laws.specs.Served.{AreServed, RanOutOfMemory}
+use Rattle.walk_laws.specs.Tree.{most_wanted}
+
+-- A walk says what the tree says, through its aliases; or it asks for more signatures than are allowed; or it is stuck.
+pub data EndsLoop (Stuck : Given → Walk → Type 0) (most : ℕ) (e : Given) (said : Said) (names : List Name) (w : Walk) : Type 0 where
+  SaysSo : (s : Said) → said_of w.ending ≡ Some s → AreAlike s said → w.through.items ≡ names → EndsLoop Stuck most e said names w
+  AsksTooMuch : (asks : Vec Tried) → w.ending ≡ ends.Asks asks → most < length e.table + length asks.items → EndsLoop Stuck most e said names w
+  IsStuck : Stuck e w → EndsLoop Stuck most e said names w
+
+-- how many messages may be wanted on the way that the tree leads the question
+abbrev pub wanted_on_way : Asked → Limits → Given → List SignedZone → SignedZone → List Name → ℕ
+wanted_on_way asked limits from zones anchor names = most_wanted (knows from.algorithms) (tree_of zones) (zone_of anchor) limits.cuts asked (asked.name ∷ names)
+
+-- The loop of a caller over evidence of a tree, within limits that leave room for the tree's way and for all messages that may be
+-- wanted.
+pub record IsTreesLoop (c : Caller) (asked : Asked) (limits : Limits) (most : ℕ) (walks : (e : Given) → Walks asked limits e) (from : Given) (zones : List SignedZone) (anchor : SignedZone) (said : Said) (names : List Name) : Type 0 where
+  pub says : Resolves (knows from.algorithms) (tree_of zones) (zone_of anchor) asked.rtype said asked.name names
+  pub room : LeaveRoom limits (knows from.algorithms) (tree_of zones) (zone_of anchor) asked names
+  pub messages : length from.messages + 2 * wanted_on_way asked limits from zones anchor names < limits.messages
+  pub of : (calls : ℕ) (e : Given) → Reaches c asked limits most walks from calls e → IsReadOfTree asked.class zones anchor e
+  pub truly : (e : Given) → WalksTruly e asked (walks e).walk
+
+-- The loop ends so, behind so many calls that want messages, and those that ask for signatures, which are few by their limit.
+pub record Comes (Stuck : Given → Walk → Type 0) (wants : ℕ) (c : Caller) (asked : Asked) (limits : Limits) (most : ℕ) (walks : (e : Given) → Walks asked limits e) (from : Given) (said : Said) (names : List Name) : Type 0 where
+  pub calls : ℕ
+  pub last : Given
+  pub reached : Reaches c asked limits most walks from calls last
+  pub end : EndsLoop Stuck most last said names (walks last).walk
+  pub few : calls ≤ wants + (most - length from.table)
+
+-- So ends each loop over evidence of a tree.
+abbrev pub LoopsComeToVerdicts : Type 0
+LoopsComeToVerdicts =
+    (c : Caller) (asked : Asked) (limits : Limits) (most : ℕ) (walks : (e : Given) → Walks asked limits e) (from : Given) (zones : List SignedZone) (anchor : SignedZone) (said : Said) (names : List Name)
+    → IsTreesLoop c asked limits most walks from zones anchor said names → Comes (IsUntoldOf asked limits.cuts zones anchor names) (wanted_on_way asked limits from zones anchor names) c asked limits most walks from said names
+
+-- Of one zone without any alias, that refers the question nowhere and answers as it is published, for an allowed question: of class IN,
+-- and for none of the types 0, 5, 39, 41, 46, 47, 48, 50, 51, and 128 to 255.
+abbrev pub ZonesComeToVerdicts : Type 0
+ZonesComeToVerdicts =
+    (c : Caller) (asked : Asked) (limits : Limits) (most : ℕ) (walks : (e : Given) → Walks asked limits e) (from : Given) (zone : SignedZone) (said : Said)
+    → refers_to (zone_of zone).zone asked.name asked.rtype ≡ None → IsTreesLoop c asked limits most walks from (zone ∷ []) zone said []
+    → ((calls : ℕ) (e : Given) → Reaches c asked limits most walks from calls e → AreServed c.passes e asked (zone ∷ []) zone)
+    → Comes (RanOutOfMemory asked limits.cuts (zone ∷ []) zone []) (wanted_on_way asked limits from (zone ∷ []) zone []) c asked limits most walks from said []

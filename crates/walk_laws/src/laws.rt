@@ -1,0 +1,107 @@
+//! Laws of a loop of walks. Each is the contract of a function that does nothing.
+ghost use Rattle.walk_laws.specs.Ending.{TreesAreWalked};
+ghost use Rattle.walk_laws.specs.Few.{TreesWantFew, ZonesAreFew};
+ghost use Rattle.walk_laws.specs.Found.{MessagesAreFound};
+ghost use Rattle.walk_laws.specs.Laws.{LoopsAreShort, LoopsEnd};
+ghost use Rattle.walk_laws.specs.New.{NothingIsWantedTwice};
+ghost use Rattle.walk_laws.specs.Served.{ServedTreesAreWalked, ServedZonesAreWalked};
+ghost use Rattle.walk_laws.specs.Verdict.{LoopsComeToVerdicts, ZonesComeToVerdicts};
+
+use resolution_tree::laws::{trees_resolve_to_one, trees_say_one};
+
+/// A message that is there is found under its question, unless another one of that question is in
+/// front of it. What is found stays found behind more messages, and where nothing is the first of
+/// these is that answers.
+pub fn messages_are_found()
+    ensures { MessagesAreFound }
+{}
+
+/// What a walk wants, a message or a signature, is not there: so what a caller has handed in, in
+/// whatever octets, is not wanted again.
+pub fn nothing_is_wanted_twice()
+    ensures { NothingIsWantedTwice }
+{}
+
+/// A loop of calls, each over what the one before was handed and some of what it wanted, has no
+/// more calls that want messages than the limit of messages leaves room for, and no more that ask
+/// for signatures than a limit of signatures does.
+pub fn loops_are_short()
+    ensures { LoopsAreShort }
+{}
+
+/// So a loop ends, whatever octets its caller hands in for a message and whichever signatures pass:
+/// behind no more calls than both limits leave room for.
+pub fn loops_end()
+    ensures { LoopsEnd }
+{}
+
+/// Where a tree of zones leads a question, through its aliases, a loop over evidence of the tree
+/// has few calls that want messages, whatever the limit of messages: for each name on the way two
+/// of each zone on its way down, and one for each label of the name. These zones are one more than
+/// the limit of delegations, at most.
+pub fn trees_want_few()
+    ensures messages { TreesWantFew }
+    ensures zones { ZonesAreFew }
+{
+    trees_say_one();
+}
+
+/// Where limits leave room for the way that a tree leads a question, a walk over evidence of the
+/// tree ends in what the tree says, through its aliases; or more is wanted; or there are as many
+/// messages as are allowed; or the walk ends in an answer that tells nothing, of a zone on the way,
+/// to the question or for DS at a name between. So no limit of delegations or aliases ends it, nor
+/// is the name outside.
+pub fn trees_are_walked()
+    ensures { TreesAreWalked }
+{
+    trees_say_one();
+    trees_resolve_to_one();
+}
+
+/// Where zones without any alias answer allowed questions as they are published, what they refer
+/// nowhere and DS at the names between too, and signatures are checked truly, a walk is stuck only
+/// in the refusal of an answer for want of memory; or of the keys of a zone that refers the name
+/// on; or in an answer for DS that shows that there is none at a name, and not whether the name is
+/// delegated. Of a zone that refers the question nowhere, the last is only behind its own answer,
+/// which is refused for want of memory wherever it tells nothing. Allowed are questions of class
+/// IN, and for none of the types 0, 5, 39, 41, 46, 47, 48, 50, 51, and 128 to 255. Zones that lead
+/// on by aliases are not covered.
+pub fn served_trees_are_walked()
+    ensures { ServedTreesAreWalked }
+{
+    trees_say_one();
+    trees_resolve_to_one();
+}
+
+/// So a walk over the messages of one zone without any alias, for an allowed question that it
+/// refers nowhere, ends in the zone's verdict, or more is wanted, or memory ran out: whichever
+/// judgement of its answer tells nothing, it is refused for want of memory. The walk ends in that
+/// refusal, or behind it in one for DS at a name between, or in an answer for DS that shows none.
+pub fn served_zones_are_walked()
+    ensures { ServedZonesAreWalked }
+{
+    trees_say_one();
+    trees_resolve_to_one();
+}
+
+/// The loop of a caller over evidence of a tree ends in what the tree says, through its aliases,
+/// where limits leave room for the tree's way and for all messages that may be wanted on it; or
+/// where more signatures are asked for than are allowed; or in an answer that tells nothing, of a
+/// zone on the way. The calls before are as many as may be wanted of the zones on the way, by the
+/// labels of its names, and one for each signature that is allowed, at most.
+pub fn loops_come_to_verdicts()
+    ensures { LoopsComeToVerdicts }
+{
+    trees_say_one();
+    trees_resolve_to_one();
+}
+
+/// Of one zone without any alias that answers as it is published, for an allowed question that it
+/// refers nowhere, the loop ends in the zone's verdict, unless more signatures are asked for than
+/// are allowed, or memory runs out as it does for `served_zones_are_walked`.
+pub fn zones_come_to_verdicts()
+    ensures { ZonesComeToVerdicts }
+{
+    trees_say_one();
+    trees_resolve_to_one();
+}

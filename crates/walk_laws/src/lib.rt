@@ -1,0 +1,4 @@
+//! Laws of calling a walk again and again, each time with what the call before wanted.
+#![tactic(auto)]
+
+pub mod laws;
