@@ -34,9 +34,9 @@ pub fn aliases_have_targets()
     ensures { AliasesHaveTargets }
 {}
 
-/// Of a name and a type a zone with aliases leads elsewhere exactly where the name is an alias for
-/// the type: it has not what is asked for, but a CNAME that answers for the name, or a DNAME above
-/// it (RFC 1034, 4.3.2; RFC 6672, 3.2).
+/// A zone with aliases leads a question elsewhere exactly where the name is an alias for the type:
+/// the zone does not have what is asked for, but has a CNAME that answers for the name, or a DNAME
+/// above it (RFC 1034, 4.3.2; RFC 6672, 3.2).
 pub fn aliases_are_led()
     ensures { AliasesAreLed }
 {}

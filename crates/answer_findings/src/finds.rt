@@ -20,9 +20,10 @@ use std::alloc::{AllocError, Global};
 /// What goes beyond the verdict is what the judge says of the same messages for other questions:
 /// for the CNAME or the DNAME that the answer holds, for NS and DS at the cut that its NS records
 /// suggest. So there are at most four judgements a call, each bounded as one is; the counts are
-/// their sums, also where signatures are asked for behind judgements that were made. Signatures are asked for by the first judgement that the table does not suffice for;
-/// where that is the case's own, by the one that the answer suggests besides, which wants those of
-/// the case too where the answer is one about an alias or a referral: then no name is hashed.
+/// their sums, also where signatures are asked for behind judgements that were made. Signatures are
+/// asked for by the first judgement that the table does not suffice for; where that is the case's
+/// own, by the one that the answer suggests besides, which wants those of the case too where the
+/// answer is one about an alias or a referral: then no name is hashed.
 ///
 /// What is found in messages in which nothing is forged, whichever of these questions they are
 /// judged for, is so of a version of the zone: an alias leads there, the DS records are at the cut.

@@ -13,8 +13,8 @@ pub fn cnames_rename()
     ensures by_wildcard { StarCnamesRename }
 {}
 
-/// A name that opt-out leaves open for one type is left open for each (RFC 5155, 6), and where it is
-/// no alias for the one it is none for any.
+/// A name that opt-out leaves open for one type is left open for each (RFC 5155, 6), and where it
+/// is no alias for the one it is none for any.
 pub fn open_names_are_open()
     ensures { OpenWhateverAsked }
 {}

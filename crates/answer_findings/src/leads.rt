@@ -13,8 +13,8 @@ use messages::names::{Name, copy_name, is_above, name_from_octets};
 use names_rdata::rtype::Rtype;
 use std::alloc::{AllocError, Global};
 
-/// Where the name leads that a judgement shows to be an alias, or that opt-out leaves it open, if it
-/// does.
+/// Where the name leads that a judgement shows to be an alias, or that opt-out leaves it open, if
+/// it does.
 pub(crate) fn lead_found(
     alloc: Global,
     case: &Case,

@@ -127,7 +127,7 @@ fn outcome_aside(
     judge_by_table(alloc, &case_for(case, question), table)
 }
 
-/// The same messages, to be judged for another question, which need not be the one that was asked.
+/// A case of the same messages for another question, which need not be the one that was asked.
 pub fn case_for<'a>(case: &Case<'a>, question: &'a Question) -> Case<'a>
     ensures { result ≡ aside case.now (asked_of question.now) }
 {

@@ -91,8 +91,8 @@ impl<'a> Case<'a> {
     /// is forged where each signature that may be used is over an RRset that was signed: the
     /// apex's, in time, of an RRset that is sought, passing under a key that the zone published and
     /// that may sign; and where each key of the DNSKEY answer that the DS set trusts is one that
-    /// the zone published. For a zone that changes this asks that signatures must be of one moment, or
-    /// that they pass for one RRset of the answer alone.
+    /// the zone published. For a zone that changes this asks that signatures must be of one moment,
+    /// or that they pass for one RRset of the answer alone.
     ///
     /// What is said holds under each scheme that agrees with all that `verify` answered. It is
     /// asked about those signatures alone that are due: of the two messages, in time, over an RRset

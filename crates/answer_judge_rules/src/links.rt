@@ -152,8 +152,8 @@ impl<'a> NsecLink<'a> {
     /// A next name below the name shows that the name exists: its absence would deny what stands
     /// under it (RFC 4592, 2.2.2).
     ///
-    /// `sought` is how many labels an encloser has whose wildcard no link tells of. That wildcard is
-    /// not sought again: otherwise each copy of a record would cost a look at all links.
+    /// `sought` is how many labels an encloser has whose wildcard no link tells of. That wildcard
+    /// is not sought again: otherwise each copy of a record would cost a look at all links.
     fn covered(
         &self,
         alloc: Global,

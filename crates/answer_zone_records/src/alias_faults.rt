@@ -137,7 +137,8 @@ fn has_rival(
     records: &SortedRecords<Name<Vec<u8>>, ZoneData>,
 ) -> bool
     requires { AllByRecursion IsInternet records.now }
-    ensures { let r = handed_of rr.now in let owned = owned_by r.owner (map handed_of records.now) in
+    ensures { let r = handed_of rr.now in
+        let owned = owned_by r.owner (map handed_of records.now) in
         result ≡ list_any (rivals apex.now r) owned }
 {
     match records.find_owner(Class::IN, rr.owner()) {

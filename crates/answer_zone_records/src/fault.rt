@@ -15,7 +15,8 @@ pub enum ZoneFault {
     /// A record is of a type that signing adds.
     #[error("a record is of a type that signing adds")]
     SignedType,
-    /// A record is an alias; in a zone with aliases, it is out of order (RFC 1034, 3.6.2; RFC 6672).
+    /// A record is an alias; in a zone with aliases, it is out of order (RFC 1034, 3.6.2; RFC
+    /// 6672).
     #[error("an alias stands where none may")]
     Alias,
     /// A record is of a type that no zone holds, or its type's data are given as unknown ones.

@@ -126,8 +126,8 @@ fn place_of<T: Named>(items: &[T], name: &Name<Vec<u8>>) -> usize
     items.partition_point(|item| item.name().name_cmp(name).is_lt())
 }
 
-/// Whether one of some items is below a name, by binary search. What is below a name stands directly
-/// behind it. It takes no memory.
+/// Whether one of some items is below a name, by binary search. What is below a name stands
+/// directly behind it. It takes no memory.
 pub fn has_below<T: Named>(items: &[T], name: &Name<Vec<u8>>) -> bool
     requires { AreRising T.name_of items.now }
     ensures { result ≡ list_any (λ x. strictly_above name.now (T.name_of x)) items.now }

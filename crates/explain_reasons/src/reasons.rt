@@ -28,8 +28,8 @@ use std::fmt;
 use std::marker::Brand;
 use std::sync::ledger::{Blank, Ledger};
 
-/// Why a judgement came out so, and what a resolver is told beside it. It prints as lines behind two
-/// blanks.
+/// Why a judgement came out so, and what a resolver is told beside it. It prints as lines behind
+/// two blanks.
 #[derive(Debug, Drop, Serialize)]
 pub struct Reasons {
     /// For how many seconds the verdict may be kept; nothing where no record says it.

@@ -90,7 +90,8 @@ fn push_names(
     Ok(name.compose(out)?)
 }
 
-/// The same with the name in lower case, in which it is signed (RFC 4034, 6.2).
+/// Appends data of numbers and a name, the name in lower case, in which it is signed (RFC 4034,
+/// 6.2).
 fn push_lower_names(
     out: &mut Vec<u8>,
     fields: &[Field],

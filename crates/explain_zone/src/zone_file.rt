@@ -29,10 +29,10 @@ struct Zone {
 /// otherwise; then the file names it where a name needs it.
 ///
 /// What is read of the files of RFC 1035, 5 and RFC 2308, 4: owners, TTLs, class IN, the types A,
-/// NS, CNAME, SOA, PTR, MX, TXT, AAAA, SRV, DNAME, DS and CAA, others with data as octets (RFC 3597,
-/// 5), `$ORIGIN`, `$TTL`, `@`, relative names, parentheses, quotes and comments. TTLs and times of
-/// SOA records may have units. Names in data, but for NS and SOA records, are written in lower case,
-/// in which they are signed (RFC 4034, 6.2). All else is refused with its line.
+/// NS, CNAME, SOA, PTR, MX, TXT, AAAA, SRV, DNAME, DS and CAA, others with data as octets (RFC
+/// 3597, 5), `$ORIGIN`, `$TTL`, `@`, relative names, parentheses, quotes and comments. TTLs and
+/// times of SOA records may have units. Names in data, but for NS and SOA records, are written in
+/// lower case, in which they are signed (RFC 4034, 6.2). All else is refused with its line.
 pub fn session_lines(alloc: Global, text: &[u8], origin: &str) -> Result<String, ZoneFileError> {
     let mut zone = Zone {
         alloc,

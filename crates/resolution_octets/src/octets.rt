@@ -114,8 +114,8 @@ struct ReadEvidence<'a> {
 /// records counts, if it has some.
 ///
 /// Each message is judged with names in its data in full and in lower case (RFC 4034, 6.2), as
-/// every validator does: put in canonical form where it has to be. Evidence with one that would cost
-/// too much work ([`is_crowded`]) is refused as too long.
+/// every validator does: put in canonical form where it has to be. Evidence with one that would
+/// cost too much work ([`is_crowded`]) is refused as too long.
 ///
 /// [`is_crowded`]: answer_judge_octets::crowded::is_crowded
 pub fn resolve_octets(

@@ -23,8 +23,8 @@ use std::alloc::{AllocError, Global};
 /// name does not exist, also where a wildcard stands for it, or is below a DNAME, there is none
 /// below it either. `algorithms` names those that signatures are checked of; none stands for all.
 ///
-/// Where nothing in the messages is forged this is so of the zone, if it is in order, has DS records
-/// at delegations alone and does not change.
+/// Where nothing in the messages is forged this is so of the zone, if it is in order, has DS
+/// records at delegations alone and does not change.
 pub fn cut_step(
     alloc: Global,
     case: &Case,

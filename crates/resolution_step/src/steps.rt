@@ -28,9 +28,9 @@ use std::alloc::{AllocError, Global};
 /// of a name that is delegated is judged for these too. So there are at most eight judgements a
 /// call. `algorithms` names those that signatures are checked of; none stands for all.
 ///
-/// Where nothing in the messages is forged this is so of the zone, if it is in order, has DS records
-/// at delegations alone and does not change: its verdict on a name that it has, its alias, its
-/// topmost delegation at or above the name.
+/// Where nothing in the messages is forged this is so of the zone, if it is in order, has DS
+/// records at delegations alone and does not change: its verdict on a name that it has, its alias,
+/// its topmost delegation at or above the name.
 pub fn step(
     alloc: Global,
     case: &Case,

@@ -21,9 +21,9 @@ pub fn walks_agree()
 
 /// The messages that a walk wants are such as no message of its evidence answers: so what was
 /// wanted and is there is not wanted again. They are of one zone at or above the name at the end of
-/// aliases, and of those that may be wanted of it: its keys, its answer to the question, its answers
-/// for DS at the name and at the names above, two more than the name has labels. The evidence has
-/// fewer messages than the limit says.
+/// aliases, and of those that may be wanted of it: its keys, its answer to the question, its
+/// answers for DS at the name and at the names above, two more than the name has labels. The
+/// evidence has fewer messages than the limit says.
 pub fn walks_want_few()
     ensures { WalksWantFew }
 {}

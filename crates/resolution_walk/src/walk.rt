@@ -54,8 +54,8 @@ pub struct Limits {
 /// in each zone on the way of the answer to the question, and of those for DS at the names between
 /// that are looked at.
 ///
-/// Where nothing in the evidence is forged, zone by zone, beside an anchor of the tree, this is what
-/// the tree says: secure with the verdict of the zone that has the name, insecure below a
+/// Where nothing in the evidence is forged, zone by zone, beside an anchor of the tree, this is
+/// what the tree says: secure with the verdict of the zone that has the name, insecure below a
 /// delegation that the tree leaves unsigned or where opt-out leaves the name open, through the
 /// aliases that the tree has. The tree's zones are in order and do not change.
 pub fn resolve(

@@ -64,15 +64,15 @@ pub(crate) const REFUSED: u16 = 5;
 ///
 /// Everything that an answer says is of the moment that lies `backdate` seconds before the clock:
 /// when its signatures begin, and the second that the publisher notes. A request that is no query
-/// is answered as [`read_query`] says. A CNAME or DNAME RRset answers for its names (RFC 1034, 4.3.2),
-/// the latter with the CNAME that it makes of a name (RFC 6672, 3.1); what these lead to is not
-/// sought. Else questions for CNAME, DNAME and NSEC3 records, and but at the apex for DNSKEY and
-/// NSEC3PARAM records, are answered as the zone answers for a type that it does not hold; questions
-/// for NSEC with the NSEC record of the name, or else in the same way; questions for ANY and RRSIG
-/// with one RRset of the name. Any other question that the publisher does not answer is REFUSED, and
-/// one for the NSEC record of a wildcard; SERVFAIL says that no message holds the answer, or that a
-/// name has no hash. Without DO nothing is signed, but for RRSIG. A referral
-/// has its glue among the addresses of the zone (RFC 9471). Where memory is refused, the second may
+/// is answered as [`read_query`] says. A CNAME or DNAME RRset answers for its names (RFC 1034,
+/// 4.3.2), the latter with the CNAME that it makes of a name (RFC 6672, 3.1); what these lead to is
+/// not sought. Else questions for CNAME, DNAME and NSEC3 records, and but at the apex for DNSKEY
+/// and NSEC3PARAM records, are answered as the zone answers for a type that it does not hold;
+/// questions for NSEC with the NSEC record of the name, or else in the same way; questions for ANY
+/// and RRSIG with one RRset of the name. Any other question that the publisher does not answer is
+/// REFUSED, and one for the NSEC record of a wildcard; SERVFAIL says that no message holds the
+/// answer, or that a name has no hash. Without DO nothing is signed, but for RRSIG. A referral has
+/// its glue among the addresses of the zone (RFC 9471). Where memory is refused, the second may
 /// have been noted.
 pub fn respond<S: Scheme, H: Nsec3Hasher>(
     alloc: Global,

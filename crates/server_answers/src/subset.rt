@@ -27,11 +27,10 @@ use server_responses::is_dnssec_ok;
 use server_signatures::{MadeSignature, Signed};
 use std::alloc::{AllocError, Global};
 
-/// The answer to a question for all records of a name, ANY, or for all signatures there, RRSIG, at a
-/// moment: what the zone answers for one type. That is the least
-/// type of which it has records at the name, or at the wildcard that stands for it; where it has
-/// none, it says so of the reserved type (RFC 8482, 4.1). With RRSIG come the signatures of that
-/// RRset, without DO too.
+/// The answer to a question for all records of a name, ANY, or for all signatures there, RRSIG, at
+/// a moment: what the zone answers for one type. That is the least type of which it has records at
+/// the name, or at the wildcard that stands for it; where it has none, it says so of the reserved
+/// type (RFC 8482, 4.1). With RRSIG come the signatures of that RRset, without DO too.
 pub(crate) fn answer_subset<S: Scheme, H: Nsec3Hasher>(
     alloc: Global,
     publisher: &mut Publisher<'_, S, H>,

@@ -13,11 +13,12 @@
 //!   answers are so many seconds behind. Printed are the number of signatures that it asks for, and
 //!   its reply, or `nothing`. It takes 1232 octets by UDP.
 //! - `query SIZE OCTETS`: what a client sends. Printed are `id ID opcode OPCODE`, `rd` and `cd`
-//!   where they are set, `NAME TYPE CLASS` with the octets of the name as spelled, and `edns VERSION
-//!   SIZE` where there is an OPT record, with `do`; or, where it is refused, the octets of the reply,
-//!   or `nothing`.
+//!   where they are set, `NAME TYPE CLASS` with the octets of the name as spelled, and `edns
+//!   VERSION SIZE` where there is an OPT record, with `do`; or, where it is refused, the octets of
+//!   the reply, or `nothing`.
 //! - `response TRANSPORT SIZE QUERY MESSAGE`: what a client sent and what the zone's publisher made
-//!   of it. Printed are the octets of the response, or `unreadable` where the message does not read.
+//!   of it. Printed are the octets of the response, or `unreadable` where the message does not
+//!   read.
 //!
 //! Octets are hexadecimal digits (`-` for none). Lines that begin with `#` and empty ones are
 //! printed alone.

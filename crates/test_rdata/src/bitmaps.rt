@@ -55,7 +55,7 @@ fn add(builder: &mut RtypeBitmapBuilder<Vec<u8>>, types: &[u16]) -> Option<()> {
     Some(())
 }
 
-/// Which types are added to a bitmap that never has more than five octets, and the bitmap.
+/// Says which types fit in a bitmap that never has more than five octets, and the bitmap.
 fn in_five_octets(answer: &mut Answer, types: &[u16]) -> Option<()> {
     let mut builder = RtypeBitmapBuilder::with_builder(ArrayVec::<u8, 5>::new());
     for rtype in types {

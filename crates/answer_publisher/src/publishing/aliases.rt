@@ -40,12 +40,12 @@ use std::alloc::{AllocError, Global};
 impl<'a, S: Scheme, H: Nsec3Hasher> Publisher<'a, S, H> {
     /// A publisher of records among which aliases may stand that are in order: nothing but what
     /// signing adds beside a CNAME, and one CNAME of an owner (RFC 1034, 3.6.2; RFC 2181, 10.1);
-    /// one DNAME of an owner, at no delegation and no wildcard, and nothing below it (RFC 6672, 2.3,
-    /// 2.4 and 3.3). Else it is as [`Publisher::new`] makes one, and is refused as there.
+    /// one DNAME of an owner, at no delegation and no wildcard, and nothing below it (RFC 6672,
+    /// 2.3, 2.4 and 3.3). Else it is as [`Publisher::new`] makes one, and is refused as there.
     ///
-    /// Of a name that is an alias [`Publisher::answer`] says what the zone has of it but the alias;
-    /// [`Publisher::answer_any`] gives the CNAME or the DNAME RRset, which answers for the name
-    /// (RFC 1034, 4.3.2; RFC 6672, 3.2).
+    /// [`Publisher::answer`] says of a name that is an alias what the zone has there beside the
+    /// alias; [`Publisher::answer_any`] gives the CNAME or the DNAME RRset, which answers for the
+    /// name (RFC 1034, 4.3.2; RFC 6672, 3.2).
     pub fn with_aliases(
         alloc: Global,
         apex: Name<Vec<u8>>,
@@ -64,7 +64,8 @@ impl<'a, S: Scheme, H: Nsec3Hasher> Publisher<'a, S, H> {
         ensures hasher { IfOk result (λ p. p.zone.hasher ≡ hasher.now) }
         ensures life { IfOk result (λ p. p.life ≡ life) }
         ensures unanswered { IfOk result (λ p. p.latest ≡ None) }
-        ensures accepted { let hash = H.hash_of hasher.now in let rs = map handed_of records.items in
+        ensures accepted { let hash = H.hash_of hasher.now in
+            let rs = map handed_of records.items in
             IfOk result (λ p. IsAcceptedWithAliases hash apex (mode_of mode) limit rs) }
         ensures handed { IfOk result
             (λ p. IsName apex × AllByRecursion IsHanded (map handed_of records.items)) }
@@ -127,11 +128,12 @@ impl<'a, S: Scheme, H: Nsec3Hasher> Publisher<'a, S, H> {
     /// for a CNAME or a DNAME RRset that the zone has; the CNAME of the name, or of the wildcard
     /// that stands for it; or the DNAME of the nearest name above at which one stands (RFC 1034,
     /// 4.3.2; RFC 6672, 3.2). Where all records are asked for, ANY or RRSIG, the name's own DNAME
-    /// answers too. A chain of names has an NSEC record beside each CNAME (RFC 4034, 4): that answers
-    /// for itself. No alias answers for types that no zone holds, so not for AXFR (RFC 6895, 3.1).
+    /// answers too. A chain of names has an NSEC record beside each CNAME (RFC 4034, 4): that
+    /// answers for itself. No alias answers for types that no zone holds, so not for AXFR (RFC
+    /// 6895, 3.1).
     ///
-    /// [`Publisher::answer_any`] has the answer to the question that is given here. `None` says that
-    /// no alias answers: then [`Publisher::answer`] has the answer. Nothing is hashed.
+    /// [`Publisher::answer_any`] has the answer to the question that is given here. `None` says
+    /// that no alias answers: then [`Publisher::answer`] has the answer. Nothing is hashed.
     pub fn alias_of(&self, question: &Question) -> Result<Option<Question>, AllocError>
         ensures { let z = zone_of self.now.zone in
             let mode = self.now.zone.mode in
@@ -189,10 +191,10 @@ impl<'a, S: Scheme, H: Nsec3Hasher> Publisher<'a, S, H> {
             && self.zone.has(&question.name, Rtype::CNAME)
     }
 
-    /// The zone's answer to a question at a moment as [`Publisher::answer`] gives it, and as well to
-    /// a question for CNAME or DNAME: what the zone says of these types is signed as what it says of
-    /// others. The CNAME RRset comes from a wildcard with the proof that the name itself does not
-    /// exist, as any other. Its second is noted as there.
+    /// The zone's answer to a question at a moment as [`Publisher::answer`] gives it, and as well
+    /// to a question for CNAME or DNAME: what the zone says of these types is signed as what it
+    /// says of others. The CNAME RRset comes from a wildcard with the proof that the name itself
+    /// does not exist, as any other. Its second is noted as there.
     pub fn answer_any(
         &mut self,
         question: &Question,
@@ -254,8 +256,8 @@ impl<'a, S: Scheme, H: Nsec3Hasher> Publisher<'a, S, H> {
         Ok(message)
     }
 
-    /// The message of an answer to a question that is allowed, or for the records of aliases, signed
-    /// by a scheme.
+    /// The message of an answer to a question that is allowed, or for the records of aliases,
+    /// signed by a scheme.
     fn any_message<T: Scheme>(
         &self,
         scheme: &T,

@@ -22,8 +22,8 @@ use std::alloc::Global;
 impl<'h, H: Nsec3Hasher> ZoneRecords<'h, H> {
     /// A zone of these records, among which aliases may stand that are in order: nothing but what
     /// signing adds beside a CNAME, and one CNAME of an owner (RFC 1034, 3.6.2; RFC 2181, 10.1);
-    /// one DNAME of an owner, at no delegation and no wildcard, and nothing below it (RFC 6672, 2.3,
-    /// 2.4 and 3.3). Else it is refused as [`ZoneRecords::new`] refuses records.
+    /// one DNAME of an owner, at no delegation and no wildcard, and nothing below it (RFC 6672,
+    /// 2.3, 2.4 and 3.3). Else it is refused as [`ZoneRecords::new`] refuses records.
     pub fn with_aliases(
         alloc: Global,
         apex: Name<Vec<u8>>,
@@ -39,7 +39,8 @@ impl<'h, H: Nsec3Hasher> ZoneRecords<'h, H> {
           records = sorted_records (map handed_of records.items);
           hasher = hasher.now;
         }) }
-        ensures accepted { let hash = H.hash_of hasher.now in let rs = map handed_of records.items in
+        ensures accepted { let hash = H.hash_of hasher.now in
+            let rs = map handed_of records.items in
             IfOk result (λ z. IsAcceptedWithAliases hash apex (mode_of mode) limit rs) }
         ensures handed { IfOk result
             (λ z. IsName apex × AllByRecursion IsHanded (map handed_of records.items)) }

@@ -54,7 +54,8 @@ impl<'h, H: Nsec3Hasher> ZoneRecords<'h, H> {
         }
     }
 
-    /// The same where no delegation refers away.
+    /// Whether the zone finds a type at a name that no delegation refers away: among the name's own
+    /// records, or, where the name does not exist, among those of the wildcard that answers for it.
     fn finds_here(
         &self,
         alloc: Global,
@@ -78,7 +79,8 @@ impl<'h, H: Nsec3Hasher> ZoneRecords<'h, H> {
         self.finds_wild(alloc, name, near, rtype)
     }
 
-    /// The same where the name does not exist.
+    /// Whether the zone finds a type at a name that does not exist: among the records of the
+    /// wildcard at the name's closest encloser (RFC 4592, 3.3).
     fn finds_wild(
         &self,
         alloc: Global,
