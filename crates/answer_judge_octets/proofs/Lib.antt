@@ -7,6 +7,7 @@ pub mod ToldInForm
 pub mod Standing
 pub mod Carried
 pub mod NumbersOnce
+pub mod OwnVerdicts
 pub mod PlacesPut
 pub mod PlacesInFront
 pub use Rattle.answer_findings.proofs.AsksGrow

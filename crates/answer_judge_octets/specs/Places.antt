@@ -1,5 +1,5 @@
 -- Which records of an answer a verdict vouches for, by their numbers in the message.
-use Rattle.std.specs.Prelude.{ℕ, List, [], ◌∷◌, ◌++◌, length, Some, None, if◌then◌else◌}
+use Rattle.std.specs.Prelude.{◌≡◌, ℕ, Bool, true, false, List, [], ◌∷◌, ◌++◌, length, Some, None, if◌then◌else◌}
 use Rattle.std.specs.Int.{w32, to_be_bytes}
 use Rattle.std.specs.List.{flat_map}
 use Rattle.std.specs.Ordering.{nat_cmp}
@@ -11,7 +11,7 @@ use Rattle.answer_findings.specs.Judgements.{aside, asking}
 use Rattle.answer_findings.specs.Seen.{Seen, SeesVerdict, SeesDelegated, SeesNoDs, SeesAlias, SeesStarAlias, SeesOpen, SeesDname, SeesReferral}
 use Rattle.answer_judge_keys.specs.Judging.{JudgeInput}
 use Rattle.answer_findings.specs.Table.{Checked, answers_with, passes_in}
-use Rattle.answer_verified_records.specs.Records.{verified_records}
+use Rattle.answer_verified_records.specs.Records.{SaysVerdict, verified_records}
 
 -- the same messages, judged for a type at a name
 abbrev pub beside : JudgeInput → Name → ℕ → JudgeInput
@@ -33,6 +33,20 @@ rests_on h (SeesReferral cut ds) = beside h cut 43 ∷ []
 -- the numbers of the records that are verified where those signatures pass that pass in a table
 abbrev pub verified_by : List Checked → JudgeInput → List ℕ
 verified_by table h = verified_records (answers_with (passes_in table)) pointer_limit h
+
+-- a judge says a verdict where those pass
+abbrev pub SaysBy : List Checked → JudgeInput → Type 0
+SaysBy table h = SaysVerdict (answers_with (passes_in table)) pointer_limit h
+
+-- what is found where the case itself has a verdict, and not beside a refusal
+abbrev pub is_own : Seen → Bool
+is_own (SeesVerdict v) = true
+is_own (SeesDelegated cut) = true
+is_own (SeesNoDs d) = true
+is_own _ = false
+
+abbrev pub SaysOwn : List Checked → JudgeInput → Seen → Type 0
+SaysOwn table h s = is_own s ≡ true → SaysBy table h
 
 -- numbers in ascending order, each once
 abbrev pub in_order : List ℕ → List ℕ

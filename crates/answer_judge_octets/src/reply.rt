@@ -1,6 +1,7 @@
 //! What is replied to a caller in octets.
 ghost use Rattle.std.specs.Prelude.{◌≡◌, ◌++◌, length, map, IfOk, MatchOption, OnOk};
 ghost use Rattle.std.specs.List.{AllByRecursion, flat_map};
+ghost use Rattle.definitions.specs.Dnskey.{dnskey_data};
 ghost use Rattle.definitions.specs.Name.{wire};
 ghost use Rattle.names_rdata.specs.Composing.{with_length};
 ghost use Rattle.answer_judge_rules.specs.Rules.{verdict_of};
@@ -20,6 +21,7 @@ ghost use Rattle.answer_judge_octets.specs.Replying.{reply_seen, ttl_of, until_o
 
 use answer_findings::{Ask, DataList, Finding, Lasting, Lead, Refusal, Verdict};
 use answer_shared::dnskey::ZoneKey;
+use denial_data::Dnskey;
 use messages::names::{Name, ZoneName};
 use std::alloc::{AllocError, Global};
 
@@ -460,38 +462,70 @@ fn octets_of_data(alloc: Global, datas: &DataList) -> Result<Vec<u8>, AllocError
     Ok(octets)
 }
 
-/// Room for the data of a key of an elliptic curve; longer ones get more.
-const ROOM_FOR_KEY: usize = 128;
+/// How many octets a key's data have in front of the public key (RFC 4034, 2.1).
+const HEAD_OF_KEY: usize = 4;
 
-/// Room for an entry of a small RRset that such a key signs; longer ones get more.
-const ROOM_FOR_ENTRY: usize = 512;
+/// How many octets an entry has beside its key, octets and signature: three lengths, and whether it
+/// passes.
+const HEAD_OF_ENTRY: usize = 9;
 
 /// Signatures that are asked for, as entries that don't pass.
 fn octets_of_asks(alloc: Global, asks: &[Ask]) -> Result<Vec<u8>, AllocError>
     ensures octets { IfOk result (λ v. v.items ≡ entries_of asks.now) }
     ensures fit { OnOk result (AllByRecursion FitsChecked (map unchecked asks.now)) }
 {
-    let mut octets = Vec::with_capacity(alloc, asks.len().saturating_mul(ROOM_FOR_ENTRY))?;
+    let mut octets = Vec::with_capacity(alloc, room_for(asks))?;
     for ask in asks {
-        put_ask(alloc, ask, &mut octets)?;
+        put_ask(ask, &mut octets)?;
     }
     Ok(octets)
 }
 
+/// How many octets the entries of signatures have, if that is a number of 64 bits.
+fn room_for(asks: &[Ask]) -> usize {
+    let mut room = 0_usize;
+    for ask in asks {
+        let key = ask.key.public_key().len().saturating_add(HEAD_OF_KEY);
+        let parts = ask.octets.len().saturating_add(ask.signature.len());
+        room = room.saturating_add(key.saturating_add(parts).saturating_add(HEAD_OF_ENTRY));
+    }
+    room
+}
+
 /// Puts a signature that is asked for at the end, as an entry that doesn't pass.
-fn put_ask(alloc: Global, ask: &Ask, octets: &mut Vec<u8>) -> Result<(), AllocError>
+fn put_ask(ask: &Ask, octets: &mut Vec<u8>) -> Result<(), AllocError>
     ensures octets { let entry = checked_octets (unchecked ask.now) in
         OnOk result (octets.new.items ≡ octets.old.items ++ entry) }
     ensures fits { OnOk result (FitsChecked (unchecked ask.now)) }
 {
     let _flags = ask.key.flags();
-    let mut rdata = Vec::with_capacity(alloc, ROOM_FOR_KEY)?;
-    ask.key.compose(&mut rdata)?;
-    put_short(octets, &rdata)?;
+    put_key(&ask.key, octets)?;
     put_long(octets, &ask.octets)?;
     put_short(octets, &ask.signature)?;
     octets.push(0)?;
     Ok(())
+}
+
+/// Puts a key's data behind their length in two octets at the end. Longer ones are refused as out
+/// of memory.
+fn put_key(key: &Dnskey<Vec<u8>>, octets: &mut Vec<u8>) -> Result<(), AllocError>
+    ensures octets { let rdata = dnskey_data key.now in
+        OnOk result (octets.new.items ≡ octets.old.items ++ with_length rdata) }
+    ensures short { OnOk result (IsShort (dnskey_data key.now)) }
+{
+    let len = len_of_key(key)?;
+    octets.extend_from_slice(&len.to_be_bytes())?;
+    key.compose(octets)
+}
+
+/// How many octets a key's data have. More than a length in two octets says are refused as out of
+/// memory.
+fn len_of_key(key: &Dnskey<Vec<u8>>) -> Result<u16, AllocError>
+    ensures len { IfOk result (λ n. n ≡ length (dnskey_data key.now)) }
+    ensures short { OnOk result (IsShort (dnskey_data key.now)) }
+{
+    let len = key.public_key().len().saturating_add(HEAD_OF_KEY);
+    u16::try_from(len).map_err(|_| AllocError)
 }
 
 /// Puts a part behind its length in two octets at the end. A longer one is refused as out of

@@ -1,3 +1,4 @@
+pub mod BesideVerdict
 pub mod ChainVerdicts
 pub mod ReadCase
 pub mod SigningKeys

@@ -1,14 +1,15 @@
 -- Which records of an answer are verified (RFC 4035, 5.3).
-use Rattle.std.specs.Prelude.{ℕ, suc, Bool, not, ◌&&◌, ◌||◌, ◌==◌, List, [], ◌∷◌, filter, length, Option, Some, None, Result, Ok, Err, is_some, nat_eq, if◌then◌else◌}
+use Rattle.std.specs.Prelude.{◌≡◌, ℕ, suc, Bool, not, ◌&&◌, ◌||◌, ◌==◌, List, [], ◌∷◌, filter, length, Option, Some, None, Result, Ok, Err, is_some, nat_eq, if◌then◌else◌}
 use Rattle.definitions.specs.Dnskey.{Dnskey}
 use Rattle.definitions.specs.Name.{Name}
+use Rattle.definitions.specs.Zone.{Verdict}
 use Rattle.messages.specs.Message.{Message, Spelled, canonical_data, message}
 use Rattle.messages.specs.declared.error.MessageError.{MessageError}
 use Rattle.answer_scheme.specs.Answers.{Answers}
-use Rattle.answer_judge_keys.specs.Judging.{JudgeInput, is_judged, message_refusal}
+use Rattle.answer_judge_keys.specs.Judging.{JudgeInput, Says, is_judged, message_refusal}
 use Rattle.answer_judge_keys.specs.Trusted.{is_usable}
 use Rattle.answer_judge.specs.Stages.{are_signed}
-use Rattle.answer_judge_facts.specs.Judged.{keys_of, trusting}
+use Rattle.answer_judge_facts.specs.Judged.{judged, keys_of, trusting}
 use Rattle.answer_judge_facts.specs.Sought.{answer_sought}
 use Rattle.answer_judge_facts.specs.Verified.{Trusting, is_verified, rrset_in}
 
@@ -59,3 +60,10 @@ verified_in_messages a k h keys answer = elim (signing_keys a k h keys.records (
 -- the numbers of the verified records of an answer
 abbrev pub verified_records : Answers → ℕ → JudgeInput → List ℕ
 verified_records a k h = elim (messages_in k h) [ None ↦ [] | Some messages ↦ verified_in_messages a k h messages.0 messages.1 ]
+
+-- ---- beside a verdict
+
+-- a judge says some verdict
+pub record SaysVerdict (a : Answers) (k : ℕ) (h : JudgeInput) : Type 0 where
+  pub verdict : Verdict
+  pub says : judged a k h ≡ Says verdict

@@ -10,4 +10,4 @@ pub mod number;
 pub mod records;
 
 pub use crate::number::RecordNumber;
-pub use crate::records::verified_records;
+pub use crate::records::{records_beside_verdict, verified_records};

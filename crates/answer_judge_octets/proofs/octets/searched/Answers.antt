@@ -1,11 +1,22 @@
-use Rattle.std.proofs.Common.{◌≡◌, length, rules}
+use Rattle.std.proofs.Common.{◌≡◌, List, length, rules, subst, sym}
 use Rattle.answer_findings.specs.Found.{IsFound, IsFoundWithin}
 use Rattle.answer_findings.specs.Seen.{seen}
+use Rattle.answer_findings.specs.Table.{Checked}
 use Rattle.answer_findings.specs.Truth.{FindsTruly}
-use Rattle.answer_judge_octets.specs.Places.{octets_in_front}
+use Rattle.answer_judge_octets.specs.Places.{SaysOwn, octets_in_front}
 use Rattle.answer_judge_octets.specs.Replying.{AsksOrStops, are_too_many, counted, found_reply, reply_seen}
+use Rattle.answer_judge_octets.proofs.OwnVerdicts.{found_says}
 use Rattle.answer_judge_octets.proofs.PlacesInFront.{says_asks, says_places}
 use Rattle.answer_judge_octets.proofs.octets.searched.Goals as goal
+
+pub octets_in_front-requires : goal.octets_in_front-requires
+octets_in_front-requires c =
+    let h = c.args.handed.now in
+    let table = c.args.read.now.table.items in
+    let finds = c.in-Finds in
+    let found : IsFound table h c.in_ok-finding.field-0 = search rules in
+    subst (λ (t : List Checked). SaysOwn t h (seen finds.finding)) (sym c.deref-in-Finds.ensures.value)
+    (found_says table h finds.finding c.in_ok-finding.field-0 finds.lasting finds.verifications finds.hashes finds.is found)
 
 pub returns-in_ok-octets_in_front-in-Finds : goal.returns-in_ok-octets_in_front-in-Finds
 returns-in_ok-octets_in_front-in-Finds c =
