@@ -14,9 +14,9 @@ static const char *const phases[] = {"", "report1", "wait1", "report2", "wait2",
 /* What was counted since the start, as text. */
 static void say_counts(struct served *served, FILE *said) {
     const struct counts *counts = &served->counts;
-    fprintf(said, "journal: %zu octets; signatures: %" PRIu64 " made, %" PRIu64 " found again; over the rate: %" PRIu64
-            " told to use TCP, %" PRIu64 " dropped\n", served->journal.len, served->cache.made, served->cache.found,
-            served->limits.said_tcp, served->limits.dropped);
+    fprintf(said, "journal: %zu octets; signatures: %" PRIu64 " made, %" PRIu64 " found again; responses given again: %" PRIu64
+            "; over the rate: %" PRIu64 " told to use TCP, %" PRIu64 " dropped\n", served->journal.len, served->cache.made,
+            served->cache.found, served->responses.found, served->limits.said_tcp, served->limits.dropped);
     fprintf(said, "requests: %" PRIu64 " by UDP, %" PRIu64 " by TCP; responses: ", counts->udp, counts->tcp);
     for (size_t i = 0; i < CODES; i++) {
         if (counts->codes[i] > 0) {
@@ -29,13 +29,14 @@ static void say_counts(struct served *served, FILE *said) {
 /* The same, for the log. */
 static void log_counts(const struct served *served) {
     const struct counts *counts = &served->counts;
-    struct member members[CODES + 9] = {
+    struct member members[CODES + 10] = {
         as_number("udp", counts->udp), as_number("tcp", counts->tcp), as_number("truncated", counts->truncated),
         as_number("told_tcp", served->limits.said_tcp), as_number("dropped", served->limits.dropped),
         as_number("refused_connections", counts->refused), as_number("signatures_made", served->cache.made),
-        as_number("signatures_kept", served->cache.found), as_number("journal", served->journal.len),
+        as_number("signatures_kept", served->cache.found), as_number("responses_kept", served->responses.found),
+        as_number("journal", served->journal.len),
     };
-    size_t count = 9;
+    size_t count = 10;
     for (size_t i = 0; i < CODES; i++) {
         if (counts->codes[i] > 0) {
             members[count++] = as_number(code_names[i], counts->codes[i]);

@@ -419,6 +419,7 @@ static void close_all(struct server *server) {
     }
     zermuita_zone_close(&served->zone);
     free(served->cache.places);
+    free(served->responses.places);
     free(served->limits.networks);
     free(served->out);
     free(served->made);
@@ -538,11 +539,12 @@ static void open_folder(struct served *served, const struct options *options) {
     served->out = malloc(OUT_ROOM);
     served->made = malloc(OUT_ROOM);
     served->cache.places = calloc(CACHE_PLACES, sizeof *served->cache.places);
+    served->responses.places = calloc(RESPONSE_PLACES, sizeof *served->responses.places);
     served->answered_fd = open_answered(options->folder);
     if (served->answered_fd < 0 || (served->is_shared && !take_turn(served->answered_fd, F_WRLCK)) || !read_note(served)) {
         fail("answered");
     }
-    if (served->out == NULL || served->made == NULL || served->cache.places == NULL
+    if (served->out == NULL || served->made == NULL || served->cache.places == NULL || served->responses.places == NULL
         || !begin_limits(&served->limits, (uint32_t)options->rate) || !open_journal(&served->journal, served->path)) {
         fail(served->path);
     }

@@ -9,6 +9,7 @@
 #include "limits.h"
 #include "log.h"
 #include "master.h"
+#include "responses.h"
 #include <time.h>
 
 enum { OUT_ROOM = 1 << 20, TEXT_ROOM = 1024, UDP_SIZE = 1232 };
@@ -18,6 +19,7 @@ struct served {
     struct journal journal;
     struct keys keys;
     struct cache cache;
+    struct responses responses;
     struct limits limits;
     struct counts counts;
     const char *folder;
@@ -95,6 +97,7 @@ static bool open_served(struct served *served) {
             return false;
         }
         zermuita_zone_close(&served->zone);
+        served->responses.zone++;
         uint32_t reply = zermuita_zone_open(&served->zone, octets, served->journal.len, (uint8_t *)text, sizeof text, &report);
         if (reply != ZERMUITA_ZONE_DONE) {
             log_refused(reply, &report, text);
@@ -126,6 +129,7 @@ static bool apply_line(struct served *served, const char *line, FILE *said) {
     char text[TEXT_ROOM];
     struct zermuita_zone_report report = {.size = sizeof report};
     uint32_t reply = zermuita_zone_apply(&served->zone, (const uint8_t *)line, strlen(line), (uint8_t *)text, sizeof text, &report);
+    served->responses.zone++;
     if (said != NULL && (reply == ZERMUITA_ZONE_DONE || reply == ZERMUITA_ZONE_REFUSED)) {
         fprintf(said, "%.*s%s", report.len <= sizeof text ? (int)report.len : 0, text, report.len > 0 ? "\n" : "");
     } else if (said != NULL) {
@@ -357,14 +361,24 @@ static size_t answer_query(struct served *served, const uint8_t *query, size_t l
         reply = zermuita_zone_respond(&served->zone, &request, served->out, OUT_ROOM, &report);
     }
     if (reply == ZERMUITA_ZONE_RESPONSE) {
+        if (!is_stream) {
+            keep_response(&served->responses, moment, query, len, served->out, report.len);
+        }
         return report.len;
     }
     return reply == ZERMUITA_ZONE_NO_RESPONSE ? 0 : write_header(served->out, query, len, 0, 2);
 }
 
-/* The same, counted. */
+/* Answers a query by UDP: as it was answered before at this moment, if it was. */
+static size_t answer_datagram(struct served *served, const uint8_t *query, size_t len) {
+    uint64_t moment = served->answered;
+    size_t count = served->may_answer ? give_again(&served->responses, moment, query, len, served->out) : 0;
+    return count > 0 ? count : answer_query(served, query, len, false);
+}
+
+/* Answers a query, and counts it. */
 static size_t respond(struct served *served, const uint8_t *query, size_t len, bool is_stream) {
-    size_t count = answer_query(served, query, len, is_stream);
+    size_t count = is_stream ? answer_query(served, query, len, true) : answer_datagram(served, query, len);
     count_response(&served->counts, is_stream, served->out, count);
     return count;
 }

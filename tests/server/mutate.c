@@ -226,7 +226,10 @@ static bool answers(struct served *served, const struct query *query, bool is_st
                              : is_reply(query, served->out, len, is_stream ? 65535 : MOST);
     if (is_right && twice) {
         memcpy(before, served->out, len);
-        is_right = respond(served, exact, query->len, is_stream) == len && memcmp(before, served->out, len) == 0;
+        is_right = answer_query(served, exact, query->len, is_stream) == len && memcmp(before, served->out, len) == 0;
+        before[0] ^= len > 0;
+        exact[0] ^= len > 0; /* another id: a response that was kept is given with that */
+        is_right = is_right && respond(served, exact, query->len, is_stream) == len && memcmp(before, served->out, len) == 0;
     }
     end_turn(served);
     free(exact);
@@ -269,7 +272,8 @@ int main(int argc, char **argv) {
             printf(i == 16 ? " nothing %zu" : " code %2$zu %1$zu,", counts[i], i);
         }
     }
-    printf("; signatures: %" PRIu64 " made, %" PRIu64 " found again\n", server->served.cache.made, server->served.cache.found);
+    printf("; signatures: %" PRIu64 " made, %" PRIu64 " found again; responses given again: %" PRIu64 "\n", server->served.cache.made,
+           server->served.cache.found, server->served.responses.found);
     for (size_t i = 0; i < CONNECTIONS; i++) {
         server->polled[FIRST + i].fd = -1;
     }
