@@ -13,7 +13,7 @@ from served import build  # noqa: E402
 class Zermuita:
     """As many servers as there are to be threads, which share a folder and a port."""
 
-    NAME, PORT = "examples/server", 5401
+    NAME, PORT, MORE = "examples/server", 5401, ()
     program = None
 
     @classmethod
@@ -46,7 +46,7 @@ class Zermuita:
         return self
 
     def start(self, folder):
-        options = "--share", "--rate=0", f"--port={self.PORT}", f"--chain={self.chain}", f"--log={folder}/log"
+        options = "--share", "--rate=0", f"--port={self.PORT}", f"--chain={self.chain}", f"--log={folder}/log", *self.MORE
         words = [self.program, *options, folder, self.room / "zone"]
         self.processes.append(subprocess.Popen([*map(str, words)], stdout=subprocess.PIPE))
         self.processes[-1].stdout.readline()
@@ -64,3 +64,9 @@ class Zermuita:
             it.terminate()
             it.wait()
             it.stdout.close()
+
+
+class ZermuitaWithoutResponses(Zermuita):
+    """The same without responses that are kept."""
+
+    NAME, PORT, MORE = "examples/server, no responses kept", 5406, ("--responses=0",)

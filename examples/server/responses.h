@@ -11,7 +11,7 @@
 #include <stdint.h>
 #include <string.h>
 
-enum { RESPONSE_PLACES = 8192, REQUEST_ROOM = 288, RESPONSE_ROOM = 1232 };
+enum { REQUEST_ROOM = 288, RESPONSE_ROOM = 1232 };
 
 struct given {
     uint64_t moment, zone;
@@ -20,8 +20,9 @@ struct given {
 };
 
 struct responses {
-    struct given *places; /* RESPONSE_PLACES of them */
-    uint64_t zone;        /* how often the zone was opened or changed */
+    struct given *places;
+    size_t count;
+    uint64_t zone; /* how often the zone was opened or changed */
     uint64_t found;
 };
 
@@ -31,12 +32,12 @@ static struct given *place_given(const struct responses *responses, const uint8_
     for (size_t i = 2; i < len; i++) {
         hash = (hash ^ request[i]) * 1099511628211u;
     }
-    return &responses->places[(hash ^ hash >> 32) % RESPONSE_PLACES];
+    return &responses->places[(hash ^ hash >> 32) % responses->count];
 }
 
 /* Writes the response that the same request had at this moment. Gives how many octets it has, or 0 where there is none. */
 static size_t give_again(struct responses *responses, uint64_t moment, const uint8_t *request, size_t len, uint8_t *out) {
-    if (len < 12 || len > REQUEST_ROOM) {
+    if (responses->count == 0 || len < 12 || len > REQUEST_ROOM) {
         return 0;
     }
     const struct given *given = place_given(responses, request, len);
@@ -53,7 +54,7 @@ static size_t give_again(struct responses *responses, uint64_t moment, const uin
 /* Keeps the response of a request, in the place of another one. */
 static void keep_response(struct responses *responses, uint64_t moment, const uint8_t *request, size_t len, const uint8_t *out,
                           size_t count) {
-    if (len < 12 || len > REQUEST_ROOM || count < 12 || count > RESPONSE_ROOM) {
+    if (responses->count == 0 || len < 12 || len > REQUEST_ROOM || count < 12 || count > RESPONSE_ROOM) {
         return;
     }
     struct given *given = place_given(responses, request, len);

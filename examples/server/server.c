@@ -2,8 +2,9 @@
  * A name server of one zone, whose keys are PEM files: it answers by UDP and TCP, signs by OpenSSL as it answers, and its keys roll as
  * a socket says. docs/use/SERVER.md is about it.
  *
- * usage: server [--address=A] [--port=N] [--share] [--backdate=SECONDS] [--step=SECONDS] [--rate=N] [--chain=WORDS] [--auto]
- *               [--log=FILE] [--every=SECONDS] [--watch=HOST:PORT].. [--parent=HOST:PORT].. [--look=SECONDS] FOLDER [MASTER-FILE]
+ * usage: server [--address=A] [--port=N] [--share] [--backdate=SECONDS] [--step=SECONDS] [--rate=N] [--responses=N]
+ *               [--chain=WORDS] [--auto] [--log=FILE] [--every=SECONDS] [--watch=HOST:PORT].. [--parent=HOST:PORT]..
+ *               [--look=SECONDS] FOLDER [MASTER-FILE]
  *        server --ctl FOLDER COMMAND..
  *
  * FOLDER has keys/NAME.pem, and gets the journal and the socket. A journal that is new begins with the records of MASTER-FILE.
@@ -48,7 +49,7 @@ struct options {
     const char *address, *port, *chain, *folder, *file, *log;
     const char *servers[WATCHED], *parents[WATCHED];
     size_t server_count, parent_count;
-    uint64_t backdate, step, rate, every, look;
+    uint64_t backdate, step, rate, responses, every, look;
     bool is_auto, is_shared;
 };
 
@@ -465,7 +466,7 @@ static bool is_place(const char *word, const char *name, const char *places[WATC
 }
 
 static bool read_options(struct options *options, int argc, char **argv) {
-    const char *backdate = "3600", *step = "60", *rate = "200", *every = "3600", *look = "60";
+    const char *backdate = "3600", *step = "60", *rate = "200", *responses = "8192", *every = "3600", *look = "60";
     uint64_t port;
     int at = 1;
     *options = (struct options){.address = "127.0.0.1", .port = "5353", .chain = "nsec 0 604800"};
@@ -478,6 +479,7 @@ static bool read_options(struct options *options, int argc, char **argv) {
         } else if (!is_option(word, "--address=", &options->address) && !is_option(word, "--port=", &options->port)
                    && !is_option(word, "--chain=", &options->chain) && !is_option(word, "--backdate=", &backdate)
                    && !is_option(word, "--step=", &step) && !is_option(word, "--rate=", &rate)
+                   && !is_option(word, "--responses=", &responses)
                    && !is_option(word, "--log=", &options->log) && !is_option(word, "--every=", &every)
                    && !is_option(word, "--look=", &look)
                    && !is_place(word, "--watch=", options->servers, &options->server_count)
@@ -488,8 +490,8 @@ static bool read_options(struct options *options, int argc, char **argv) {
     options->folder = at < argc ? argv[at] : NULL;
     options->file = at + 1 < argc ? argv[at + 1] : NULL;
     bool are_numbers = read_number(options->port, 2, &port) && read_number(backdate, 4, &options->backdate)
-        && read_number(step, 4, &options->step) && read_number(rate, 4, &options->rate) && read_number(every, 4, &options->every)
-        && read_number(look, 2, &options->look);
+        && read_number(step, 4, &options->step) && read_number(rate, 4, &options->rate) && read_number(responses, 3, &options->responses)
+        && read_number(every, 4, &options->every) && read_number(look, 2, &options->look);
     return options->folder != NULL && at + 2 >= argc && are_numbers && port > 0 && options->look > 0 && options->step > 0
         && options->step <= DAY && options->backdate <= DAY;
 }
@@ -539,7 +541,8 @@ static void open_folder(struct served *served, const struct options *options) {
     served->out = malloc(OUT_ROOM);
     served->made = malloc(OUT_ROOM);
     served->cache.places = calloc(CACHE_PLACES, sizeof *served->cache.places);
-    served->responses.places = calloc(RESPONSE_PLACES, sizeof *served->responses.places);
+    served->responses.count = options->responses;
+    served->responses.places = calloc(options->responses + 1, sizeof *served->responses.places);
     served->answered_fd = open_answered(options->folder);
     if (served->answered_fd < 0 || (served->is_shared && !take_turn(served->answered_fd, F_WRLCK)) || !read_note(served)) {
         fail("answered");
@@ -640,8 +643,8 @@ int main(int argc, char **argv) {
         return send_command(argv[2], argc - 3, argv + 3);
     }
     if (!read_options(&options, argc, argv)) {
-        fputs("usage: server [--address=A] [--port=N] [--share] [--backdate=SECONDS] [--step=SECONDS] [--rate=N] [--chain=WORDS]\n"
-              "              [--auto] [--log=FILE] [--every=SECONDS] [--watch=HOST:PORT].. [--parent=HOST:PORT]..\n"
+        fputs("usage: server [--address=A] [--port=N] [--share] [--backdate=SECONDS] [--step=SECONDS] [--rate=N] [--responses=N]\n"
+              "              [--chain=WORDS] [--auto] [--log=FILE] [--every=SECONDS] [--watch=HOST:PORT].. [--parent=HOST:PORT]..\n"
               "              [--look=SECONDS] FOLDER [MASTER-FILE]\n"
               "       server --ctl FOLDER COMMAND..\n", stderr);
         return EXIT_FAILURE;
