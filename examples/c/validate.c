@@ -1,8 +1,9 @@
 /*
  * Prints what a signed zone says of a name, and how long that lasts, from files with the octets of two messages and of a DS set,
- * each record's data behind its length in two octets; a file without octets means that the parent proved a delegation without DS
- * records. The type is a number; the moment, else now, is in seconds since 1970. OpenSSL checks the signatures. The status is 0 for a
- * verdict, 1 for a refusal, else 2. To build it: cc validate.c $(pkg-config --cflags --libs zermuita) -lcrypto
+ * each record's data behind its length in two octets; `-` in the place of the DS set says that the parent proved a delegation without
+ * DS records, and a file without octets is refused. The type is a number; the moment, else now, is in seconds since 1970. OpenSSL checks
+ * the signatures. The status is 0 for a verdict, 1 for a refusal, else 2.
+ * To build it: cc validate.c $(pkg-config --cflags --libs zermuita) -lcrypto
  */
 #include "signature.h"
 
@@ -104,12 +105,14 @@ int main(int argc, char **argv) {
     }
     uint8_t apex[256], name[256], *out = NULL, *checked = NULL;
     struct zermuita_case handed = {
-        .size = sizeof handed, .apex = name_of_text(argv[1], apex), .ds = octets_of_file(argv[2]),
+        .size = sizeof handed, .apex = name_of_text(argv[1], apex), .no_ds = strcmp(argv[2], "-") == 0,
         .dnskey = octets_of_file(argv[3]), .name = name_of_text(argv[4], name), .rtype = (uint16_t)number_of_text(argv[5], 65535),
         .answer = octets_of_file(argv[6]), .now = argc > 7 ? number_of_text(argv[7], UINT64_MAX) : (uint64_t)time(NULL),
         .rclass = 1, .max_nsec3_iterations = 100, .algorithms = {signature_algorithms, sizeof signature_algorithms}, .places = 1,
     };
-    handed.no_ds = handed.ds.len == 0;
+    if (!handed.no_ds) {
+        handed.ds = octets_of_file(argv[2]);
+    }
     struct zermuita_report report = {.size = sizeof report};
     enum zermuita_reply reply;
     size_t room = 0;

@@ -36,8 +36,8 @@ static int usage(void) {
           "\n"
           "SERVER  a name server of the zone: its address, or its name\n"
           "DS      the parent's DS records, as '12345 13 2 ABCD..', with commas between them, or a file with one on each line,\n"
-          "        as dig +short prints them or as zone files have them, or - for standard input; a file without a record says that\n"
-          "        the parent proved a delegation without DS records, so that the zone is insecure\n"
+          "        as dig +short prints them or as zone files have them, or - for standard input; or the word none: the parent proved a\n"
+          "        delegation without DS records, so that the zone is insecure\n"
           "-v      prints both answers, each signature with its times and whether it passed\n"
           "-t      when signatures are to hold, in seconds since 1970: now, if it is left out\n"
           "-l      how many iterations of NSEC3 are allowed: 100, if it is left out\n"
@@ -231,13 +231,17 @@ int main(int argc, char **argv) {
         .rclass = 1,
         .max_nsec3_iterations = options.max_nsec3_iterations,
     };
-    if (!name_of_text(words[1], &zone) || !read_ds_set(&ds, words[2]) || !name_of_text(words[3], &name)
+    handed.no_ds = strcmp(words[2], "none") == 0;
+    if (!name_of_text(words[1], &zone) || !(handed.no_ds || read_ds_set(&ds, words[2])) || !name_of_text(words[3], &name)
         || !type_of_text(words[4], &handed.rtype)) {
         return usage();
     }
+    if (!handed.no_ds && ds.len == 0) {
+        fprintf(stderr, "probe: %s: no DS record stands there; where the parent proved that there is none, say none\n", words[2]);
+        return FAILED;
+    }
     handed.apex = (struct zermuita_octets){zone.octets, zone.len};
     handed.ds = (struct zermuita_octets){ds.octets, ds.len};
-    handed.no_ds = ds.len == 0;
     handed.algorithms = (struct zermuita_octets){signature_algorithms, sizeof signature_algorithms};
     handed.name = (struct zermuita_octets){name.octets, name.len};
     struct addrinfo *server, hints = {.ai_socktype = SOCK_DGRAM};

@@ -87,7 +87,8 @@ def wire(name: str) -> bytes:
 
 
 def main(apex: str, ds: str, dnskey: str, name: str, rtype: str, answer: str, moment: str | None = None) -> int:
-    rest, records = pathlib.Path(ds).read_bytes(), []
+    is_unsigned = ds == "-"  # the parent proved a delegation without DS records; a file without one is refused
+    rest, records = b"" if is_unsigned else pathlib.Path(ds).read_bytes(), []
     while rest:
         end = 2 + int.from_bytes(rest[:2], "big")
         if len(rest) < end:
@@ -97,7 +98,7 @@ def main(apex: str, ds: str, dnskey: str, name: str, rtype: str, answer: str, mo
     messages = pathlib.Path(dnskey).read_bytes(), pathlib.Path(answer).read_bytes()
     now = int(moment) if moment else None
     handed = wire(apex), records, *messages, wire(name), int(rtype)
-    case = zermuita.Case(*handed, now=now, algorithms=ALGORITHMS, no_ds=not records, places=True)
+    case = zermuita.Case(*handed, now=now, algorithms=ALGORITHMS, no_ds=is_unsigned, places=True)
     library = zermuita.Library()
     try:
         judgement = library.judge(case, signature_passes)
