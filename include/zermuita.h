@@ -177,9 +177,9 @@ enum zermuita_delegates {
 /*
  * What is said beside a reply. A verdict may be kept for `ttl` seconds, and not beyond the second `until`. Up to there the same
  * case has the same verdict of 0 to 7, but for ZERMUITA_DELEGATED without a name, ZERMUITA_NODATA for DS with `delegates` 0 and
- * ZERMUITA_OPTOUT of a wildcard's alias; what these, an alias, a DNAME record and a referral say of the zone stays proved up to
- * there, but another signature of the message that begins to hold may bring another reply. Both are 0 with ZERMUITA_INSECURE of a
- * case, which no record says, and without a verdict. Where a verdict rests on several judgements of the answer, as the cut of
+ * ZERMUITA_OPTOUT of a wildcard's alias. For these three, and for replies 8 to 11, what the reply proves stays true until then, but
+ * the reply itself may change when another signature of the message becomes valid. Both are 0 with ZERMUITA_INSECURE of a case,
+ * which no record says, and without a verdict. Where a verdict rests on several judgements of the answer, as the cut of
  * ZERMUITA_DELEGATED and `delegates` do, they are the least of all; zermuita_resolve has the least of all that its way rests on.
  *
  * `ede` is 1 or 2 with ZERMUITA_INSECURE where there are DS records (RFC 8914, 4.2 and 4.3); with a refusal it says what to tell

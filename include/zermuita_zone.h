@@ -134,9 +134,9 @@ struct zermuita_request {
 /*
  * Answers a request: ZERMUITA_ZONE_RESPONSE, with the octets to send in `out`; ZERMUITA_ZONE_NO_RESPONSE to what is a reply itself or
  * too short for a header; or ZERMUITA_ZONE_SIGN, with entries of signatures in `out` that the answer lacks, all of them at once. Make
- * each (zermuita_next_sign), put the octets of `out` at the end of `made`, and call again at the same moment. Where one cannot be made,
- * or the reply is one that a larger `out` does not change, the caller writes an answer of SERVFAIL itself. The zone is as it was, but
- * the moment may count as answered.
+ * each (zermuita_next_sign), put the octets of `out` at the end of `made`, and call again at the same moment. If you cannot make a
+ * signature, or the reply is an error other than ZERMUITA_ZONE_BUFFER_TOO_SMALL, send SERVFAIL yourself. The zone does not change,
+ * except that it may record the moment as answered.
  */
 uint32_t zermuita_zone_respond_to(struct zermuita_zone *zone, const struct zermuita_request *request, uint8_t *out, size_t out_len,
                                   struct zermuita_zone_report *report);

@@ -109,11 +109,11 @@ int main(int argc, char **argv) {
     FILE *file = argc == 3 && inet_pton(AF_INET, argv[1], &root.server) == 1 && res_init() == 0 ? fopen(argv[2], "rb") : NULL;
     root.ds.len = file == NULL ? 0 : fread(anchor, 1, ROOM, file);
     _res.nscount = 1;
-    while (root.ds.len > 0 && scanf("%1023s %u", text, &rtype) == 2 && ns_name_pton(text, name, sizeof name) >= 0) {
+    while (root.ds.len > 0 && scanf("%1023s %u", text, &rtype) == 2 && rtype < 65536 && ns_name_pton(text, name, sizeof name) >= 0) {
         struct zermuita_octets whole = {name, sizeof name}, asked = {name, 0};
         zermuita_next_name(&whole, &asked);
         resolve(&root, asked, (uint16_t)rtype);
         fflush(stdout);
     }
-    return root.ds.len > 0 ? EXIT_SUCCESS : EXIT_FAILURE;
+    return root.ds.len > 0 && feof(stdin) ? EXIT_SUCCESS : EXIT_FAILURE;
 }
