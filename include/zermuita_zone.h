@@ -113,8 +113,8 @@ struct zermuita_due {
 uint32_t zermuita_zone_due(struct zermuita_zone *zone, uint32_t roll, uint8_t *out, size_t out_len, struct zermuita_due *due);
 
 /*
- * Tells a set by its type: 43, the DS set that the parent is to have; 59 and 60, the CDS and CDNSKEY sets that ask it for that; any
- * other is ZERMUITA_ZONE_BAD_CALL. `out` gets the data of its records (zermuita_next_record).
+ * Tells a set by its type: 48, the DNSKEY set; 43, the DS set that the parent is to have; 59 and 60, the CDS and CDNSKEY sets that ask
+ * it for that; any other is ZERMUITA_ZONE_BAD_CALL. `out` gets the data of its records (zermuita_next_record), in order of tag.
  */
 uint32_t zermuita_zone_records(struct zermuita_zone *zone, uint16_t rtype, uint8_t *out, size_t out_len,
                                struct zermuita_zone_report *report);

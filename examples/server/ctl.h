@@ -96,6 +96,16 @@ static bool end_waits(struct served *served) {
     return are_done;
 }
 
+/* Says the key of a DNSKEY record in base64. */
+static void say_key(struct zermuita_octets key, FILE *said) {
+    unsigned char text[4 * 49 + 1];
+    for (size_t at = 0; at < key.len; at += 3 * 49) {
+        size_t len = key.len - at < 3 * 49 ? key.len - at : 3 * 49;
+        EVP_EncodeBlock(text, key.data + at, (int)len);
+        fputs((const char *)text, said);
+    }
+}
+
 /* Says the records of a set, as master files have them. */
 static bool say_records(struct served *served, uint16_t rtype, const char *type, FILE *said) {
     struct zermuita_zone_report report = {.size = sizeof report};
@@ -107,8 +117,11 @@ static bool say_records(struct served *served, uint16_t rtype, const char *type,
     }
     while (zermuita_next_record(&rest, &rdata)) {
         fprintf(said, "%s %zu %u %u ", type, zermuita_number(rdata.data, 2), rdata.data[2], rdata.data[3]);
-        for (size_t i = 4; i < rdata.len; i++) {
+        for (size_t i = 4; i < rdata.len && rtype != 48; i++) {
             fprintf(said, "%02X", rdata.data[i]);
+        }
+        if (rtype == 48) {
+            say_key((struct zermuita_octets){rdata.data + 4, rdata.len - 4}, said);
         }
         fputc('\n', said);
     }
@@ -136,6 +149,8 @@ static bool do_command(struct served *served, char *line, FILE *said, bool *is_s
         return say_records(served, 43, "DS", said);
     } else if (strcmp(word, "cds") == 0) {
         return say_records(served, 59, "CDS", said);
+    } else if (strcmp(word, "dnskey") == 0) {
+        return say_records(served, 48, "DNSKEY", said);
     } else if (strcmp(word, "key") == 0 && second != NULL) {
         return add_key(served, first, second, said);
     } else if (strcmp(word, "reload") == 0 && first != NULL) {
@@ -146,7 +161,7 @@ static bool do_command(struct served *served, char *line, FILE *said, bool *is_s
             return accept_line(served, line, said);
         }
     }
-    fputs("commands: status, due, ds, cds, key KIND NAME, start ROLL OLD NEW, report1 ROLL TTL, wait1 ROLL, report2 ROLL TTL, wait2 ROLL, "
+    fputs("commands: status, due, ds, cds, dnskey, key KIND NAME, start ROLL OLD NEW, report1 ROLL TTL, wait1 ROLL, report2 ROLL TTL, wait2 ROLL, "
           "done ROLL, delete NAME, reload FILE, stop\n", said);
     return false;
 }

@@ -407,6 +407,13 @@ impl<'a, S: Scheme, H: Nsec3Hasher> Publisher<'a, S, H> {
         self.keys.cdnskey_set()
     }
 
+    /// The DNSKEY set of the zone, in order of tag: the keys that are present.
+    pub fn dnskey_set(&self) -> Result<Vec<Dnskey<Vec<u8>>>, AllocError>
+        ensures { IfOk result (λ v. v.items ≡ keys_by_tag self.now.keys Publication.Present) }
+    {
+        self.keys.keys_by_tag(Publication::Present)
+    }
+
     /// Whether a reference is bound to another key than one of these octets, at most 65,531 of
     /// them, so that an add of this one is refused.
     pub fn is_bound_away(

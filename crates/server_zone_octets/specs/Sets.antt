@@ -1,10 +1,11 @@
--- What is told of the DS set, and of the sets that ask the parent for it.
+-- What is told of the DNSKEY set, of the DS set, and of the sets that ask the parent for that.
 use Rattle.std.specs.Prelude.{◌≡◌, ◌⊎◌, ℕ, ◌==◌, true, false, List, Option, Some, None, if◌then◌else◌}
 use Rattle.std.specs.List.{flat_map}
 use Rattle.definitions.specs.Dnskey.{dnskey_data}
 use Rattle.denial_keys.specs.Keys.{ds_data}
 use Rattle.names_rdata.specs.Composing.{with_length}
-use Rattle.answer_publisher_keys.specs.Bindings.{ZoneKeys, cdnskey_set, cds_set, ds_set}
+use Rattle.answer_publisher_keys.specs.Bindings.{ZoneKeys, cdnskey_set, cds_set, ds_set, keys_by_tag}
+use Rattle.answer_publisher_keys.specs.declared.keys.Publication.TheVariants as publication
 use Rattle.server_zone_octets.specs.declared.code.ZoneCode.{ZoneCode}
 use Rattle.server_zone_octets.specs.declared.code.ZoneCode.TheVariants as c
 use Rattle.server_zone_octets.specs.declared.report.ZoneReport.{ZoneReport}
@@ -16,6 +17,7 @@ set_data keys rtype =
     if rtype == 43 then Some (flat_map (λ d. with_length (ds_data d)) (ds_set keys))
     else if rtype == 59 then Some (flat_map (λ d. with_length (ds_data d)) (cds_set keys))
     else if rtype == 60 then Some (flat_map (λ k. with_length (dnskey_data k)) (cdnskey_set keys))
+    else if rtype == 48 then Some (flat_map (λ k. with_length (dnskey_data k)) (keys_by_tag keys publication.Present))
     else None
 
 -- memory ran out, or the type is another

@@ -1,4 +1,4 @@
-//! What the parent has, and what it is asked for.
+//! The zone's keys, what the parent has, and what it is asked for.
 ghost use Rattle.std.specs.Prelude.{◌≡◌, IfErr, IfOk};
 ghost use Rattle.std.specs.List.{flat_map};
 ghost use Rattle.definitions.specs.Dnskey.{dnskey_data};
@@ -22,12 +22,15 @@ use std::alloc::{AllocError, Global};
 /// The types of sets that are told.
 const DS: u16 = 43;
 
+const DNSKEY: u16 = 48;
+
 const CDS: u16 = 59;
 
 const CDNSKEY: u16 = 60;
 
-/// Tells a set of records by its type: DS, what the parent is to have; CDS and CDNSKEY, what it is
-/// asked for (RFC 7344, 3). The data of each is written behind its length in two octets.
+/// Tells a set of records by its type: DNSKEY, the keys that are present; DS, what the parent is to
+/// have; CDS and CDNSKEY, what it is asked for (RFC 7344, 3). The data of each record are written
+/// behind their length in two octets.
 pub fn records_octets<S: Scheme, H: Nsec3Hasher>(
     alloc: Global,
     zone: &Zone<'_, S, H>,
@@ -76,6 +79,7 @@ fn set_of<S: Scheme, H: Nsec3Hasher>(
         DS => ds_octets(alloc, &zone.publisher.ds_set()?)?,
         CDS => ds_octets(alloc, &zone.publisher.cds_set()?)?,
         CDNSKEY => key_octets(alloc, &zone.publisher.cdnskey_set()?)?,
+        DNSKEY => key_octets(alloc, &zone.publisher.dnskey_set()?)?,
         _ => return Err(ZoneCode::BadCall),
     };
     Ok(octets)
