@@ -12,3 +12,4 @@ pub mod SignMade
 pub mod InputsMade
 pub mod Answered
 pub mod AliasOf
+pub mod ApexAnswers

@@ -15,11 +15,11 @@ use Rattle.answer_scheme.specs.declared.error.SchemeError.{SchemeError}
 use Rattle.answer_scheme.specs.declared.error.SchemeError.TheVariants as error
 use Rattle.answer_shared.specs.Hashing.{Hasher}
 use Rattle.answer_publisher.specs.AnswerFaults.{fault_of}
-use Rattle.answer_publisher.specs.Answering.{RefusesAnswer, RefusesKeys, ahead_of_records}
+use Rattle.answer_publisher.specs.Answering.{RefusesAnswer, RefusesApex, ahead_of_records, apex_question}
 use Rattle.answer_publisher.specs.Composed.{HasRoom, IsSection, IsTooLong, IsWritten, RefusesGroups, RefusesRecords, joined, rrsig_of}
 use Rattle.answer_shared.specs.GroupView.{FailsFor, GroupView, IsRrsigData, Presents}
 use Rattle.messages.specs.Message.{Asked}
-use Rattle.answer_shared.specs.Served.{Served, answer_groups, key_group, keys_ttl}
+use Rattle.answer_shared.specs.Served.{Group, Served, answer_groups}
 use Rattle.messages.specs.Written.{Written, header_octets, question_octets, record_octets}
 use Rattle.messages.proofs.MessageWritten.{record_parts, wire-length}
 use Rattle.messages.proofs.NameLaws.{wire_len-some}
@@ -179,10 +179,12 @@ answer_refused sign verifies hash s apex at life keys asked gs fault.HashFailed 
 answer_refused sign verifies hash s apex at life keys asked gs fault.SignFailed z r = (gs, z, r)
 answer_refused sign verifies hash s apex at life keys asked gs fault.TooLong z r = (gs, z, r)
 
-pub keys_refused : (sign : Dnskey → List ℕ → Option (List ℕ)) (verifies : Dnskey → List ℕ → List ℕ → Bool) (s : Served) (apex : Name) (at life : ℕ) (present keys : List Dnskey) (g : GroupView) (f : AnswerFault)
-    → Presents g (key_group apex (keys_ttl s) present) → RefusesGroups sign verifies apex at life keys (ahead_of_records (record { name = apex; rtype = 48; class = 1 })) (g ∷ []) f → RefusesKeys sign verifies s apex at life present keys f
-keys_refused sign verifies s apex at life present keys g fault.Memory z r = tt
-keys_refused sign verifies s apex at life present keys g fault.QuestionNotAllowed z r = (g, z, r)
-keys_refused sign verifies s apex at life present keys g fault.HashFailed z r = (g, z, r)
-keys_refused sign verifies s apex at life present keys g fault.SignFailed z r = (g, z, r)
-keys_refused sign verifies s apex at life present keys g fault.TooLong z r = (g, z, r)
+-- what refuses an RRset of the apex as it is seen refuses it
+pub apex_refused : (sign : Dnskey → List ℕ → Option (List ℕ)) (verifies : Dnskey → List ℕ → List ℕ → Bool) (apex : Name) (at life : ℕ) (keys : List Dnskey) (of : Group) (g : GroupView) (f : AnswerFault)
+    → Presents g of → RefusesGroups sign verifies apex at life keys (ahead_of_records (apex_question apex g.rtype)) (g ∷ []) f → RefusesApex sign verifies apex at life keys of f
+apex_refused sign verifies apex at life keys of g fault.Memory z r = tt
+apex_refused sign verifies apex at life keys of g fault.QuestionNotAllowed z r = (g, z, r)
+apex_refused sign verifies apex at life keys of g fault.HashFailed z r = (g, z, r)
+apex_refused sign verifies apex at life keys of g fault.SignFailed z r = (g, z, r)
+apex_refused sign verifies apex at life keys of g fault.TooLong z r =
+    (g, z, subst (λ t. RefusesGroups sign verifies apex at life keys (ahead_of_records (apex_question apex t)) (g ∷ []) fault.TooLong) z.rtype_is r)

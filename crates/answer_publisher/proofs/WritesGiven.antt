@@ -4,9 +4,9 @@ use Rattle.std.specs.List.{AllByRecursion, AllZip}
 use Rattle.definitions.specs.Name.{IsName}
 use Rattle.definitions.specs.Dnskey.{Dnskey}
 use Rattle.definitions.specs.Limits.{pointer_limit}
-use Rattle.answer_publisher.specs.Answering.{AnswersKeys}
+use Rattle.answer_publisher.specs.Answering.{AnswersApex, AnswersKeys, apex_question}
 use Rattle.answer_publisher.specs.Composed.{IsAnswer}
-use Rattle.answer_shared.specs.Given.{GivesAnswer, GivesKeys}
+use Rattle.answer_shared.specs.Given.{Gives, GivesAnswer, GivesKeys}
 use Rattle.messages.specs.Handed.{AreHanded}
 use Rattle.messages.specs.Message.{Asked}
 use Rattle.answer_shared.specs.GroupView.{GroupView, Presents}
@@ -45,11 +45,15 @@ answer_given sign verifies hash z at life flags signers asked answer authority m
     let formed : AllByRecursion IsFormed groups = answer_formed z.apex z.mode (hash_in hash z.mode) z.records published handed asked.name asked.rtype is.name is.rtype plain names in
     answer_gives sign verifies z.apex at life (by_tag signers) flags asked answer authority groups m handed.apex_is is formed presents written
 
+-- an RRset of the apex
+pub apex_given : (sign : Dnskey → List ℕ → Option (List ℕ)) (verifies : Dnskey → List ℕ → List ℕ → Bool) (apex : Name) (at life : ℕ) (signers : List Dnskey) (of : Group) (m : List ℕ)
+    → IsName apex → IsFormed of → AnswersApex sign verifies apex at life (by_tag signers) of m → Gives verifies pointer_limit apex at life (by_tag signers) (apex_question apex of.rtype) (of ∷ []) m
+apex_given sign verifies apex at life signers of m name formed w =
+    answer_gives sign verifies apex at life (by_tag signers) 33792 (apex_question apex of.rtype) (w.group ∷ []) [] (of ∷ []) m
+    name (record { name = name; rtype = formed.rtype; class = lit< tt }) (formed, tt) (w.presents, tt) w.written
+
 -- the DNSKEY answer
 pub keys_given : (sign : Dnskey → List ℕ → Option (List ℕ)) (verifies : Dnskey → List ℕ → List ℕ → Bool) (hash : List ℕ → ℕ → ℕ → List ℕ → Option (List ℕ)) (z : AcceptedZone) (at life : ℕ) (present signers : List Dnskey) (m : List ℕ)
     → AreHanded z.apex z.records → AnswersKeys sign verifies (served hash z) z.apex at life present (by_tag signers) m → GivesKeys verifies pointer_limit (keys_ttl (served hash z)) z.apex present signers at life m
 keys_given sign verifies hash z at life present signers m handed w =
-    let asked : Asked = record { name = z.apex; rtype = 48; class = 1 } in
-    let s = served hash z in
-    answer_gives sign verifies z.apex at life (by_tag signers) 33792 asked (w.group ∷ []) [] (key_group z.apex (keys_ttl s) present ∷ []) m
-    handed.apex_is (record { name = handed.apex_is; rtype = lit< tt; class = lit< tt }) (keys_formed z.apex z.records handed present, tt) (w.presents, tt) w.written
+    apex_given sign verifies z.apex at life signers (key_group z.apex (keys_ttl (served hash z)) present) m handed.apex_is (keys_formed z.apex z.records handed present) w

@@ -14,9 +14,11 @@ use Rattle.messages.specs.HandedRr.{HandedRr, is_meta}
 use Rattle.answer_shared.specs.Accepting.{zone_with}
 use Rattle.messages.specs.Handed.{AreHanded, IsHanded}
 use Rattle.answer_shared.specs.GroupView.{all_spelled_by, spelled_by}
-use Rattle.answer_shared.specs.Served.{Group, Served, ahead, ahead_open, answer_groups, chain_names, chain_record, chain_ttl, if_any, key_data, key_group, owned_by, owner_among, proofs_of, rrset, served_of, served_owner, soa, speaks_for, spelled_among, spoken, ttl_among, under, unsigned_ns, written_among, written_of_handed, written_rr}
+use Rattle.answer_shared.specs.Served.{Group, Served, ahead, ahead_open, answer_groups, canonical_group, chain_names, chain_record, chain_ttl, if_any, key_data, key_group, owned_by, owner_among, proofs_of, rrset, served_of, served_owner, soa, speaks_for, spelled_among, spoken, ttl_among, under, unsigned_ns, written_among, written_of_handed, written_rr}
 use Rattle.answer_shared.specs.ZoneView.{is_of}
 use Rattle.answer_zone_records.specs.ZoneInOrder.{AreZoneRecords}
+use Rattle.denial_nsec_data.specs.Hashed.{nsec3param_octets, nsec3param_with}
+use Rattle.answer_publisher.specs.Parameters.{parameters_group}
 use Rattle.answer_publisher.proofs.WritesAnswer.{all_behind}
 use Rattle.answer_publisher.proofs.WritesData.{all_plain, of_chain, reads_handed, reads_nsec, reads_nsec3}
 use Rattle.answer_publisher.proofs.WritesGroups.{IsFormed}
@@ -262,13 +264,21 @@ canonical_read g ttl [] name small h = tt
 canonical_read g ttl (d ∷ ds) name small h =
     (record { owner = name; named = refl; rtype = refl; class = refl; ttl = small; reads = h.0 }, canonical_read g ttl ds name small h.1)
 
--- the DNSKEY RRset
-pub keys_formed : (apex : Name) (rs : List HandedRr) → AreHanded apex rs → (ks : List Dnskey) → IsFormed (key_group apex (ttl_among rs (low apex) 6) ks)
-keys_formed apex rs h ks =
+-- an RRset of the apex that is written in canonical form, with the TTL of the SOA record
+pub apex_formed : (apex : Name) (rs : List HandedRr) → AreHanded apex rs → (t : ℕ) (ds : List (List ℕ)) → t < 65536 → eqb t 2 ≡ false → eqb t 6 ≡ false → of_chain t ≡ false → IsFormed (canonical_group apex apex t (ttl_among rs (low apex) 6) ds)
+apex_formed apex rs h t ds small ns soa plain =
     let ttl = ttl_fits apex rs h (low apex) 6 in
     record {
       owner = h.apex_is;
-      rtype = lit< tt;
+      rtype = small;
       ttl = ttl;
-      datas = canonical_read (key_group apex (ttl_among rs (low apex) 6) ks) (ttl_among rs (low apex) 6) (key_data ks) h.apex_is ttl (all_plain 48 (key_data ks) refl refl refl);
+      datas = canonical_read (canonical_group apex apex t (ttl_among rs (low apex) 6) ds) (ttl_among rs (low apex) 6) ds h.apex_is ttl (all_plain t ds ns soa plain);
     }
+
+-- the DNSKEY RRset
+pub keys_formed : (apex : Name) (rs : List HandedRr) → AreHanded apex rs → (ks : List Dnskey) → IsFormed (key_group apex (ttl_among rs (low apex) 6) ks)
+keys_formed apex rs h ks = apex_formed apex rs h 48 (key_data ks) (lit< tt) refl refl refl
+
+-- the NSEC3PARAM RRset
+pub parameters_formed : (apex : Name) (rs : List HandedRr) → AreHanded apex rs → (iterations : ℕ) (salt : List ℕ) → IsFormed (parameters_group apex (ttl_among rs (low apex) 6) iterations salt)
+parameters_formed apex rs h iterations salt = apex_formed apex rs h 51 (nsec3param_octets (nsec3param_with 1 0 iterations salt) ∷ []) (lit< tt) refl refl refl

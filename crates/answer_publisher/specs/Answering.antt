@@ -13,7 +13,7 @@ use Rattle.answer_shared.specs.Hashing.{Hasher}
 use Rattle.messages.specs.Written.{question_octets}
 use Rattle.answer_publisher.specs.declared.fault.AnswerFault.{AnswerFault}
 use Rattle.answer_publisher.specs.declared.fault.AnswerFault.TheVariants as fault
-use Rattle.answer_shared.specs.Served.{Served, answer_groups, key_group, keys_ttl}
+use Rattle.answer_shared.specs.Served.{Group, Served, answer_groups, key_group, keys_ttl}
 use Rattle.answer_zone.specs.HashedZone.{FailsOn}
 use Rattle.answer_zone.specs.ZoneAnswers.{flags_for, answered}
 
@@ -25,11 +25,19 @@ pub record AnswersZone (sign : Dnskey → List ℕ → Option (List ℕ)) (verif
   pub split : length answer ≡ answered (verdict s.zone false asked.name asked.rtype)
   pub written : IsAnswer sign verifies apex at life keys (flags_for (verdict s.zone false asked.name asked.rtype)) asked answer authority m
 
--- the DNSKEY answer: the keys that are present, their data written in canonical form and order
-pub record AnswersKeys (sign : Dnskey → List ℕ → Option (List ℕ)) (verifies : Dnskey → List ℕ → List ℕ → Bool) (s : Served) (apex : Name) (at life : ℕ) (present keys : List Dnskey) (m : List ℕ) : Type 0 where
+-- a question for an RRset of the apex
+abbrev pub apex_question : Name → ℕ → Asked
+apex_question apex t = record { name = apex; rtype = t; class = 1 }
+
+-- the message that answers it with one RRset
+pub record AnswersApex (sign : Dnskey → List ℕ → Option (List ℕ)) (verifies : Dnskey → List ℕ → List ℕ → Bool) (apex : Name) (at life : ℕ) (keys : List Dnskey) (of : Group) (m : List ℕ) : Type 0 where
   pub group : GroupView
-  pub presents : Presents group (key_group apex (keys_ttl s) present)
-  pub written : IsAnswer sign verifies apex at life keys 33792 (record { name = apex; rtype = 48; class = 1 }) (group ∷ []) [] m
+  pub presents : Presents group of
+  pub written : IsAnswer sign verifies apex at life keys 33792 (apex_question apex of.rtype) (group ∷ []) [] m
+
+-- the DNSKEY answer: the keys that are present, their data written in canonical form and order
+abbrev pub AnswersKeys : (Dnskey → List ℕ → Option (List ℕ)) → (Dnskey → List ℕ → List ℕ → Bool) → Served → Name → ℕ → ℕ → List Dnskey → List Dnskey → List ℕ → Type 0
+AnswersKeys sign verifies s apex at life present keys m = AnswersApex sign verifies apex at life keys (key_group apex (keys_ttl s) present) m
 
 -- octets of a message ahead of its records: the header and the question (RFC 1035, 4.1.1 and 4.1.2)
 abbrev pub ahead_of_records : Asked → ℕ
@@ -45,9 +53,12 @@ RefusesAnswer sign verifies hash s apex at life keys asked f =
     (groups : List GroupView) × AllZip Presents groups (answer_groups s asked.name asked.rtype)
     × RefusesGroups sign verifies apex at life keys (ahead_of_records asked) groups f
 
+-- why an RRset of the apex is not given
+abbrev pub RefusesApex : (Dnskey → List ℕ → Option (List ℕ)) → (Dnskey → List ℕ → List ℕ → Bool) → Name → ℕ → ℕ → List Dnskey → Group → AnswerFault → Type 0
+RefusesApex sign verifies apex at life keys of fault.Memory = Unit {0}
+RefusesApex sign verifies apex at life keys of f =
+    (group : GroupView) × Presents group of × RefusesGroups sign verifies apex at life keys (ahead_of_records (apex_question apex of.rtype)) (group ∷ []) f
+
 -- why the DNSKEY answer is not given
 abbrev pub RefusesKeys : (Dnskey → List ℕ → Option (List ℕ)) → (Dnskey → List ℕ → List ℕ → Bool) → Served → Name → ℕ → ℕ → List Dnskey → List Dnskey → AnswerFault → Type 0
-RefusesKeys sign verifies s apex at life present keys fault.Memory = Unit {0}
-RefusesKeys sign verifies s apex at life present keys f =
-    (group : GroupView) × Presents group (key_group apex (keys_ttl s) present)
-    × RefusesGroups sign verifies apex at life keys (ahead_of_records (record { name = apex; rtype = 48; class = 1 })) (group ∷ []) f
+RefusesKeys sign verifies s apex at life present keys f = RefusesApex sign verifies apex at life keys (key_group apex (keys_ttl s) present) f

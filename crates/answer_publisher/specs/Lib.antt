@@ -7,3 +7,4 @@ pub mod Answering
 pub mod World
 pub mod Inputs
 pub mod Aliases
+pub mod Parameters

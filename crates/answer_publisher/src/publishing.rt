@@ -34,7 +34,6 @@ use answer_shared::dnskey::{Dnskey, ZoneKey};
 use answer_shared::mode::Mode;
 use answer_shared::question::is_allowed;
 use answer_zone::zone::ZoneRecords;
-use answer_zone::zone::answers::AUTHORITATIVE;
 use answer_zone_records::group::RrGroup;
 use denial_data::Ds;
 use denial_nsec3_hash::hasher::Nsec3Hasher;
@@ -44,16 +43,15 @@ use messages::names::{Name, ZoneName, copy_name};
 use messages::question::Question;
 use messages::record::ZoneRecord;
 use numbers::algorithm::{DigestAlgorithm, SecurityAlgorithm};
-use numbers::class::Class;
 use numbers::rtype::Rtype;
 use std::alloc::{AllocError, Global};
 use std::convert::AsStr;
-use std::slice;
 use std::time::Duration;
 
 pub mod aliases;
 mod calls;
 mod inputs;
+mod parameters;
 mod replacing;
 
 /// Publishes one signed zone while its keys roll (RFC 4035, 2 and 3; RFC 6781, 4.1).
@@ -146,23 +144,8 @@ impl<'a, S: Scheme, H: Nsec3Hasher> Publisher<'a, S, H> {
             IfOk result (λ m. SpellsKeys w p.keys now.now m.items) }
     {
         self.zone.keeps();
-        let keys = self.keys.keys_by_tag(Publication::SignsKeys)?;
         let group = self.dnskey_group()?;
-        let question = Question {
-            name: copy_name(self.alloc, self.zone.apex())?,
-            rtype: Rtype::DNSKEY,
-            class: Class::IN,
-        };
-        compose_answer(
-            self.alloc,
-            scheme,
-            &self.terms(now),
-            &keys,
-            AUTHORITATIVE,
-            &question,
-            slice::from_ref(&group),
-            &[],
-        )
+        self.apex_answer(scheme, &group, Publication::SignsKeys, now)
     }
 
     /// The DNSKEY RRset; without a key it is empty, and then there is nothing to sign.

@@ -16,7 +16,6 @@ use denial_nsec3_hash::hasher::Nsec3Hasher;
 use keyset::UnixTime;
 use messages::question::Question;
 use std::alloc::AllocError;
-use std::slice;
 
 impl<'a, S: Scheme, H: Nsec3Hasher> Publisher<'a, S, H> {
     /// What the signatures of [`Publisher::answer`] are made over, each with its key, in the order
@@ -72,17 +71,7 @@ impl<'a, S: Scheme, H: Nsec3Hasher> Publisher<'a, S, H> {
         ensures { let w = world_of S.signature_of S.verifies S.digest_of H.hash_of self.now in
             IfOk result (λ v. v.items ≡ keys_inputs w self.now.keys now.now) }
     {
-        let keys = self.keys.keys_by_tag(Publication::SignsKeys)?;
         let group = self.dnskey_group()?;
-        let terms = self.terms(now);
-        let mut inputs = Vec::new(self.alloc);
-        push_inputs(
-            self.alloc,
-            &mut inputs,
-            &terms,
-            slice::from_ref(&group),
-            &keys,
-        )?;
-        Ok(inputs)
+        self.apex_inputs(&group, Publication::SignsKeys, now)
     }
 }

@@ -4,6 +4,7 @@ ghost use Rattle.std.specs.List.{list_any};
 ghost use Rattle.definitions.specs.Name.{low};
 ghost use Rattle.definitions.specs.Zone.{exists, is_live};
 ghost use Rattle.answer_shared.specs.Accepting.{is_alias};
+ghost use Rattle.answer_shared.specs.ModeView.{mode_of};
 ghost use Rattle.answer_zone.specs.Finding.{finds, links_names, redirecting, redirects};
 ghost use Rattle.answer_zone.specs.Placed.{IsNear};
 ghost use Rattle.answer_zone.specs.Questions.{AnswersItself, zone_of};
@@ -25,6 +26,13 @@ impl<'h, H: Nsec3Hasher> ZoneRecords<'h, H> {
         ensures { result ≡ list_any is_alias self.now.records }
     {
         self.has_aliases
+    }
+
+    /// The chain that the zone has: other records never change it.
+    pub fn mode(&self) -> &Mode
+        ensures { mode_of result.now ≡ self.now.mode }
+    {
+        &self.mode
     }
 
     /// Whether the zone's chain is one of names, NSEC, and not of hashes, NSEC3.

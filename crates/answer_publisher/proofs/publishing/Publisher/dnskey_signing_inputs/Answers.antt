@@ -1,4 +1,5 @@
-use Rattle.std.proofs.Common.{◌≡◌, ◌∙◌, [], ◌∷◌, rules}
+use Rattle.std.proofs.Common.{◌≡◌, ◌∙◌, [], ◌∷◌}
+use Rattle.answer_shared.proofs.ZoneData.{if_ok_map}
 use Rattle.answer_shared.specs.Hashing.{served}
 use Rattle.answer_shared.specs.Served.{key_group, keys_ttl}
 use Rattle.answer_zone.specs.HashedZone.{accepted_zone}
@@ -9,6 +10,7 @@ use Rattle.answer_publisher.specs.Inputs.{all_inputs}
 use Rattle.answer_publisher.specs.World.{present_keys}
 use Rattle.answer_publisher.proofs.InputsMade.{inputs_of_one}
 use Rattle.answer_publisher.proofs.publishing.Publisher.dnskey_signing_inputs.Goals as goal
+use Rattle.answer_shared.specs.GroupView.{view_of}
 
 pub returns : goal.returns
 returns g c =
@@ -18,5 +20,10 @@ returns g c =
     let keys = keys_by_tag c.args.self.now.keys SignsKeys in
     let s = served (g.H.Nsec3Hasher.hash_of c.args.self.now.zone.hasher) z in
     let group = c.in_ok-group.group in
-    let pushed : c.push_inputs.new.inputs.items ≡ all_inputs z.apex at life keys (group ∷ []) = search rules in
-    pushed ∙ inputs_of_one z.apex at life keys group (key_group z.apex (keys_ttl s) (present_keys c.args.self.now.keys)) c.in_ok-group.ensures.presents
+    let of = key_group z.apex (keys_ttl s) (present_keys c.args.self.now.keys) in
+    if_ok_map
+    (λ v. v.items ≡ all_inputs z.apex at life keys (group ∷ []))
+    (λ v. v.items ≡ all_inputs z.apex at life keys (view_of of ∷ []))
+    c.apex_inputs.result
+    (λ v made. made ∙ inputs_of_one z.apex at life keys group of c.in_ok-group.ensures.presents)
+    c.apex_inputs.ensures

@@ -1,0 +1,73 @@
+-- Answers of one RRset of the apex.
+use Rattle.std.proofs.Common.{◌≡◌, ℕ, Bool, List, [], ◌∷◌, Option, Some, None, refl, subst}
+use Rattle.std.specs.Prelude.{IsSomeAnd}
+use Rattle.std.specs.Option.{option_map_or}
+use Rattle.definitions.specs.Limits.{pointer_limit}
+use Rattle.definitions.specs.Name.{Name, low}
+use Rattle.definitions.specs.Dnskey.{Dnskey}
+use Rattle.definitions.specs.ZoneChain.{Mode, Nsec, Nsec3}
+use Rattle.messages.specs.Handed.{AreHanded}
+use Rattle.messages.specs.HandedRr.{HandedRr}
+use Rattle.answer_shared.specs.Given.{Gives}
+use Rattle.answer_shared.specs.GroupView.{GroupView, Presents, view_of}
+use Rattle.answer_shared.specs.Served.{Group, by_tag, ttl_among}
+use Rattle.answer_publisher.specs.Answering.{AnswersApex, RefusesApex, ahead_of_records, apex_question}
+use Rattle.answer_publisher.specs.Composed.{IsAnswer, RefusesGroups}
+use Rattle.answer_publisher.specs.Inputs.{all_inputs}
+use Rattle.answer_publisher.specs.Parameters.{OfBoth, parameters_group, parameters_of_chain}
+use Rattle.answer_publisher.specs.declared.fault.AnswerFault.{AnswerFault}
+use Rattle.answer_publisher.proofs.InputsMade.{inputs_of_one}
+use Rattle.answer_publisher.proofs.Refusals.{apex_refused}
+use Rattle.answer_publisher.proofs.WritesGiven.{apex_given}
+use Rattle.answer_publisher.proofs.WritesZone.{parameters_formed}
+
+-- the message of an RRset, as it is seen
+pub apex_answered : (sign : Dnskey → List ℕ → Option (List ℕ)) (verifies : Dnskey → List ℕ → List ℕ → Bool) (apex : Name) (at life : ℕ) (keys : List Dnskey) (of : Group) (g : GroupView) (m : List ℕ)
+    → Presents g of → IsAnswer sign verifies apex at life keys 33792 (apex_question apex g.rtype) (g ∷ []) [] m → AnswersApex sign verifies apex at life keys of m
+apex_answered sign verifies apex at life keys of g m presents w = record {
+  group = g;
+  presents = presents;
+  written = subst (λ t. IsAnswer sign verifies apex at life keys 33792 (apex_question apex t) (g ∷ []) [] m) presents.rtype_is w;
+}
+
+-- ---- of the NSEC3PARAM RRset, whichever chain the zone has
+
+module _ (sign : Dnskey → List ℕ → Option (List ℕ)) (verifies : Dnskey → List ℕ → List ℕ → Bool) (apex : Name) (rs : List HandedRr) (at life : ℕ) where
+  abbrev ttl : ℕ
+  ttl = ttl_among rs (low apex) 6
+
+  abbrev Seen : Mode → GroupView → Type 0
+  Seen mode g = OfBoth (λ of v. Presents v of) (parameters_of_chain apex ttl mode) (Some g)
+
+  pub parameters_answered : (keys : List Dnskey) (mode : Mode) (g : GroupView) (m : List ℕ) → Seen mode g → IsAnswer sign verifies apex at life keys 33792 (apex_question apex g.rtype) (g ∷ []) [] m
+      → OfBoth (AnswersApex sign verifies apex at life keys) (parameters_of_chain apex ttl mode) (Some m)
+  parameters_answered keys Nsec g m seen w = absurd seen
+  parameters_answered keys (Nsec3 iterations salt optout) g m seen w = apex_answered sign verifies apex at life keys (parameters_group apex ttl iterations salt) g m seen w
+
+  pub parameters_given : (signers : List Dnskey) (mode : Mode) (g : GroupView) (m : List ℕ) → AreHanded apex rs → Seen mode g → IsAnswer sign verifies apex at life (by_tag signers) 33792 (apex_question apex g.rtype) (g ∷ []) [] m
+      → OfBoth (λ of b. Gives verifies pointer_limit apex at life (by_tag signers) (apex_question apex of.rtype) (of ∷ []) b) (parameters_of_chain apex ttl mode) (Some m)
+  parameters_given signers Nsec g m handed seen w = absurd seen
+  parameters_given signers (Nsec3 iterations salt optout) g m handed seen w =
+      let of = parameters_group apex ttl iterations salt in
+      apex_given sign verifies apex at life signers of m handed.apex_is (parameters_formed apex rs handed iterations salt)
+      (apex_answered sign verifies apex at life (by_tag signers) of g m seen w)
+
+  pub parameters_refused : (keys : List Dnskey) (mode : Mode) (g : GroupView) (f : AnswerFault) → Seen mode g → RefusesGroups sign verifies apex at life keys (ahead_of_records (apex_question apex g.rtype)) (g ∷ []) f
+      → IsSomeAnd (parameters_of_chain apex ttl mode) (λ of. RefusesApex sign verifies apex at life keys of f)
+  parameters_refused keys Nsec g f seen r = absurd seen
+  parameters_refused keys (Nsec3 iterations salt optout) g f seen r = apex_refused sign verifies apex at life keys (parameters_group apex ttl iterations salt) g f seen r
+
+-- none, or that of both
+pub none_of_both : {A B C : Type 0} (P : A → B → Type 0) (Q : A → C → Type 0) (o : Option A) → OfBoth P o None → OfBoth Q o None
+none_of_both P Q None h = tt
+none_of_both P Q (Some a) h = absurd h
+
+module _ (apex : Name) (at life : ℕ) (keys : List Dnskey) where
+  pub parameters_over : (o : Option Group) (g : GroupView) → OfBoth (λ of v. Presents v of) o (Some g)
+      → all_inputs apex at life keys (g ∷ []) ≡ option_map_or (λ of. all_inputs apex at life keys (view_of of ∷ [])) o []
+  parameters_over None g seen = absurd seen
+  parameters_over (Some of) g seen = inputs_of_one apex at life keys g of seen
+
+  pub over_none : (o : Option Group) → OfBoth (λ (of : Group) (v : GroupView). Presents v of) o None → [] ≡ option_map_or (λ of. all_inputs apex at life keys (view_of of ∷ [])) o []
+  over_none None h = refl
+  over_none (Some of) h = absurd h
