@@ -57,11 +57,6 @@ module _ (sign : Dnskey → List ℕ → Option (List ℕ)) (verifies : Dnskey �
   parameters_refused keys Nsec g f seen r = absurd seen
   parameters_refused keys (Nsec3 iterations salt optout) g f seen r = apex_refused sign verifies apex at life keys (parameters_group apex ttl iterations salt) g f seen r
 
--- none, or that of both
-pub none_of_both : {A B C : Type 0} (P : A → B → Type 0) (Q : A → C → Type 0) (o : Option A) → OfBoth P o None → OfBoth Q o None
-none_of_both P Q None h = tt
-none_of_both P Q (Some a) h = absurd h
-
 module _ (apex : Name) (at life : ℕ) (keys : List Dnskey) where
   pub parameters_over : (o : Option Group) (g : GroupView) → OfBoth (λ of v. Presents v of) o (Some g)
       → all_inputs apex at life keys (g ∷ []) ≡ option_map_or (λ of. all_inputs apex at life keys (view_of of ∷ [])) o []

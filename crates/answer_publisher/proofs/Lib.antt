@@ -13,3 +13,4 @@ pub mod InputsMade
 pub mod Answered
 pub mod AliasOf
 pub mod ApexAnswers
+pub mod BothThere

@@ -1,5 +1,6 @@
 pub mod Choosing
 pub mod Making
+pub mod ParametersMade
 pub use Rattle.answer_publisher.proofs.WritesAnswer
 pub use Rattle.answer_publisher.proofs.WritesData
 pub use Rattle.answer_publisher.proofs.WritesGroups

@@ -22,6 +22,7 @@ use Rattle.server_answers.specs.Messages.{Makes}
 use Rattle.server_answers.specs.Answering.{AnswersBy, AnswersItself, AnswersQueried}
 use Rattle.server_answers.specs.MadeOf.{IsMadeOf, ReadsWhole}
 use Rattle.server_answers.specs.Moments.{IsOrWasNoted}
+use Rattle.server_answers.specs.Parameters.{AnswersParameters, is_for_parameters}
 use Rattle.server_answers.specs.Responding.{AnswersHeld, IsMessage, Serving, is_for_keys}
 use Rattle.answer_publisher.specs.Aliases.{alias_of, asks_all, is_answered}
 use Rattle.answer_publisher.specs.World.{served_in}
@@ -55,7 +56,7 @@ keys_by_table s asked old (Err f) is refused = (refused, refl, λ keys e. absurd
 
 -- ---- messages read
 
-ok_of : (r : Result Message MessageError) (read : Message) → r ≡ Ok read → IsOk r
+pub ok_of : (r : Result Message MessageError) (read : Message) → r ≡ Ok read → IsOk r
 ok_of r read e = subst IsOk (sym e) refl
 
 pub is_read : (s : Serving) (asked : Asked) (keys dnssec_ok : Bool) (m : List ℕ) → IsMessage s asked keys dnssec_ok m → IsOk (message pointer_limit m)
@@ -117,12 +118,16 @@ module _ (s : Serving) (q : Queried) (old new : Option ℕ) where
 
 -- ---- by what is asked for
 
-abbrev by_type : Serving → Queried → Option ℕ → Option ℕ → Response → Bool → Bool → Type 0
-by_type s q old new r unheld all = MatchBool unheld (AnswersUnheld s q old new r) (MatchBool all (AnswersSubset s q old new r) (AnswersHeld s q old new r))
+abbrev by_type : Serving → Queried → Option ℕ → Option ℕ → Response → Bool → Bool → Bool → Type 0
+by_type s q old new r unheld all parameters =
+    MatchBool unheld (AnswersUnheld s q old new r) (MatchBool all (AnswersSubset s q old new r) (MatchBool parameters (AnswersParameters s q old new r) (AnswersHeld s q old new r)))
 
-pub answered_so : (s : Serving) (q : Queried) (old new : Option ℕ) (r : Response) (unheld all : Bool) → is_unheld s.world.zone.apex q.asked ≡ unheld → asks_all q.asked ≡ all → by_type s q old new r unheld all → AnswersItself s q old new r
-answered_so s q old new r unheld all is is_all k =
-    subst (λ (b : Bool). by_type s q old new r b (asks_all q.asked)) (sym is) (subst (by_type s q old new r unheld) (sym is_all) k)
+pub answered_so : (s : Serving) (q : Queried) (old new : Option ℕ) (r : Response) (unheld all parameters : Bool) → is_unheld s.world.zone.apex s.world.zone.mode q.asked ≡ unheld → asks_all q.asked ≡ all
+    → is_for_parameters s.world.zone.apex s.world.zone.mode q.asked ≡ parameters → by_type s q old new r unheld all parameters → AnswersItself s q old new r
+answered_so s q old new r unheld all parameters is is_all is_for k =
+    let for_parameters = is_for_parameters s.world.zone.apex s.world.zone.mode q.asked in
+    subst (λ (b : Bool). by_type s q old new r b (asks_all q.asked) for_parameters) (sym is)
+    (subst (λ (b : Bool). by_type s q old new r unheld b for_parameters) (sym is_all) (subst (by_type s q old new r unheld all) (sym is_for) k))
 
 -- by the RRset of an alias, or where none answers
 pub by_alias : (s : Serving) (q : Queried) (old new : Option ℕ) (r : Response) (o : Option Asked) → o ≡ alias_of s.world.zone.mode (served_in s.world).zone q.asked → AnswersBy s q old new r o → AnswersQueried s q old new r

@@ -6,6 +6,7 @@ pub mod Listed
 pub mod MadeOf
 pub mod Messages
 pub mod Moments
+pub mod Parameters
 pub mod Requests
 pub mod Responding
 pub mod Subset

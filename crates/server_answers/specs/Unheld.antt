@@ -1,6 +1,7 @@
 -- What a server answers to questions for types of which no zone holds a record at a name that no alias answers for, and for NSEC.
 use Rattle.std.specs.Prelude.{◌≡◌, ◌≢◌, ◌⊎◌, MatchBool, ℕ, ◌<◌, Bool, true, false, not, ◌&&◌, ◌||◌, ◌==◌, List, [], ◌∷◌, length, Option, Result, Ok, Err, nat_lt, slice_index}
-use Rattle.definitions.specs.Name.{Name, same}
+use Rattle.definitions.specs.Name.{Name}
+use Rattle.definitions.specs.ZoneChain.{Mode}
 use Rattle.messages.specs.HandedRr.{HandedRr, among}
 use Rattle.messages.specs.Message.{Asked}
 use Rattle.answer_publisher.specs.Replacing.{noted}
@@ -14,14 +15,16 @@ use Rattle.server_signatures.specs.declared.answering.Signed.{Signed}
 use Rattle.server_signatures.specs.declared.answering.Signed.TheVariants.{Message, Missing}
 use Rattle.server_answers.specs.Glued.{AnswersGlued}
 use Rattle.server_answers.specs.MadeOf.{IsMadeOf}
+use Rattle.server_answers.specs.Parameters.{is_for_parameters}
 use Rattle.server_answers.specs.Responding.{IsFault, IsMessage, Serving, inputs_for, is_for_keys, rcode_of}
 use Rattle.server_answers.specs.declared.requests.Response.{Response}
 use Rattle.server_answers.specs.declared.requests.Response.TheVariants.{Nothing, Reply, Sign}
 
--- CNAME, DNAME and NSEC3; DNSKEY, but for the keys of the zone; NSEC3PARAM, but at the apex; and NSEC, whose record stands in the message
--- for a type that the zone does not hold
-abbrev pub is_unheld : Name → Asked → Bool
-is_unheld apex asked = among (5 ∷ 39 ∷ 47 ∷ 50 ∷ []) asked.rtype || ((asked.rtype == 48) && not (is_for_keys apex asked)) || ((asked.rtype == 51) && not (same asked.name apex))
+-- CNAME, DNAME and NSEC3; DNSKEY, but for the keys of the zone; NSEC3PARAM, but for the parameters of the zone, which one with a chain of
+-- names does not have; and NSEC, whose record stands in the message for a type that the zone does not hold
+abbrev pub is_unheld : Name → Mode → Asked → Bool
+is_unheld apex mode asked =
+    among (5 ∷ 39 ∷ 47 ∷ 50 ∷ []) asked.rtype || ((asked.rtype == 48) && not (is_for_keys apex asked)) || ((asked.rtype == 51) && not (is_for_parameters apex mode asked))
 
 -- the question for a reserved type in the place of another (RFC 6895, 3.1)
 abbrev pub reserved : Asked → Asked

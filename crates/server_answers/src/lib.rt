@@ -8,6 +8,7 @@ mod blank;
 mod listed;
 mod message;
 pub mod moment;
+mod parameters;
 pub mod requests;
 mod subset;
 mod unheld;

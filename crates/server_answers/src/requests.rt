@@ -15,6 +15,7 @@ ghost use Rattle.server_queries.specs.Views.{queried_of};
 use crate::aliased::answer_alias;
 use crate::message::message_for;
 use crate::moment::backdated;
+use crate::parameters::{answer_parameters, is_for_parameters};
 use crate::subset::answer_subset;
 use crate::unheld::{answer_unheld, is_unheld};
 use answer_publisher::fault::AnswerFault;
@@ -66,14 +67,15 @@ pub(crate) const REFUSED: u16 = 5;
 /// when its signatures begin, and the second that the publisher notes. A request that is no query
 /// is answered as [`read_query`] says. A CNAME or DNAME RRset answers for its names (RFC 1034,
 /// 4.3.2), the latter with the CNAME that it makes of a name (RFC 6672, 3.1); what these lead to is
-/// not sought. Else questions for CNAME, DNAME and NSEC3 records, and but at the apex for DNSKEY
-/// and NSEC3PARAM records, are answered as the zone answers for a type that it does not hold;
-/// questions for NSEC with the NSEC record of the name, or else in the same way; questions for ANY
-/// and RRSIG with one RRset of the name. Any other question that the publisher does not answer is
-/// REFUSED, and one for the NSEC record of a wildcard; SERVFAIL says that no message holds the
-/// answer, or that a name has no hash. Without DO nothing is signed, but for RRSIG. A referral has
-/// its glue among the addresses of the zone (RFC 9471). Where memory is refused, the second may
-/// have been noted.
+/// not sought. Else the apex answers for its DNSKEY RRset, and where the zone has a chain of hashes
+/// for its NSEC3PARAM RRset (RFC 5155, 4); elsewhere questions for these, and everywhere those for
+/// CNAME, DNAME and NSEC3 records, are answered as the zone answers for a type that it does not
+/// hold; questions for NSEC with the NSEC record of the name, or else in the same way; questions
+/// for ANY and RRSIG with one RRset of the name. Any other question that the publisher does not
+/// answer is REFUSED, and one for the NSEC record of a wildcard; SERVFAIL says that no message
+/// holds the answer, or that a name has no hash. Without DO nothing is signed, but for RRSIG. A
+/// referral has its glue among the addresses of the zone (RFC 9471). Where memory is refused, the
+/// second may have been noted.
 pub fn respond<S: Scheme, H: Nsec3Hasher>(
     alloc: Global,
     publisher: &mut Publisher<'_, S, H>,
@@ -141,8 +143,9 @@ fn answer_query<S: Scheme, H: Nsec3Hasher>(
     )
 }
 
-/// Answers a query for which no alias answers: by what the zone holds, by what it says of a type
-/// that it does not hold, or by one RRset where all are asked for.
+/// Answers a query for which no alias answers: by what the zone holds, the NSEC3PARAM RRset of its
+/// apex too, by what it says of a type that it does not hold, or by one RRset where all are asked
+/// for.
 fn answer_itself<S: Scheme, H: Nsec3Hasher>(
     alloc: Global,
     publisher: &mut Publisher<'_, S, H>,
@@ -164,7 +167,7 @@ fn answer_itself<S: Scheme, H: Nsec3Hasher>(
     ensures memory { OnErr result
         (IsOrWasNoted at.now publisher.old.latest publisher.new.latest) }
 {
-    if is_unheld(publisher.apex(), &question) {
+    if is_unheld(publisher.apex(), publisher.mode(), &question) {
         return answer_unheld(
             alloc, publisher, addresses, table, query, question, at, limit, udp_size,
         );
@@ -172,6 +175,11 @@ fn answer_itself<S: Scheme, H: Nsec3Hasher>(
     if asks_all(&question) {
         return answer_subset(
             alloc, publisher, addresses, table, query, question, at, limit, udp_size,
+        );
+    }
+    if is_for_parameters(publisher.apex(), publisher.mode(), &question) {
+        return answer_parameters(
+            alloc, publisher, addresses, table, query, at, limit, udp_size,
         );
     }
     answer_held(

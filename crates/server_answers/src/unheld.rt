@@ -1,6 +1,7 @@
 //! Questions for types of which no accepted zone holds a record, and for NSEC.
 ghost use Rattle.std.specs.Prelude.{◌≡◌, IfOk, OnErr, slice_index};
 ghost use Rattle.answer_publisher.specs.World.{world_of};
+ghost use Rattle.answer_shared.specs.ModeView.{mode_of};
 ghost use Rattle.messages.specs.Questions.{asked_of};
 ghost use Rattle.server_answers.specs.MadeOf.{ReadsWhole};
 ghost use Rattle.server_answers.specs.Moments.{IsOrWasNoted};
@@ -9,13 +10,15 @@ ghost use Rattle.server_answers.specs.Unheld.{AnswersUnheld, IsMadeUnheld, has_a
 ghost use Rattle.server_queries.specs.Views.{queried_of};
 
 use crate::message::{is_for_keys, message_for};
+use crate::parameters::is_for_parameters;
 use crate::requests::{REFUSED, Response, response_with};
 use answer_publisher::fault::AnswerFault;
 use answer_publisher::publishing::Publisher;
 use answer_scheme::Scheme;
+use answer_shared::mode::Mode;
 use denial_nsec3_hash::hasher::Nsec3Hasher;
 use keyset::UnixTime;
-use messages::names::{Name, ToName};
+use messages::names::Name;
 use messages::question::Question;
 use numbers::rtype::Rtype;
 use server_glue::Addresses;
@@ -28,16 +31,16 @@ use std::alloc::{AllocError, Global};
 pub(crate) const RESERVED: u16 = 65535;
 
 /// Whether a question is for a type of which an accepted zone holds no record at its name: CNAME,
-/// DNAME and NSEC3, DNSKEY but at the apex, and NSEC3PARAM but at the apex; or for NSEC, as what
-/// the zone says of a type that it does not hold has the NSEC record of the name. NSEC3 records are
-/// answered as if they were not there (RFC 5155, 7.2.8).
-pub(crate) fn is_unheld(apex: &Name<Vec<u8>>, question: &Question) -> bool
-    ensures { result ≡ is_unheld apex.now (asked_of question.now) }
+/// DNAME and NSEC3, DNSKEY but at the apex, and NSEC3PARAM but at the apex of a zone with a chain
+/// of hashes; or for NSEC, as what the zone says of a type that it does not hold has the NSEC
+/// record of the name. NSEC3 records are answered as if they were not there (RFC 5155, 7.2.8).
+pub(crate) fn is_unheld(apex: &Name<Vec<u8>>, mode: &Mode, question: &Question) -> bool
+    ensures { result ≡ is_unheld apex.now (mode_of mode.now) (asked_of question.now) }
 {
     match question.rtype.to_int() {
         5 | 39 | 47 | 50 => true,
         48 => !is_for_keys(apex, question),
-        51 => !question.name.name_eq(apex),
+        51 => !is_for_parameters(apex, mode, question),
         _ => false,
     }
 }

@@ -13,7 +13,7 @@ use Rattle.answer_shared.specs.GroupView.{GroupView, IsRrsigData, octets_of}
 use Rattle.answer_shared.specs.Hashing.{Hasher}
 use Rattle.answer_shared.specs.Served.{Group, Served}
 use Rattle.answer_shared.specs.Told.{AreSignatures, IsSignature, octets_for}
-use Rattle.answer_publisher.specs.Answering.{AnswersKeys, AnswersZone, RefusesAnswer, RefusesKeys}
+use Rattle.answer_publisher.specs.Answering.{AnswersApex, AnswersZone, RefusesAnswer, RefusesApex}
 use Rattle.answer_publisher.specs.Composed.{IsAnswer, IsSection, IsTooLong, IsWritten}
 use Rattle.answer_publisher.specs.declared.fault.AnswerFault.{AnswerFault}
 use Rattle.answer_publisher.specs.declared.fault.AnswerFault.TheVariants as fault
@@ -72,8 +72,8 @@ module _ (table : List Made) (sign : Dnskey → List ℕ → Option (List ℕ)) 
     written = answer_too apex at life keys _ asked is.answer is.authority m is.written;
   }
 
-  pub keys_too : (s : Served) (apex : Name) (at life : ℕ) (present keys : List Dnskey) (m : List ℕ) → AnswersKeys (sign_by table) (verify_by table) s apex at life present keys m → AnswersKeys sign verifies s apex at life present keys m
-  keys_too s apex at life present keys m is = record {
+  pub apex_too : (apex : Name) (at life : ℕ) (keys : List Dnskey) (of : Group) (m : List ℕ) → AnswersApex (sign_by table) (verify_by table) apex at life keys of m → AnswersApex sign verifies apex at life keys of m
+  apex_too apex at life keys of m is = record {
     group = is.group;
     presents = is.presents;
     written = answer_too apex at life keys 33792 _ (is.group ∷ []) [] m is.written;
@@ -125,10 +125,10 @@ module _ (table : List Made) (sign : Dnskey → List ℕ → Option (List ℕ)) 
   refusal_too hash s apex at life keys asked fault.TooLong other h = (h.0, h.1, long_too apex at life keys _ h.0 h.2)
   refusal_too hash s apex at life keys asked fault.Memory other h = h
 
-  pub keys_refusal_too : (s : Served) (apex : Name) (at life : ℕ) (present keys : List Dnskey) (f : AnswerFault) → f ≢ fault.SignFailed
-      → RefusesKeys (sign_by table) (verify_by table) s apex at life present keys f → RefusesKeys sign verifies s apex at life present keys f
-  keys_refusal_too s apex at life present keys fault.QuestionNotAllowed other h = (h.0, h.1, h.2)
-  keys_refusal_too s apex at life present keys fault.HashFailed other h = (h.0, h.1, h.2)
-  keys_refusal_too s apex at life present keys fault.SignFailed other h = absurd (other refl)
-  keys_refusal_too s apex at life present keys fault.TooLong other h = (h.0, h.1, long_too apex at life keys _ (h.0 ∷ []) h.2)
-  keys_refusal_too s apex at life present keys fault.Memory other h = h
+  pub apex_refusal_too : (apex : Name) (at life : ℕ) (keys : List Dnskey) (of : Group) (f : AnswerFault) → f ≢ fault.SignFailed
+      → RefusesApex (sign_by table) (verify_by table) apex at life keys of f → RefusesApex sign verifies apex at life keys of f
+  apex_refusal_too apex at life keys of fault.QuestionNotAllowed other h = (h.0, h.1, h.2)
+  apex_refusal_too apex at life keys of fault.HashFailed other h = (h.0, h.1, h.2)
+  apex_refusal_too apex at life keys of fault.SignFailed other h = absurd (other refl)
+  apex_refusal_too apex at life keys of fault.TooLong other h = (h.0, h.1, long_too apex at life keys _ (h.0 ∷ []) h.2)
+  apex_refusal_too apex at life keys of fault.Memory other h = h

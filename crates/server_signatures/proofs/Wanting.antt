@@ -1,23 +1,26 @@
 -- Where a table fails to sign, it lacks a signature of the answer.
 use Rattle.std.proofs.Common.{◌≡◌, ◌∙◌, ℕ, zero, suc, ◌<◌, Bool, true, false, cond, List, [], ◌∷◌, ◌++◌, ap, arith, get_or, is_none, length, length-append, refl, subst, sym}
-use Rattle.std.specs.Prelude.{if◌then◌else◌}
+use Rattle.std.specs.Prelude.{IsSome, IsSomeAnd, Option, Some, None, if◌then◌else◌}
+use Rattle.std.specs.Option.{option_map_or}
 use Rattle.std.proofs.lemmas.Bool.{false≢true}
 use Rattle.std.proofs.lemmas.List.Elements.{filter-append}
 use Rattle.definitions.specs.Name.{Name}
 use Rattle.definitions.specs.Dnskey.{Dnskey}
 use Rattle.messages.specs.Message.{Asked}
 use Rattle.answer_scheme.specs.Moments.{second_of}
-use Rattle.answer_shared.specs.GroupView.{FailsFor, GroupView, octets_of}
-use Rattle.answer_shared.specs.Served.{answer_groups, key_group, keys_ttl}
+use Rattle.answer_shared.specs.GroupView.{FailsFor, GroupView, octets_of, view_of}
+use Rattle.answer_shared.specs.Served.{Group, answer_groups, key_group, keys_ttl}
 use Rattle.answer_publisher_keys.specs.Bindings.{ZoneKeys, keys_by_tag}
 use Rattle.answer_publisher_keys.specs.declared.keys.Publication.TheVariants as publication
+use Rattle.answer_publisher.specs.Answering.{RefusesApex}
 use Rattle.answer_publisher.specs.Composed.{FailsToSign}
 use Rattle.answer_publisher.specs.Inputs.{Input, all_inputs, answer_inputs, input, inputs_by, inputs_of, keys_inputs}
+use Rattle.answer_publisher.specs.Parameters.{RefusesParameters, parameters_in}
 use Rattle.answer_publisher.specs.World.{RefusesKeysQuestion, RefusesQuestion, World, present_keys, served_in, signing_in}
 use Rattle.answer_publisher.specs.declared.fault.AnswerFault.{AnswerFault}
 use Rattle.answer_publisher.specs.declared.fault.AnswerFault.TheVariants as fault
 use Rattle.answer_publisher.proofs.WritesAnswer.{all_presented, presented}
-use Rattle.server_signatures.specs.Outcomes.{is_sign_failed, signed_by}
+use Rattle.server_signatures.specs.Outcomes.{LacksParameters, is_sign_failed, signed_by}
 use Rattle.server_signatures.specs.Table.{Made, is_missing, missing, sign_by, verify_by}
 
 -- a fault that is this one
@@ -85,10 +88,22 @@ module _ (table : List Made) where
       subst (λ (gs : List GroupView). 0 < length (missing table (all_inputs w.zone.apex (second_of at) w.life signers gs))) (all_presented h.0 (answer_groups (served_in w) asked.name asked.rtype) h.1)
       (some_missing w.zone.apex (second_of at) w.life signers h.0 h.2)
 
+  apex_wants : (apex : Name) (at life : ℕ) (signers : List Dnskey) (of : Group) (f : AnswerFault) → is_sign_failed f ≡ true → RefusesApex (sign_by table) (verify_by table) apex at life signers of f
+      → 0 < length (missing table (all_inputs apex at life signers (view_of of ∷ [])))
+  apex_wants apex at life signers of f failed refused =
+      let h = subst (λ (g : AnswerFault). RefusesApex (sign_by table) (verify_by table) apex at life signers of g) (is_failed f failed) refused in
+      subst (λ (g : GroupView). 0 < length (missing table (all_inputs apex at life signers (g ∷ [])))) (presented h.0 of h.1)
+      (some_missing apex at life signers (h.0 ∷ []) h.2)
+
   pub keys_want : (w : World) (keys : ZoneKeys) (at : ℕ) (f : AnswerFault) → is_sign_failed f ≡ true → RefusesKeysQuestion (signed_by w (sign_by table) (verify_by table)) keys at f
       → 0 < length (missing table (keys_inputs w keys at))
   keys_want w keys at f failed refused =
-      let signers = keys_by_tag keys publication.SignsKeys in
-      let h = subst (λ (g : AnswerFault). RefusesKeysQuestion (signed_by w (sign_by table) (verify_by table)) keys at g) (is_failed f failed) refused in
-      subst (λ (g : GroupView). 0 < length (missing table (all_inputs w.zone.apex (second_of at) w.life signers (g ∷ [])))) (presented h.0 (key_group w.zone.apex (keys_ttl (served_in w)) (present_keys keys)) h.1)
-      (some_missing w.zone.apex (second_of at) w.life signers (h.0 ∷ []) h.2)
+      apex_wants w.zone.apex (second_of at) w.life (keys_by_tag keys publication.SignsKeys) (key_group w.zone.apex (keys_ttl (served_in w)) (present_keys keys)) f failed refused
+
+  pub parameters_want : (w : World) (keys : ZoneKeys) (at : ℕ) (f : AnswerFault) → is_sign_failed f ≡ true → RefusesParameters (signed_by w (sign_by table) (verify_by table)) keys at f → LacksParameters table w keys at
+  parameters_want w keys at f failed refused = lacks (parameters_in w) refused
+    where
+      lacks : (o : Option Group) → IsSomeAnd o (λ of. RefusesApex (sign_by table) (verify_by table) w.zone.apex (second_of at) w.life (keys_by_tag keys publication.SignsZone) of f)
+          → IsSome o × (0 < length (missing table (option_map_or (λ g. all_inputs w.zone.apex (second_of at) w.life (keys_by_tag keys publication.SignsZone) (view_of g ∷ [])) o [])))
+      lacks None h = absurd h
+      lacks (Some of) h = (refl, apex_wants w.zone.apex (second_of at) w.life (keys_by_tag keys publication.SignsZone) of f failed h)

@@ -1,9 +1,10 @@
 -- What comes of an answer that is signed by a table.
-use Rattle.std.specs.Prelude.{◌≡◌, ◌≢◌, ℕ, ◌<◌, Bool, true, false, List, length, Option, Result, Ok, Err}
+use Rattle.std.specs.Prelude.{◌≡◌, ◌≢◌, ℕ, ◌<◌, Bool, true, false, List, length, Option, Some, Result, Ok, Err, IsSome}
 use Rattle.definitions.specs.Dnskey.{Dnskey}
 use Rattle.messages.specs.Message.{Asked}
 use Rattle.answer_publisher_keys.specs.Bindings.{ZoneKeys}
 use Rattle.answer_publisher.specs.Inputs.{Input}
+use Rattle.answer_publisher.specs.Parameters.{AnswersParameters, OfBoth, RefusesParameters, SpellsParameters, parameters_in, parameters_inputs}
 use Rattle.answer_publisher.specs.Replacing.{noted}
 use Rattle.answer_publisher.specs.World.{AnswersKeysQuestion, AnswersQuestion, HashesNames, RefusesKeysQuestion, RefusesQuestion, SpellsAnswer, SpellsKeys, World, world}
 use Rattle.answer_publisher.specs.declared.fault.AnswerFault.{AnswerFault}
@@ -37,6 +38,13 @@ AnswersKeysEach table w keys at m = EachSigning table w (λ v. AnswersKeysQuesti
 abbrev pub RefusesKeysEach : List Made → World → ZoneKeys → ℕ → AnswerFault → Type 0
 RefusesKeysEach table w keys at f = (f ≢ SignFailed) × EachSigning table w (λ v. RefusesKeysQuestion v keys at f)
 
+-- the same of the NSEC3PARAM answer
+abbrev pub AnswersParametersEach : List Made → World → ZoneKeys → ℕ → List ℕ → Type 0
+AnswersParametersEach table w keys at m = EachSigning table w (λ v. AnswersParameters v keys at (Some m) × SpellsParameters v keys at (Some m))
+
+abbrev pub RefusesParametersEach : List Made → World → ZoneKeys → ℕ → AnswerFault → Type 0
+RefusesParametersEach table w keys at f = (f ≢ SignFailed) × EachSigning table w (λ v. RefusesParameters v keys at f)
+
 abbrev pub is_sign_failed : AnswerFault → Bool
 is_sign_failed SignFailed = true
 is_sign_failed _ = false
@@ -45,6 +53,14 @@ is_sign_failed _ = false
 abbrev pub IsSigned : List Made → (List ℕ → Type 0) → List Input → Signed → Type 0
 IsSigned table Is inputs (Message m) = Is m.items
 IsSigned table Is inputs (Missing v) = (v.items ≡ missing table inputs) × (0 < length v.items)
+
+-- the same of the NSEC3PARAM answer; a zone with a chain of names has none
+abbrev pub SignsParameters : List Made → World → ZoneKeys → ℕ → Option Signed → Type 0
+SignsParameters table w keys at o = OfBoth (λ g x. IsSigned table (AnswersParametersEach table w keys at) (parameters_inputs w keys at) x) (parameters_in w) o
+
+-- the zone has an NSEC3PARAM RRset, and the table lacks a signature of it
+abbrev pub LacksParameters : List Made → World → ZoneKeys → ℕ → Type 0
+LacksParameters table w keys at = IsSome (parameters_in w) × (0 < length (missing table (parameters_inputs w keys at)))
 
 -- the greatest second of an answer: a message is noted, and nothing else
 abbrev pub latest_after : Result Signed AnswerFault → Option ℕ → ℕ → Option ℕ

@@ -4,7 +4,7 @@ ghost use Rattle.answer_publisher.specs.Aliases.{is_answered};
 ghost use Rattle.answer_publisher.specs.Inputs.{answer_inputs, keys_inputs};
 ghost use Rattle.answer_publisher.specs.World.{world_of};
 ghost use Rattle.messages.specs.Questions.{asked_of};
-ghost use Rattle.server_signatures.specs.Outcomes.{AnswersEach, AnswersKeysEach, IsSigned, RefusesEach, RefusesKeysEach, is_sign_failed, latest_after};
+ghost use Rattle.server_signatures.specs.Outcomes.{AnswersEach, AnswersKeysEach, IsSigned, LacksParameters, RefusesEach, RefusesKeysEach, RefusesParametersEach, SignsParameters, is_sign_failed, latest_after};
 ghost use Rattle.server_signatures.specs.Table.{missing};
 
 use crate::made::MadeSignature;
@@ -136,6 +136,54 @@ fn missing_keys_for<S: Scheme, H: Nsec3Hasher>(
 {
     match publisher.dnskey_signing_inputs(now) {
         Ok(inputs) => Ok(Signed::Missing(missing(table, inputs))),
+        Err(_) => Err(AnswerFault::Memory),
+    }
+}
+
+/// Gives the NSEC3PARAM answer as [`Publisher::nsec3param_answer`] does, signed by a table as
+/// [`answer_by_table`] signs. A zone with a chain of names has none.
+pub fn nsec3param_answer_by_table<S: Scheme, H: Nsec3Hasher>(
+    publisher: &Publisher<'_, S, H>,
+    table: &[MadeSignature<'_>],
+    now: &UnixTime,
+) -> Result<Option<Signed>, AnswerFault>
+    ensures signed { let p = publisher.now in
+        let w = world_of S.signature_of S.verifies S.digest_of H.hash_of p in
+        IfOk result (SignsParameters table.now w p.keys now.now) }
+    ensures fault { let p = publisher.now in
+        let w = world_of S.signature_of S.verifies S.digest_of H.hash_of p in
+        IfErr result (RefusesParametersEach table.now w p.keys now.now) }
+{
+    match publisher.nsec3param_answer_with(&TableScheme { table }, now) {
+        Ok(Some(message)) => Ok(Some(Signed::Message(message))),
+        Ok(None) => Ok(None),
+        Err(fault) => {
+            if is_sign_failed(fault) {
+                return missing_parameters_for(publisher, table, now);
+            }
+            Err(fault)
+        }
+    }
+}
+
+/// What a table lacks for the NSEC3PARAM answer, where it lacks something.
+fn missing_parameters_for<S: Scheme, H: Nsec3Hasher>(
+    publisher: &Publisher<'_, S, H>,
+    table: &[MadeSignature<'_>],
+    now: &UnixTime,
+) -> Result<Option<Signed>, AnswerFault>
+    requires { let p = publisher.now in
+        let w = world_of S.signature_of S.verifies S.digest_of H.hash_of p in
+        LacksParameters table.now w p.keys now.now }
+    ensures signed { let p = publisher.now in
+        let w = world_of S.signature_of S.verifies S.digest_of H.hash_of p in
+        IfOk result (SignsParameters table.now w p.keys now.now) }
+    ensures fault { let p = publisher.now in
+        let w = world_of S.signature_of S.verifies S.digest_of H.hash_of p in
+        IfErr result (RefusesParametersEach table.now w p.keys now.now) }
+{
+    match publisher.nsec3param_signing_inputs(now) {
+        Ok(inputs) => Ok(Some(Signed::Missing(missing(table, inputs)))),
         Err(_) => Err(AnswerFault::Memory),
     }
 }

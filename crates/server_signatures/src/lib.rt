@@ -8,7 +8,9 @@ pub mod made;
 mod missing;
 mod table;
 
-pub use crate::answering::{Signed, answer_by_table, dnskey_answer_by_table};
+pub use crate::answering::{
+    Signed, answer_by_table, dnskey_answer_by_table, nsec3param_answer_by_table,
+};
 pub use crate::digests::DigestScheme;
 pub use crate::made::MadeSignature;
 pub use answer_publisher::signing::SigningInput;

@@ -1,9 +1,8 @@
 //! What the lines so far made: the records of a zone, and its publisher.
 
-use crate::words::{moment, name_of, name_server, record, soa, transport};
+use crate::words::{mode_of, moment, name_of, name_server, record, soa, transport};
 use answer_publisher::publishing::Publisher;
 use answer_shared::dnskey::ZoneKey;
-use answer_shared::mode::Mode;
 use denial_nsec3_sha1::hasher::Sha1Hasher;
 use keyset::{Available, UnixTime};
 use messages::record::ZoneRecord;
@@ -21,6 +20,9 @@ type TestPublisher = Publisher<'static, DigestScheme, Sha1Hasher>;
 
 /// How many octets the server takes by UDP.
 const UDP_SIZE: u16 = 1232;
+
+/// The most iterations that a chain of hashes has.
+const MOST_ITERATIONS: u16 = 100;
 
 /// The zone that is published, and its addresses.
 #[derive(Drop)]
@@ -60,9 +62,7 @@ impl Desk {
 
     /// Publishes the zone.
     pub fn publish(&mut self, alloc: Global, words: &[&str]) -> Option<String> {
-        let [life] = words else {
-            return None;
-        };
+        let (life, chain) = words.split_first()?;
         let life = life.parse::<u32>().ok()?;
         if life > 0x7fff_ffff {
             return None;
@@ -71,8 +71,9 @@ impl Desk {
         let apex = name_of(alloc, "example")?;
         let addresses = Addresses::of(alloc, &records).ok()?;
         let (scheme, hasher) = (&DigestScheme, &Sha1Hasher);
-        let mode = Mode::Nsec;
-        match Publisher::with_aliases(alloc, apex, records, mode, scheme, hasher, 0, life) {
+        let mode = mode_of(alloc, chain)?;
+        let limit = MOST_ITERATIONS;
+        match Publisher::with_aliases(alloc, apex, records, mode, scheme, hasher, limit, life) {
             Ok(publisher) => {
                 self.served = Some(Served {
                     publisher,

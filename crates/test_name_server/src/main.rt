@@ -7,7 +7,8 @@
 //!
 //! - `soa OWNER SERIAL`, `ns OWNER TTL NAME`, `rr OWNER TTL TYPE OCTETS`: records of the zone
 //!   `example`, of class IN; `publish LIFE`: publishes them with a chain of names, signatures
-//!   living so many seconds.
+//!   living so many seconds; `publish LIFE ITERATIONS SALT`: with a chain of hashes, with opt-out
+//!   where `opt-out` stands behind the salt.
 //! - `key OCTETS`: adds a key of algorithm 13 that signs keys and zone.
 //! - `ask TRANSPORT BACKDATE SECONDS OCTETS`: asks the server at a time of its clock, of which
 //!   answers are so many seconds behind. Printed are the number of signatures that it asks for, and

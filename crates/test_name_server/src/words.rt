@@ -1,5 +1,7 @@
 //! Words of a line.
 
+use answer_shared::mode::Mode;
+use denial_fields::salt::Nsec3Salt;
 use keyset::UnixTime;
 use messages::names::Name;
 use messages::record::ZoneRecord;
@@ -26,6 +28,25 @@ pub fn name_of(alloc: Global, text: &str) -> Option<Name<Vec<u8>>> {
 pub fn moment(word: &str) -> Option<UnixTime> {
     let seconds = word.parse::<u64>().ok()?;
     Some(UnixTime::new(Duration::from_secs(seconds)))
+}
+
+/// A chain of names, or one of hashes with iterations, a salt and perhaps opt-out.
+pub fn mode_of(alloc: Global, words: &[&str]) -> Option<Mode> {
+    match words {
+        [] => Some(Mode::Nsec),
+        [iterations, salt] => hashed(alloc, iterations, salt, false),
+        [iterations, salt, "opt-out"] => hashed(alloc, iterations, salt, true),
+        _ => None,
+    }
+}
+
+/// A chain of hashes.
+fn hashed(alloc: Global, iterations: &str, salt: &str, opt_out: bool) -> Option<Mode> {
+    Some(Mode::Nsec3 {
+        iterations: iterations.parse::<u16>().ok()?,
+        salt: Nsec3Salt::from_octets(octets_of(alloc, salt)?).ok()?,
+        opt_out,
+    })
 }
 
 /// What carries a response: `tcp`, or the limit of a datagram.
