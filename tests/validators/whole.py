@@ -9,7 +9,7 @@ from bench import STATES
 from bind import ask, line
 from keys import POINT
 from served import dotted
-from wire import A, DNSKEY, DS, NSEC, NSEC3, NSEC3PARAM, RRSIG, SRV, Record
+from wire import A, DNSKEY, DS, NSEC, NSEC3, NSEC3PARAM, RRSIG, SRV
 
 
 def questions(zone):
@@ -22,31 +22,17 @@ def questions(zone):
 
 
 def records(source, stage):
-    """All records of the answers of a server at a stage."""
+    """All records of the answers of a server at a stage. The NSEC3PARAM record tells dnssec-verify of a chain of hashes."""
     asked = [(source.zone.owner(name, source.apex), rtype) for name, rtype in questions(source.zone)]
     address = source.workshop.address()
     _ds, server = source.live({stage}, {stage: address})[stage]
     server.start()
     found = {}
-    for question in ((source.apex, DNSKEY), *asked):
+    for question in ((source.apex, DNSKEY), (source.apex, NSEC3PARAM), *asked):
         for section in ask(*question, (dotted(address), 53)).sections:
             found.update(((it.owner.lower(), it.rtype, it.data), it) for it in section if it.rtype != wire.OPT)
     server.remove()
     return [it._replace(owner=it.owner.lower()) for it in found.values()]
-
-
-def parameters(source, of_zone):
-    """The NSEC3PARAM record of a zone, which no question shows, signed as its SOA record is."""
-    shape = source.zone.shape
-    salt = b"" if shape.salt == "-" else bytes.fromhex(shape.salt)
-    data = bytes([1, 0]) + shape.iterations.to_bytes(2, "big") + bytes([len(salt)]) + salt
-    yield Record(source.apex, NSEC3PARAM, source.zone.ttl, data)
-    for record in of_zone:
-        if record.rtype == RRSIG and record.data[:2] == wire.SOA.to_bytes(2, "big"):
-            fields = NSEC3PARAM.to_bytes(2, "big") + record.data[2 : wire.read_name(record.data, 18)[1]]
-            key = source.ring.keys.by_tag()[int.from_bytes(fields[16:18], "big")]
-            octets = wire.signed_octets(fields, source.apex, NSEC3PARAM, [data])
-            yield record._replace(data=fields + key.sign(octets))
 
 
 def is_combined(source, of_zone):
@@ -62,10 +48,7 @@ def said(words):
 
 def whole(source, stage):
     """All records of a zone at a stage, the SOA record first."""
-    found = records(source, stage)
-    if any(it.rtype == NSEC3 for it in found):
-        found += parameters(source, found)
-    return sorted(found, key=lambda it: it.rtype != wire.SOA)
+    return sorted(records(source, stage), key=lambda it: it.rtype != wire.SOA)
 
 
 def broken(of_zone):

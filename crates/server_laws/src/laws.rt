@@ -15,10 +15,10 @@ pub fn responses_are_judged_alike()
 {}
 
 /// A response to a question for a type that the zone does not hold at the name (CNAME, DNAME,
-/// NSEC3; but at the apex DNSKEY and NSEC3PARAM), or for NSEC, is made of the message for a
-/// reserved type: of such a response, whole and with records of DNSSEC, a judge that takes an
-/// answer to another question says what it says of that message. The law does not cover a response
-/// that has the NSEC record that is asked for, and so no SOA record.
+/// NSEC3; but at the apex DNSKEY; but at the apex of a chain of hashes NSEC3PARAM), or for NSEC, is
+/// made of the message for a reserved type: of such a response, whole and with records of DNSSEC, a
+/// judge that takes an answer to another question says what it says of that message. The law does
+/// not cover a response that has the NSEC record that is asked for, and so no SOA record.
 pub fn denials_are_judged_alike()
     ensures { DenialsJudgedAlike }
 {}
