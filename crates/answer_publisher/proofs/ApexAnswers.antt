@@ -1,6 +1,6 @@
 -- Answers of one RRset of the apex.
-use Rattle.std.proofs.Common.{◌≡◌, ℕ, Bool, List, [], ◌∷◌, Option, Some, None, refl, subst}
-use Rattle.std.specs.Prelude.{IsSomeAnd}
+use Rattle.std.proofs.Common.{◌≡◌, ℕ, Bool, List, [], ◌∷◌, Option, Some, None, refl, subst, sym}
+use Rattle.std.specs.Prelude.{IsSome, IsSomeAnd}
 use Rattle.std.specs.Option.{option_map_or}
 use Rattle.definitions.specs.Limits.{pointer_limit}
 use Rattle.definitions.specs.Name.{Name, low}
@@ -66,3 +66,14 @@ module _ (apex : Name) (at life : ℕ) (keys : List Dnskey) where
   pub over_none : (o : Option Group) → OfBoth (λ (of : Group) (v : GroupView). Presents v of) o None → [] ≡ option_map_or (λ of. all_inputs apex at life keys (view_of of ∷ [])) o []
   over_none None h = refl
   over_none (Some of) h = absurd h
+
+-- of a chain, whichever it is seen to be
+pub of_names : (apex : Name) (ttl : ℕ) (mode : Mode) → mode ≡ Nsec → OfBoth (λ (of : Group) (v : GroupView). Presents v of) (parameters_of_chain apex ttl mode) None
+of_names apex ttl mode e = subst (λ (m : Mode). OfBoth (λ (of : Group) (v : GroupView). Presents v of) (parameters_of_chain apex ttl m) None) (sym e) tt
+
+pub of_hashes : (apex : Name) (ttl : ℕ) (mode : Mode) (iterations : ℕ) (salt : List ℕ) (optout : Bool) (g : GroupView) → mode ≡ Nsec3 iterations salt optout → Presents g (parameters_group apex ttl iterations salt)
+    → OfBoth (λ (of : Group) (v : GroupView). Presents v of) (parameters_of_chain apex ttl mode) (Some g)
+of_hashes apex ttl mode iterations salt optout g e p = subst (λ (m : Mode). OfBoth (λ (of : Group) (v : GroupView). Presents v of) (parameters_of_chain apex ttl m) (Some g)) (sym e) p
+
+pub there_of_hashes : (apex : Name) (ttl : ℕ) (mode : Mode) (iterations : ℕ) (salt : List ℕ) (optout : Bool) → mode ≡ Nsec3 iterations salt optout → IsSome (parameters_of_chain apex ttl mode)
+there_of_hashes apex ttl mode iterations salt optout e = subst (λ (m : Mode). IsSome (parameters_of_chain apex ttl m)) (sym e) refl
