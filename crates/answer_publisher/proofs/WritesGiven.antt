@@ -1,7 +1,7 @@
 -- What a publisher writes gives the RRsets of its zone and keys.
 use Rattle.std.proofs.Common.{◌≡◌, ℕ, Bool, false, List, [], ◌∷◌, ◌++◌, Option, subst, lit<}
 use Rattle.std.specs.List.{AllByRecursion, AllZip}
-use Rattle.definitions.specs.Name.{IsName}
+use Rattle.definitions.specs.Name.{IsName, Name}
 use Rattle.definitions.specs.Dnskey.{Dnskey}
 use Rattle.definitions.specs.Limits.{pointer_limit}
 use Rattle.answer_publisher.specs.Answering.{AnswersApex, AnswersKeys, apex_question}
