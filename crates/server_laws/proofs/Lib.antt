@@ -1,3 +1,4 @@
+pub mod Lists
 pub mod Nowhere
 pub mod Framed
 pub mod Alone

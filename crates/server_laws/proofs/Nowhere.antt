@@ -1,16 +1,17 @@
 -- A type of which a zone holds no record is answered as any other such type.
-use Rattle.std.proofs.Common.{◌≡◌, ℕ, Bool, true, false, ◌&&◌, ◌||◌, List, [], ◌∷◌, ◌++◌, map, Option, Some, None, cond, eqb, refl, sym, ap, ◌∙◌}
+use Rattle.std.proofs.Common.{◌≡◌, ℕ, Bool, true, false, not, ◌&&◌, ◌||◌, List, [], ◌∷◌, ◌++◌, map, Option, Some, None, cond, eqb, refl, sym, ap, ◌∙◌, ⊎_elim}
 use Rattle.std.specs.List.{AllByRecursion, list_any}
-use Rattle.std.proofs.lemmas.Bool.{eqb-true, or_parts, true≢false}
+use Rattle.std.proofs.lemmas.Bool.{and_parts, eqb-true, or_cases, or_left, or_right, true≢false}
 use Rattle.definitions.specs.Name.{Name, labels_eq, low}
 use Rattle.definitions.specs.Zone.{Delegated, NoName, NoType, Open, Records, StarNoType, StarRecords, Unsigned, Verdict, Zone, at_existing, ce, cut, data_at, exists, is_of, is_open, star_under, verdict}
-use Rattle.definitions.specs.ZoneChain.{optout_of}
+use Rattle.definitions.specs.ZoneChain.{Mode, optout_of}
+use Rattle.denial_laws.specs.Aliases.{is_alias_type}
 use Rattle.messages.specs.HandedRr.{HandedRr, among}
-use Rattle.messages.proofs.Lists.{all_fail, all_sorted}
-use Rattle.answer_shared.specs.Accepting.{is_added_by_signing, is_alias, record_cmp, rr_of, sorted_records}
+use Rattle.messages.proofs.Lists.{all_fail, all_more, all_sorted, eqb-back}
+use Rattle.answer_shared.specs.Accepting.{record_cmp, rr_of, sorted_records}
 use Rattle.answer_shared.specs.Served.{Group, Served, ahead, ahead_open, answer_groups, proofs_of, served_of, soa, spoken, unsigned_ns}
-use Rattle.answer_shared.proofs.ZoneFaultless.{no_fault_from}
-use Rattle.server_laws.specs.Unheld.{AbsentAnsweredAlike, IsNowhere, UnheldAnsweredAlike}
+use Rattle.server_laws.specs.Unheld.{AbsentAnsweredAlike, IsNowhere, UnheldAnsweredAlike, UnheldAnsweredAlikeWithAliases, holds_none}
+use Rattle.server_laws.proofs.Lists.{nothing}
 
 -- verdicts that tell no data
 abbrev NoData : Verdict → Type 0
@@ -22,10 +23,6 @@ NoData StarNoType = Unit {0}
 NoData Delegated = Unit {0}
 NoData Open = Unit {0}
 NoData Unsigned = Unit {0}
-
-nothing : (b : Bool) → (b && false) ≡ false
-nothing true = refl
-nothing false = refl
 
 module _ (s : Served) (q : Name) where
   abbrev z : Zone
@@ -130,21 +127,6 @@ nowhere o t (r ∷ rs) h =
     (λ i. (labels_eq (low r.owner) o && h.0 i) || nowhere o t rs h.1 i)
     ∙ ap (λ b. b || false) (nothing (labels_eq (low r.owner) o))
 
-abbrev unheld : ℕ → Bool
-unheld t = among (5 ∷ 39 ∷ 48 ∷ 50 ∷ 51 ∷ []) t
-
-not_unheld : (r : HandedRr) → is_added_by_signing r ≡ false → is_alias r ≡ false → unheld r.rtype ≡ false
-not_unheld r signed alias =
-    let t = r.rtype in
-    let a46 = or_parts (eqb t 46) _ signed in
-    let a47 = or_parts (eqb t 47) _ a46.1 in
-    let a48 = or_parts (eqb t 48) _ a47.1 in
-    let a50 = or_parts (eqb t 50) _ a48.1 in
-    let a51 = or_parts (eqb t 51) false a50.1 in
-    let a5 = or_parts (eqb t 5) _ alias in
-    let a39 = or_parts (eqb t 39) false a5.1 in
-    λ i. a5.0 i || (a39.0 i || (a48.0 i || (a50.0 i || (a51.0 i || false))))
-
 -- a type that passes a test, and one that does not
 apart : (p : ℕ → Bool) (t u : ℕ) → p t ≡ true → p u ≡ false → eqb u t ≡ false
 apart p t u passes fails = go (eqb u t) refl
@@ -153,20 +135,56 @@ apart p t u passes fails = go (eqb u t) refl
     go true e = absurd (true≢false (sym passes ∙ ap p (sym (eqb-true u t e)) ∙ fails))
     go false e = refl
 
-none_unheld : (t : ℕ) (rs : List HandedRr) → unheld t ≡ true → AllByRecursion (λ (r : HandedRr). is_added_by_signing r ≡ false) rs → AllByRecursion (λ (r : HandedRr). is_alias r ≡ false) rs → AllByRecursion (λ (r : HandedRr). eqb r.rtype t ≡ false) rs
-none_unheld t [] is signed alias = tt
-none_unheld t (r ∷ rs) is signed alias = (apart unheld t r.rtype is (not_unheld r signed.0 alias.0), none_unheld t rs is signed.1 alias.1)
+-- where no record passes a test of its type, none is of a type that does
+none_passes : (p : ℕ → Bool) (t : ℕ) (rs : List HandedRr) → p t ≡ true → list_any (λ (r : HandedRr). p r.rtype) rs ≡ false → AllByRecursion (λ (r : HandedRr). eqb r.rtype t ≡ false) rs
+none_passes p t rs is none = all_more (λ (r : HandedRr). p r.rtype ≡ false) (λ (r : HandedRr). eqb r.rtype t ≡ false) rs (λ r fails. apart p t r.rtype is fails) (all_fail (λ (r : HandedRr). p r.rtype) rs none)
 
-ds_apart : (t : ℕ) → unheld t ≡ true → eqb t 43 ≡ false
-ds_apart t is = go (eqb t 43) refl
-  where
-    go : (b : Bool) → eqb t 43 ≡ b → b ≡ false
-    go true e = absurd (true≢false (sym is ∙ ap unheld (eqb-true t 43 e)))
-    go false e = refl
+not_held : (b : Bool) → not b ≡ true → b ≡ false
+not_held true e = sym e
+not_held false e = refl
+
+module _ (apex : Name) (mode : Mode) (rs : List HandedRr) (hash : Name → List ℕ) (q : Name) (t : ℕ) where
+  -- a type of which the records have none, beside the reserved one
+  unheld_by : eqb t 43 ≡ false → AllByRecursion (λ (r : HandedRr). eqb r.rtype t ≡ false) rs → list_any (λ (r : HandedRr). eqb r.rtype 65535) rs ≡ false
+      → answer_groups (served_of apex mode hash (sorted_records rs)) q t ≡ answer_groups (served_of apex mode hash (sorted_records rs)) q 65535
+  unheld_by other none reserved =
+      let no_more = all_sorted (λ (r : HandedRr). eqb r.rtype 65535 ≡ false) record_cmp rs (all_fail (λ (r : HandedRr). eqb r.rtype 65535) rs reserved) in
+      absent_alike (served_of apex mode hash (sorted_records rs)) q t 65535 other refl
+      (λ o. nowhere o t (sorted_records rs) (all_sorted (λ (r : HandedRr). eqb r.rtype t ≡ false) record_cmp rs none)) (λ o. nowhere o 65535 (sorted_records rs) no_more)
+
+  -- of a test that none of them passes
+  unheld_type : (p : ℕ → Bool) → p 43 ≡ false → p t ≡ true → list_any (λ (r : HandedRr). p r.rtype) rs ≡ false → list_any (λ (r : HandedRr). eqb r.rtype 65535) rs ≡ false
+      → answer_groups (served_of apex mode hash (sorted_records rs)) q t ≡ answer_groups (served_of apex mode hash (sorted_records rs)) q 65535
+  unheld_type p ds is none reserved = unheld_by (eqb-back t 43 ∙ apart p t 43 is ds) (none_passes p t rs is none) reserved
+
+-- types whose records signing adds, and those of aliases
+abbrev signing : ℕ → Bool
+signing = among (46 ∷ 47 ∷ 48 ∷ 50 ∷ 51 ∷ [])
+
+abbrev of_alias : ℕ → Bool
+of_alias = among (5 ∷ 39 ∷ [])
+
+is_signing : (t : ℕ) → among (48 ∷ 50 ∷ 51 ∷ []) t ≡ true → signing t ≡ true
+is_signing t e = or_right (eqb t 46) _ (or_right (eqb t 47) _ e)
 
 pub unheld_alike : UnheldAnsweredAlike
 unheld_alike hasher apex mode limit rs hash q t accepted reserved is =
-    let clean = no_fault_from apex mode limit rs accepted.faultless in
-    let none = none_unheld t (sorted_records rs) is clean.unsigned clean.no_alias in
-    let no_more = all_sorted (λ (r : HandedRr). eqb r.rtype 65535 ≡ false) record_cmp rs (all_fail (λ (r : HandedRr). eqb r.rtype 65535) rs reserved) in
-    absent_alike (served_of apex mode hash (sorted_records rs)) q t 65535 (ds_apart t is) refl (λ o. nowhere o t (sorted_records rs) none) (λ o. nowhere o 65535 (sorted_records rs) no_more)
+    let by_alias : of_alias t ≡ true → answer_groups (served_of apex mode hash (sorted_records rs)) q t ≡ answer_groups (served_of apex mode hash (sorted_records rs)) q 65535 =
+    λ alias. unheld_type apex mode rs hash q t of_alias refl alias accepted.faultless.no_alias reserved in
+    ⊎_elim
+    (λ five. by_alias (or_left (eqb t 5) _ five))
+    (λ later. ⊎_elim
+    (λ dname. by_alias (or_right (eqb t 5) _ (or_left (eqb t 39) _ dname)))
+    (λ added. unheld_type apex mode rs hash q t signing refl (is_signing t added) accepted.faultless.unsigned reserved)
+    (or_cases (eqb t 39) _ later))
+    (or_cases (eqb t 5) _ is)
+
+pub unheld_alike_with_aliases : UnheldAnsweredAlikeWithAliases
+unheld_alike_with_aliases hasher apex mode limit rs hash q t accepted reserved is =
+    let kept = not_held (list_any (λ (r : HandedRr). eqb r.rtype 65535) rs) reserved in
+    ⊎_elim
+    (λ added. unheld_type apex mode rs hash q t signing refl (is_signing t added) accepted.faultless.plain.unsigned kept)
+    (λ alias.
+    let both = and_parts (is_alias_type t) (holds_none rs t) alias in
+    unheld_by apex mode rs hash q t (eqb-back t 43 ∙ apart is_alias_type t 43 both.0 refl) (all_fail (λ (r : HandedRr). eqb r.rtype t) rs (not_held _ both.1)) kept)
+    (or_cases (among (48 ∷ 50 ∷ 51 ∷ []) t) _ is)

@@ -2,6 +2,7 @@
 ghost use Rattle.server_laws.specs.Aliased.{AliasesAreAnswered, AllowedAreAliased};
 ghost use Rattle.server_laws.specs.Heard.{AliasesJudgedAlike, ClientsAreTold, DenialsJudgedAlike, ResponsesJudgedAlike, SubsetsJudgedAlike};
 ghost use Rattle.server_laws.specs.Unheld.{AbsentAnsweredAlike, UnheldAnsweredAlike};
+ghost use Rattle.server_laws.specs.Unheld.{UnheldAnsweredAlikeWithAliases};
 
 /// A judge says of a whole response to a query that wants records of DNSSEC what it says of the
 /// message of the zone's publisher that the response was made of, whether the response stands in
@@ -54,9 +55,11 @@ pub fn clients_are_told_the_verdict()
 {}
 
 /// A zone answers alike for all types of which it holds no record, but DS, which is the parent's at
-/// a delegation: so what it answers for a reserved type is its answer for CNAME, DNAME, DNSKEY,
-/// NSEC3 and NSEC3PARAM, of which an accepted zone holds none.
+/// a delegation: so what it answers for a reserved type is its answer for DNSKEY, NSEC3 and
+/// NSEC3PARAM, of which no accepted zone holds any, and for CNAME and DNAME, where it holds none of
+/// that type: so has each zone without aliases none of these five.
 pub fn unheld_types_are_answered_alike()
     ensures absent { AbsentAnsweredAlike }
     ensures unheld { UnheldAnsweredAlike }
+    ensures aliases { UnheldAnsweredAlikeWithAliases }
 {}
