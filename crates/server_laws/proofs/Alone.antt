@@ -1,5 +1,5 @@
 -- Records whose data say the same wherever they stand, and such records in two messages.
-use Rattle.std.proofs.Common.{◌≡◌, ℕ, ◌+◌, ◌<◌, ◌≤◌, Bool, true, false, ◌&&◌, ◌||◌, List, [], ◌∷◌, ◌++◌, length, map, Option, Some, None, eqb, refl, sym, subst, ap, ◌∙◌, length-append, arith, lit<}
+use Rattle.std.proofs.Common.{◌≡◌, ◌⊎◌, ℕ, ◌+◌, ◌<◌, ◌≤◌, Bool, true, false, ◌&&◌, ◌||◌, List, [], ◌∷◌, ◌++◌, length, map, Option, Some, None, eqb, inl, inr, refl, sym, subst, ap, ◌∙◌, ⊎_elim, length-append, arith, lit<}
 use Rattle.std.specs.Prelude.{if◌then◌else◌}
 use Rattle.std.specs.List.{AllByRecursion, AllZip, flat_map, list_any}
 use Rattle.std.proofs.Math.Nat.{mod-lt}
@@ -22,6 +22,7 @@ use Rattle.server_answers.specs.Composed.{IsWritten, joined, rrsig_of}
 use Rattle.server_answers.proofs.WritesData.{reads_plain}
 use Rattle.server_answers.proofs.WritesGroups.{IsFormed}
 use Rattle.server_answers.proofs.WritesRecords.{ReadsAs, ReadsRecord, first_stands, rest_stands}
+use Rattle.server_laws.proofs.Lists.{all_joined}
 
 -- data of a signature that read as one wherever they stand in a message that is not too long
 abbrev pub ReadsSignature : List ℕ → Fields × List ℕ → Type 0
@@ -64,6 +65,17 @@ own_alone g (w ∷ ws) (d ∷ ds) none h = (
   own_alone g ws ds none h.1,
 )
 
+-- a record of an RRset, or a signature of it
+pub record IsOf (g : Group) (w : Written) : Type 0 where
+  pub owner_is : low w.owner ≡ low g.owner
+  pub covers : (w.rtype ≡ g.rtype) ⊎ ((w.rtype ≡ 46) × (said : Fields × List ℕ) × (said.0.covered ≡ g.rtype) × ReadsSignature w.octets said)
+
+own_of : (g : Group) (ws : List Written) (ds : List (List ℕ)) → AllZip (ReadsRecord g) ws ds → AllByRecursion (IsOf g) ws
+own_of g [] [] h = tt
+own_of g [] (d ∷ ds) h = absurd h
+own_of g (w ∷ ws) [] h = absurd h
+own_of g (w ∷ ws) (d ∷ ds) h = (record { owner_is = h.0.named; covers = inl h.0.rtype }, own_of g ws ds h.1)
+
 fields_fit : (apex : Name) (at life : ℕ) (g : GroupView) (key : Dnskey) → IsName apex → g.rtype < 65536 → g.ttl < 4294967296 → key_tag key < 65536 → AreFields (fields_of apex at life g key)
 fields_fit apex at life g key name t ttl tag = record {
   covered = t;
@@ -97,10 +109,6 @@ module _ (sign : Dnskey → List ℕ → Option (List ℕ)) (verifies : Dnskey �
   signatures_alone g (key ∷ keys) [] t ttl h = absurd h
   signatures_alone g (key ∷ keys) (d ∷ ds) t ttl h = (signature_alone g key d t ttl h.0, signatures_alone g keys ds t ttl h.1)
 
-  alone_append : (rs ss : List Written) → AllByRecursion StandsAlone rs → AllByRecursion StandsAlone ss → AllByRecursion StandsAlone (rs ++ ss)
-  alone_append [] ss h k = k
-  alone_append (r ∷ rs) ss h k = (h.0, alone_append rs ss h.1 k)
-
   pub groups_alone : (keys : List Dnskey) (gs : List Group) (pieces : List (List Written)) → AllByRecursion IsFormed gs → AllByRecursion NoSignature gs → AllZip (IsWritten sign verifies apex at life keys) (map view_of gs) pieces → AllByRecursion StandsAlone (joined pieces)
   groups_alone keys [] [] formed none written = tt
   groups_alone keys [] (x ∷ pieces) formed none written = absurd written
@@ -111,7 +119,7 @@ module _ (sign : Dnskey → List ℕ → Option (List ℕ)) (verifies : Dnskey �
       let signatures : List Written = map (rrsig_of (view_of g)) w.0 in
       let own : AllByRecursion StandsAlone g.written = own_alone g g.written g.datas none.0 f.datas in
       let signed : AllByRecursion StandsAlone signatures = signatures_alone g (if g.signed then keys else []) w.0 f.rtype f.ttl w.1.0 in
-      alone_append x (joined pieces) (subst (AllByRecursion StandsAlone) (sym w.1.1) (alone_append g.written signatures own signed)) (groups_alone keys gs pieces formed.1 none.1 written.1)
+      all_joined StandsAlone x (joined pieces) (subst (AllByRecursion StandsAlone) (sym w.1.1) (all_joined StandsAlone g.written signatures own signed)) (groups_alone keys gs pieces formed.1 none.1 written.1)
 
   -- ---- which cover another type
 
@@ -125,10 +133,6 @@ module _ (sign : Dnskey → List ℕ → Option (List ℕ)) (verifies : Dnskey �
   signatures_other u g (key ∷ keys) [] other t ttl h = absurd h
   signatures_other u g (key ∷ keys) (d ∷ ds) other t ttl h = (signature_other u g key d other t ttl h.0, signatures_other u g keys ds other t ttl h.1)
 
-  others_append : (u : ℕ) (rs ss : List Written) → AllByRecursion (SignsOther u) rs → AllByRecursion (SignsOther u) ss → AllByRecursion (SignsOther u) (rs ++ ss)
-  others_append u [] ss h k = k
-  others_append u (r ∷ rs) ss h k = (h.0, others_append u rs ss h.1 k)
-
   pub groups_other : (u : ℕ) (keys : List Dnskey) (gs : List Group) (pieces : List (List Written)) → AllByRecursion IsFormed gs → AllByRecursion NoSignature gs → AllByRecursion (IsOther u) gs
       → AllZip (IsWritten sign verifies apex at life keys) (map view_of gs) pieces → AllByRecursion (SignsOther u) (joined pieces)
   groups_other u keys [] [] formed none other written = tt
@@ -140,7 +144,42 @@ module _ (sign : Dnskey → List ℕ → Option (List ℕ)) (verifies : Dnskey �
       let signatures : List Written = map (rrsig_of (view_of g)) w.0 in
       let own : AllByRecursion (SignsOther u) g.written = own_other u g g.written g.datas none.0 f.datas in
       let signed : AllByRecursion (SignsOther u) signatures = signatures_other u g (if g.signed then keys else []) w.0 other.0 f.rtype f.ttl w.1.0 in
-      others_append u x (joined pieces) (subst (AllByRecursion (SignsOther u)) (sym w.1.1) (others_append u g.written signatures own signed)) (groups_other u keys gs pieces formed.1 none.1 other.1 written.1)
+      all_joined (SignsOther u) x (joined pieces) (subst (AllByRecursion (SignsOther u)) (sym w.1.1) (all_joined (SignsOther u) g.written signatures own signed)) (groups_other u keys gs pieces formed.1 none.1 other.1 written.1)
+
+  -- ---- the records of one RRset
+
+  signatures_of : (g : Group) (keys : List Dnskey) (ds : List (List ℕ)) → g.rtype < 65536 → g.ttl < 4294967296 → AllZip (IsRrsigData sign verifies apex at life (view_of g)) keys ds → AllByRecursion (IsOf g) (map (rrsig_of (view_of g)) ds)
+  signatures_of g [] [] t ttl h = tt
+  signatures_of g [] (d ∷ ds) t ttl h = absurd h
+  signatures_of g (key ∷ keys) [] t ttl h = absurd h
+  signatures_of g (key ∷ keys) (d ∷ ds) t ttl h = (
+    record { owner_is = refl; covers = inr (refl, (record (fields_of apex at life (view_of g) key) { signer = low apex }, h.0.signature), refl, signature_reads g key d t ttl h.0) },
+    signatures_of g keys ds t ttl h.1,
+  )
+
+  pub piece_of : (keys : List Dnskey) (g : Group) (ws : List Written) → IsFormed g → IsWritten sign verifies apex at life keys (view_of g) ws → AllByRecursion (IsOf g) ws
+  piece_of keys g ws f w =
+      subst (AllByRecursion (IsOf g)) (sym w.1.1)
+      (all_joined (IsOf g) g.written (map (rrsig_of (view_of g)) w.0) (own_of g g.written g.datas f.datas) (signatures_of g (if g.signed then keys else []) w.0 f.rtype f.ttl w.1.0))
+
+-- a record of a message that is one of an RRset, or a signature of it
+pub record IsRecordOf (g : Group) (m : List ℕ) (r : Spelled) : Type 0 where
+  pub owner_is : low r.owner ≡ low g.owner
+  pub covers : (r.rtype ≡ g.rtype) ⊎ ((r.rtype ≡ 46) × (said : Fields × List ℕ) × (said.0.covered ≡ g.rtype) × (rrsig_at pointer_limit m r ≡ Some said))
+
+record_of : (g : Group) (m : List ℕ) (p : ℕ) (w : Written) (rest : List ℕ) → length m ≤ 65535 → IsOf g w → StandsAt m p (record_octets w ++ rest) → IsRecordOf g m (spelled_at p w)
+record_of g m p w rest few is one = record {
+  owner_is = is.owner_is;
+  covers = ⊎_elim
+      (λ type. inl type)
+      (λ c. inr (c.0, c.1, c.2, c.3 m rest (spelled_at p w) few (data_behind m p w rest one) refl))
+      is.covers;
+}
+
+pub records_of : (g : Group) (m : List ℕ) (p : ℕ) (ws : List Written) (rest : List ℕ) → length m ≤ 65535 → AllByRecursion (IsOf g) ws → StandsAt m p (flat_map record_octets ws ++ rest) → AllByRecursion (IsRecordOf g m) (spelled_from p ws)
+records_of g m p [] rest few is one = tt
+records_of g m p (w ∷ ws) rest few is one =
+    (record_of g m p w _ few is.0 (first_stands m p w ws rest one), records_of g m (end_of p w) ws rest few is.1 (rest_stands m p w ws rest one))
 
 -- so no signature covers that type
 covers_no : (u : ℕ) (m : List ℕ) (p : ℕ) (v : Written) (rest : List ℕ) → length m ≤ 65535 → SignsOther u v → StandsAt m p (record_octets v ++ rest) → (b : Bool) → eqb v.rtype 46 ≡ b

@@ -100,7 +100,7 @@ module _ (a : Answers) (k : ℕ) (h : JudgeInput) (any : h.other_question ≡ tr
         ∙ (λ i. judged_of (message k h.dnskey_bytes) (Ok one) (λ x y. chained_answer x i))
         ∙ ap (λ o. judged_of (message k h.dnskey_bytes) o (judged_messages a k other_handing)) (sym reads_other)
 
-    answers_judged : judged a k one_handing ≡ judged a k other_handing
+    pub answers_judged : judged a k one_handing ≡ judged a k other_handing
     answers_judged = λ i. said_of (is_judged h) (nat_eq (length h.ds) 0) (answer_first i) (answer_bytes_judged i)
 
   -- where the records are alike that are used for the type that is asked for

@@ -8,6 +8,7 @@ use Rattle.definitions.specs.Dnskey.{Dnskey}
 use Rattle.definitions.specs.Limits.{pointer_limit}
 use Rattle.definitions.specs.Name.{IsName, Name, at_or_above, low, same}
 use Rattle.definitions.specs.Zone.{Delegated, NoName, NoType, Open, Records, StarNoType, StarRecords, Unsigned, Verdict, verdict}
+use Rattle.denial_laws.specs.Truth.{IsServable}
 use Rattle.messages.specs.HandedRr.{HandedRr, among}
 use Rattle.messages.specs.Message.{Asked, Message, Spelled, message, pair}
 use Rattle.messages.specs.Written.{Written, record_octets}
@@ -15,13 +16,15 @@ use Rattle.messages.specs.WrittenLaws.{IsQuestion, IsRecord, first_place, spelle
 use Rattle.messages.proofs.Lists.{eqb-back, zip_append}
 use Rattle.messages.proofs.MessageWhole.{records_stand}
 use Rattle.messages.proofs.ZoneNames.{same_labels}
+use Rattle.answer_publisher_keys.specs.Bindings.{ZoneKeys}
 use Rattle.answer_scheme.specs.Answers.{Answers}
 use Rattle.answer_scheme.specs.Moments.{second_of}
-use Rattle.answer_shared.specs.Accepting.{sorted_records}
+use Rattle.answer_shared.specs.Accepting.{sorted_records, zone_with}
 use Rattle.answer_shared.specs.Asking.{is_allowed}
 use Rattle.answer_shared.specs.GroupView.{GroupView, Presents, view_of}
 use Rattle.answer_shared.specs.Hashing.{hash_in}
 use Rattle.answer_zone.specs.ZoneAnswers.{flags_for}
+use Rattle.alias_laws.proofs.Orderly.{servable}
 use Rattle.answer_shared.specs.Served.{Group, Served, answer_groups, key_group, served_of, ttl_among}
 use Rattle.answer_judge_keys.specs.Judging.{Answer, JudgeInput, Refuses, Says, is_judged, message_refusal}
 use Rattle.answer_judge_keys.specs.declared.verdict.Refusal.{Refusal}
@@ -31,7 +34,7 @@ use Rattle.answer_alike.proofs.GivenAnswers.{answers_given}
 use Rattle.answer_alike.specs.SeenAlike.{SeenAlike, is_covering, is_used_type}
 use Rattle.answer_alike.proofs.JudgedAlike.{answers_alike, keys_alike, uncovered_alike}
 use Rattle.server_answers.specs.Composed.{IsAnswer, IsWritten, joined}
-use Rattle.server_answers.specs.World.{AnswersKeysQuestion, AnswersQuestion, World, present_keys}
+use Rattle.server_answers.specs.World.{AnswersKeysQuestion, AnswersQuestion, World, present_keys, served_in}
 use Rattle.server_answers.proofs.WritesAnswer.{all_behind, all_presented}
 use Rattle.server_answers.proofs.WritesData.{of_chain}
 use Rattle.server_answers.proofs.WritesGroups.{Holds, IsFormed, all_hold, all_records, count_of}
@@ -48,8 +51,10 @@ use Rattle.server_answers.specs.Glued.{AnswersGlued}
 use Rattle.server_answers.specs.Responding.{IsMessage, Serving, is_for_keys}
 use Rattle.server_laws.specs.Heard.{ClientsAreTold, IsJudgedAs, IsWhole, IsZone, ResponsesJudgedAlike, is_truncated}
 use Rattle.server_laws.proofs.Alone.{IsOther, NoSignature, SignsOther, StandsAlone, groups_alone, groups_other}
-use Rattle.server_laws.proofs.Shown.{IsAlone, IsUnused, flags_told, in_message, message_read, none_covers, spelled_all, unasked, whole, whole_seen, whole_where_clear}
+use Rattle.server_laws.proofs.Replied.{IsUnused}
+use Rattle.server_laws.proofs.Shown.{IsAlone, all_seen, all_where_clear, flags_told, in_message, message_read, none_covers, spelled_all, unasked, whole_all}
 use Rattle.server_laws.proofs.ZoneGroups.{are_handed, groups_formed, groups_unsigned, referral_other}
+use Rattle.server_laws.proofs.Lists.{nothing}
 
 -- ---- a publisher's message
 
@@ -103,7 +108,7 @@ written_other u sign verifies apex at life keys flags asked answer authority gro
 -- ---- glue
 
 -- a message that is authoritative has none
-no_glue : (flags : ℕ) (asked : Asked) (first second : List Written) (m : List ℕ) (addresses : List HandedRr) → IsAlone flags asked first second m → (f : ℕ) → flags ≡ f → f < 65536 → eqb (f / 1024 % 2) 1 ≡ true → glue addresses m ≡ []
+pub no_glue : (flags : ℕ) (asked : Asked) (first second : List Written) (m : List ℕ) (addresses : List HandedRr) → IsAlone flags asked first second m → (f : ℕ) → flags ≡ f → f < 65536 → eqb (f / 1024 % 2) 1 ≡ true → glue addresses m ≡ []
 no_glue flags asked first second m addresses alone f is few set =
     let told : pair m 2 ≡ f = flags_told flags asked first second m alone (omega (arith, is, few)) ∙ is in
     ap (λ b. cond b [] (glue_in addresses m (message pointer_limit m))) (ap (λ n. eqb (n / 1024 % 2) 1) told ∙ set)
@@ -133,17 +138,20 @@ never : (c x : Bool) → ((c && false) && x) ≡ false
 never true x = refl
 never false x = refl
 
-nothing : (b : Bool) → (b && false) ≡ false
-nothing true = refl
-nothing false = refl
-
--- no question for OPT records is judged
-pub opt_unjudged : (h : JudgeInput) → h.asked.rtype ≡ 41 → is_judged h ≡ false
-opt_unjudged h e =
+-- no question is judged for a type that is not asked for
+pub type_unjudged : (u : ℕ) (h : JudgeInput) → among (5 ∷ 39 ∷ []) u ≡ false → among (46 ∷ 47 ∷ 48 ∷ 50 ∷ 51 ∷ 5 ∷ 39 ∷ 0 ∷ 41 ∷ []) u ≡ true → h.asked.rtype ≡ u → is_judged h ≡ false
+type_unjudged u h alias signing e =
+    let here = eqb h.asked.class 1 && at_or_above h.apex h.asked.name in
     (λ i. (h.other_question && (among (5 ∷ 39 ∷ []) (e i) && eqb h.asked.class 1 && at_or_above h.apex h.asked.name)) || is_allowed h.apex h.asked)
+    ∙ ap (λ b. (h.other_question && (b && eqb h.asked.class 1 && at_or_above h.apex h.asked.name)) || is_allowed h.apex h.asked) alias
     ∙ ap (λ b. b || is_allowed h.apex h.asked) (nothing h.other_question)
-    ∙ (λ i. eqb h.asked.class 1 && at_or_above h.apex h.asked.name && not (among (46 ∷ 47 ∷ 48 ∷ 50 ∷ 51 ∷ 5 ∷ 39 ∷ 0 ∷ 41 ∷ []) (e i)) && not (nat_le 128 h.asked.rtype && nat_le h.asked.rtype 255))
-    ∙ never (eqb h.asked.class 1 && at_or_above h.apex h.asked.name) (not (nat_le 128 h.asked.rtype && nat_le h.asked.rtype 255))
+    ∙ (λ i. here && not (among (46 ∷ 47 ∷ 48 ∷ 50 ∷ 51 ∷ 5 ∷ 39 ∷ 0 ∷ 41 ∷ []) (e i)) && not (nat_le 128 h.asked.rtype && nat_le h.asked.rtype 255))
+    ∙ ap (λ b. here && not b && not (nat_le 128 h.asked.rtype && nat_le h.asked.rtype 255)) signing
+    ∙ never here (not (nat_le 128 h.asked.rtype && nat_le h.asked.rtype 255))
+
+-- as OPT
+pub opt_unjudged : (h : JudgeInput) → h.asked.rtype ≡ 41 → is_judged h ≡ false
+opt_unjudged h e = type_unjudged 41 h refl refl e
 
 abbrev judged_by : Bool → Bool → Option Refusal → Answer → Answer
 judged_by asked none later answer = elim (if not asked then Some r.QuestionNotAllowed else if none then None else later) [
@@ -182,25 +190,25 @@ module _ (flags : ℕ) (asked : Asked) (first second : List Written) (m : List �
   more = map written_as_handed gs
 
   abbrev the_whole : List ℕ
-  the_whole = whole flags asked first second m alone size q small is wanted more (hold_all gs each) silent
+  the_whole = whole_all flags asked first second m alone size q small is wanted more (hold_all gs each) silent
 
   abbrev the_records : List Spelled
-  the_records = spelled_all flags asked first second m alone size q small is wanted more (hold_all gs each) silent
+  the_records = spelled_all flags asked first second m alone
 
-  back : message pointer_limit m ≡ Ok (in_message flags asked first second m alone size q small is wanted more (hold_all gs each) silent)
-  back = message_read flags asked first second m alone size q small is wanted more (hold_all gs each) silent
+  back : message pointer_limit m ≡ Ok (in_message flags asked first second m alone)
+  back = message_read flags asked first second m alone
 
   seen : length the_whole ≤ 65535 → (t : ℕ) → AllByRecursion (IsUnused t) more → eqb 41 t ≡ false → SeenAlike pointer_limit t the_whole m
-  seen few t spare other = whole_seen flags asked first second m alone size q small is wanted more (hold_all gs each) silent t spare other name rtype class few
+  seen few t spare other = all_seen flags asked first second m alone size q small is wanted more (hold_all gs each) silent t spare other name rtype class few
 
   -- where an address is asked for that no signature covers
   covered : length the_whole ≤ 65535 → (a : Answers) (h : JudgeInput) → AllByRecursion (SignsOther h.asked.rtype) (first ++ second)
       → judged a pointer_limit (record h { answer_bytes = the_whole }) ≡ judged a pointer_limit (record h { answer_bytes = m })
   covered few a h others =
       let alike = seen few 46 (unused_all 46 gs refl each) refl in
-      let there = ok_is (in_message flags asked first second m alone size q small is wanted more (hold_all gs each) silent) alike.other (message pointer_limit m) back alike.reads_other in
+      let there = ok_is (in_message flags asked first second m alone) alike.other (message pointer_limit m) back alike.reads_other in
       uncovered_alike a pointer_limit h the_whole m alike
-      (subst (λ (x : Message). list_any (is_covering pointer_limit m h.asked.rtype) x.records ≡ false) there (none_covers flags asked first second m alone size q small is wanted more (hold_all gs each) silent h.asked.rtype others))
+      (subst (λ (x : Message). list_any (is_covering pointer_limit m h.asked.rtype) x.records ≡ false) there (none_covers flags asked first second m alone h.asked.rtype others))
 
   -- where there is none
   without : length the_whole ≤ 65535 → (a : Answers) (h : JudgeInput) → eqb 41 h.asked.rtype ≡ false → gs ≡ [] → judged a pointer_limit (record h { answer_bytes = the_whole }) ≡ judged a pointer_limit (record h { answer_bytes = m })
@@ -219,31 +227,62 @@ module _ (flags : ℕ) (asked : Asked) (first second : List Written) (m : List �
   response_judged : (octets : List ℕ) → is_truncated octets ≡ false → AnswersQuery limit size q m gs octets → IsJudgedAs octets m
   response_judged octets clear (read, reads, are) =
       let same : response_of limit size q m read.records more ≡ response_of limit size q m the_records more = ap (λ (x : Message). response_of limit size q m x.records more) (ok_is read _ (message pointer_limit m) reads back) in
-      let found = whole_where_clear flags asked first second m alone size q small is wanted more (hold_all gs each) silent limit (ap is_truncated (sym (are ∙ same)) ∙ clear) in
+      let found = all_where_clear flags asked first second m alone size q small is wanted more (hold_all gs each) silent limit (ap is_truncated (sym (are ∙ same)) ∙ clear) in
       subst (λ o. IsJudgedAs o m) (sym (are ∙ same ∙ found.0)) (whole_judged (omega (arith, found.1, fits)))
 
 -- ---- by a server
+
+pub plain_parts : (t : ℕ) → among (46 ∷ 47 ∷ 50 ∷ []) t ≡ false → (eqb t 46 ≡ false) × (of_chain t ≡ false)
+plain_parts t plain =
+    let p46 = or_parts (eqb t 46) _ plain in
+    let p47 = or_parts (eqb t 47) _ p46.1 in
+    let p50 = or_parts (eqb t 50) false p47.1 in
+    (p46.0, λ i. (p47.0 i || p50.0 i))
 
 module _ (w : World) (z : IsZone w) where
   abbrev served_sorted : List HandedRr → Served
   served_sorted rs = served_of w.zone.apex w.zone.mode (hash_in w.answers.hash w.zone.mode) rs
 
-  zone_formed : (asked : Asked) → IsQuestion asked → of_chain asked.rtype ≡ false → AllByRecursion IsFormed (answer_groups (served_sorted w.zone.records) asked.name asked.rtype)
+  pub zone_formed : (asked : Asked) → IsQuestion asked → of_chain asked.rtype ≡ false → AllByRecursion IsFormed (answer_groups (served_sorted w.zone.records) asked.name asked.rtype)
   zone_formed asked is plain =
       subst (λ rs. AllByRecursion IsFormed (answer_groups (served_sorted rs) asked.name asked.rtype)) (sym z.sorted)
       (groups_formed w.answers.hash w.zone.apex w.zone.limit z.records w.zone.mode z.apex_is z.records_are z.accepted asked.name asked.rtype is.name is.rtype plain)
+
+  pub zone_servable : IsServable (served_in w).zone
+  zone_servable = subst (λ rs. IsServable (zone_with w.zone.apex rs)) (sym z.sorted) (servable w.answers.hash w.zone.apex w.zone.mode w.zone.limit z.records z.accepted)
+
+  -- the zone's message for a question
+  pub answer_alone : (keys : ZoneKeys) (at : ℕ) (asked : Asked) → IsQuestion asked → among (46 ∷ 47 ∷ 50 ∷ []) asked.rtype ≡ false → (m : List ℕ) → (is : AnswersQuestion w keys at asked m)
+      → IsAlone (flags_for (verdict (served_in w).zone false asked.name asked.rtype)) asked (joined is.written.answers) (joined is.written.authorities) m
+  answer_alone keys at asked question plain m is =
+      let groups = answer_groups (served_in w) asked.name asked.rtype in
+      let parts = plain_parts asked.rtype plain in
+      written_alone w.sign w.answers.verifies w.zone.apex (second_of at) w.life _ _ asked is.answer is.authority groups m
+      z.apex_is question (zone_formed asked question parts.1) (groups_unsigned (served_in w) asked.name asked.rtype parts.0) is.groups_are is.written
+
+  pub answer_other : (keys : ZoneKeys) (at : ℕ) (asked : Asked) → IsQuestion asked → among (46 ∷ 47 ∷ 50 ∷ []) asked.rtype ≡ false → (m : List ℕ) → (is : AnswersQuestion w keys at asked m)
+      → (u : ℕ) → AllByRecursion (IsOther u) (answer_groups (served_in w) asked.name asked.rtype) → AllByRecursion (SignsOther u) (joined is.written.answers ++ joined is.written.authorities)
+  answer_other keys at asked question plain m is u other =
+      let groups = answer_groups (served_in w) asked.name asked.rtype in
+      let parts = plain_parts asked.rtype plain in
+      written_other u w.sign w.answers.verifies w.zone.apex (second_of at) w.life _ _ asked is.answer is.authority groups m
+      z.apex_is (zone_formed asked question parts.1) (groups_unsigned (served_in w) asked.name asked.rtype parts.0) other is.groups_are is.written
 
   key_formed : (ks : List Dnskey) → IsFormed (key_group w.zone.apex (ttl_among w.zone.records (low w.zone.apex) 6) ks)
   key_formed ks =
       subst (λ rs. IsFormed (key_group w.zone.apex (ttl_among rs (low w.zone.apex) 6) ks)) (sym z.sorted)
       (keys_formed w.zone.apex (sorted_records z.records) (are_handed w.answers.hash w.zone.apex w.zone.limit z.records w.zone.mode z.apex_is z.records_are z.accepted) ks)
 
+-- whichever scheme signs
+pub zone_signed : (w : World) (sign : Dnskey → List ℕ → Option (List ℕ)) (verifies : Dnskey → List ℕ → List ℕ → Bool) → IsZone w → IsZone (signed_by w sign verifies)
+zone_signed w sign verifies z = record { records = z.records; apex_is = z.apex_is; records_are = z.records_are; accepted = z.accepted; sorted = z.sorted }
+
 module _ (s : Serving) (q : Queried) (octets : List ℕ) (h : IsWhole s q octets) (m : List ℕ) where
   abbrev pub by_table : World
   by_table = signed_by s.world (sign_by s.table) (verify_by s.table)
 
   pub zone_table : IsZone by_table
-  zone_table = record { records = h.zone.records; apex_is = h.zone.apex_is; records_are = h.zone.records_are; accepted = h.zone.accepted; sorted = h.zone.sorted }
+  zone_table = zone_signed s.world (sign_by s.table) (verify_by s.table) h.zone
 
   -- it is no question for NSEC
   link_unasked : eqb q.asked.rtype 47 ≡ false
@@ -252,30 +291,12 @@ module _ (s : Serving) (q : Queried) (octets : List ℕ) (h : IsWhole s q octets
   abbrev the_served : Served
   the_served = served_sorted by_table zone_table s.world.zone.records
 
-  abbrev the_groups : List Group
-  the_groups = answer_groups the_served q.asked.name q.asked.rtype
-
   module _ (is : AnswersQuestion by_table s.keys s.at q.asked m) where
-    plain_parts : (eqb q.asked.rtype 46 ≡ false) × (of_chain q.asked.rtype ≡ false)
-    plain_parts =
-        let p46 = or_parts (eqb q.asked.rtype 46) _ h.plain in
-        let p47 = or_parts (eqb q.asked.rtype 47) _ p46.1 in
-        let p50 = or_parts (eqb q.asked.rtype 50) false p47.1 in
-        (p46.0, λ i. (p47.0 i || p50.0 i))
-
-    formed : AllByRecursion IsFormed the_groups
-    formed = zone_formed by_table zone_table q.asked h.asked plain_parts.1
-
-    unsigned : AllByRecursion NoSignature the_groups
-    unsigned = groups_unsigned the_served q.asked.name q.asked.rtype plain_parts.0
-
     abbrev pub told : Verdict
     told = verdict the_served.zone false q.asked.name q.asked.rtype
 
     pub alone : IsAlone (flags_for told) q.asked (joined is.written.answers) (joined is.written.authorities) m
-    alone =
-        written_alone by_table.sign by_table.answers.verifies s.world.zone.apex (second_of s.at) s.world.life _ _ q.asked is.answer is.authority the_groups m
-        h.zone.apex_is h.asked formed unsigned is.groups_are is.written
+    alone = answer_alone by_table zone_table s.keys s.at q.asked h.asked h.plain m is
 
     authoritative : (f : ℕ) → flags_for told ≡ f → f < 65536 → eqb (f / 1024 % 2) 1 ≡ true → glue s.addresses m ≡ []
     authoritative f e few set = no_glue (flags_for told) q.asked (joined is.written.answers) (joined is.written.authorities) m s.addresses alone f e few set
@@ -283,8 +304,7 @@ module _ (s : Serving) (q : Queried) (octets : List ℕ) (h : IsWhole s q octets
     -- only a referral has glue, and nothing there signs an address
     pub bare : (v : Verdict) → told ≡ v → AreBare (glue s.addresses m) (joined is.written.answers ++ joined is.written.authorities)
     bare Delegated e t address =
-        inr (written_other t by_table.sign by_table.answers.verifies s.world.zone.apex (second_of s.at) s.world.life _ _ q.asked is.answer is.authority the_groups m
-        h.zone.apex_is formed unsigned (referral_other the_served q.asked.name q.asked.rtype t address e) is.groups_are is.written)
+        inr (answer_other by_table zone_table s.keys s.at q.asked h.asked h.plain m is t (referral_other the_served q.asked.name q.asked.rtype t address e))
     bare NoName e t address = inl (authoritative 33795 (ap flags_for e) (lit< tt) refl)
     bare (Records ds) e t address = inl (authoritative 33792 (ap flags_for e) (lit< tt) refl)
     bare NoType e t address = inl (authoritative 33792 (ap flags_for e) (lit< tt) refl)

@@ -3,9 +3,15 @@ pub mod Nowhere
 pub mod Framed
 pub mod Alone
 pub mod ZoneGroups
+pub mod Replied
 pub mod Shown
 pub mod Heard
 pub mod AnyQuestion
 pub mod Chosen
+pub mod Beside
+pub mod Redirected
+pub mod OneLink
+pub mod Idle
+pub mod Linked
 pub mod Denied
 pub mod Aliased

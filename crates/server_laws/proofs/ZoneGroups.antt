@@ -23,66 +23,72 @@ use Rattle.server_answers.proofs.WritesData.{of_chain}
 use Rattle.server_answers.proofs.WritesGroups.{IsFormed}
 use Rattle.server_answers.proofs.WritesZone.{Named, answer_formed}
 use Rattle.server_laws.proofs.Alone.{IsOther, NoSignature}
+use Rattle.server_laws.proofs.Lists.{all_joined}
 
 all_has : {A : Type 0} (P : A → Type 0) (xs : List A) → ((x : A) → Has xs x → P x) → AllByRecursion P xs
 all_has P [] f = tt
 all_has P (x ∷ xs) f = (f x (inl refl), all_has P xs (λ y h. f y (inr h)))
 
-all_join : {A : Type 0} (P : A → Type 0) (xs ys : List A) → AllByRecursion P xs → AllByRecursion P ys → AllByRecursion P (xs ++ ys)
-all_join P [] ys h k = k
-all_join P (x ∷ xs) ys h k = (h.0, all_join P xs ys h.1 k)
+-- ---- which are of another type
 
--- ---- none is of signatures
+-- a type of no RRset that stands before the chain's records, but for the one that is asked for
+pub record StandsBeside (u : ℕ) : Type 0 where
+  pub ns : eqb 2 u ≡ false
+  pub soa : eqb 6 u ≡ false
+  pub ds : eqb 43 u ≡ false
 
-module _ (s : Served) (q : Name) (t : ℕ) (plain : eqb t 46 ≡ false) where
-  abbrev None46 : List Group → Type 0
-  None46 gs = AllByRecursion NoSignature gs
+module _ (s : Served) (q : Name) (t u : ℕ) (beside : StandsBeside u) where
+  abbrev Other : List Group → Type 0
+  Other gs = AllByRecursion (IsOther u) gs
 
-  at_star : (o : Option Name) → None46 (elim o [ None ↦ [] | Some e ↦ under q (rrset s (star_under e) t) ∷ [] ])
-  at_star None = tt
-  at_star (Some e) = (plain, tt)
-
-  at_cut : (o : Option Name) → None46 (elim o [ None ↦ [] | Some c ↦ unsigned_ns s c ++ if_any s c 43 ])
+  at_cut : (o : Option Name) → Other (elim o [ None ↦ [] | Some c ↦ unsigned_ns s c ++ if_any s c 43 ])
   at_cut None = tt
-  at_cut (Some c) = (refl, either None46 (has s.zone c 43) (rrset s c 43 ∷ []) [] (refl, tt) tt)
+  at_cut (Some c) = (beside.ns, either Other (has s.zone c 43) (rrset s c 43 ∷ []) [] (beside.ds, tt) tt)
 
-  left_open : (o : Option Name) → None46 (elim o [ None ↦ soa s ∷ [] | Some c ↦ cond (labels_eq c (low q) && eqb t 43) (soa s ∷ []) (unsigned_ns s c) ])
-  left_open None = (refl, tt)
-  left_open (Some c) = either None46 (labels_eq c (low q) && eqb t 43) (soa s ∷ []) (unsigned_ns s c) (refl, tt) (refl, tt)
+  left_open : (o : Option Name) → Other (elim o [ None ↦ soa s ∷ [] | Some c ↦ cond (labels_eq c (low q) && eqb t 43) (soa s ∷ []) (unsigned_ns s c) ])
+  left_open None = (beside.soa, tt)
+  left_open (Some c) = either Other (labels_eq c (low q) && eqb t 43) (soa s ∷ []) (unsigned_ns s c) (beside.soa, tt) (beside.ns, tt)
 
-  open_unsigned : (v : Verdict) → None46 (ahead_open s q t v)
-  open_unsigned (StarRecords ds) = at_star (ce s.zone (low q))
-  open_unsigned (Records ds) = left_open (cut s.zone (low q))
-  open_unsigned NoType = left_open (cut s.zone (low q))
-  open_unsigned NoName = left_open (cut s.zone (low q))
-  open_unsigned StarNoType = left_open (cut s.zone (low q))
-  open_unsigned Delegated = left_open (cut s.zone (low q))
-  open_unsigned Open = left_open (cut s.zone (low q))
-  open_unsigned Unsigned = left_open (cut s.zone (low q))
+  module _ (unlike : eqb t u ≡ false) where
+    at_star : (o : Option Name) → Other (elim o [ None ↦ [] | Some e ↦ under q (rrset s (star_under e) t) ∷ [] ])
+    at_star None = tt
+    at_star (Some e) = (unlike, tt)
 
-  ahead_unsigned : (v : Verdict) → None46 (ahead s q t v)
-  ahead_unsigned (Records ds) = (plain, tt)
-  ahead_unsigned NoType = (refl, tt)
-  ahead_unsigned NoName = (refl, tt)
-  ahead_unsigned (StarRecords ds) = at_star (ce s.zone (low q))
-  ahead_unsigned StarNoType = (refl, tt)
-  ahead_unsigned Delegated = at_cut (cut s.zone (low q))
-  ahead_unsigned Open = open_unsigned (verdict s.zone false q t)
-  ahead_unsigned Unsigned = tt
+    open_other : (v : Verdict) → Other (ahead_open s q t v)
+    open_other (StarRecords ds) = at_star (ce s.zone (low q))
+    open_other (Records ds) = left_open (cut s.zone (low q))
+    open_other NoType = left_open (cut s.zone (low q))
+    open_other NoName = left_open (cut s.zone (low q))
+    open_other StarNoType = left_open (cut s.zone (low q))
+    open_other Delegated = left_open (cut s.zone (low q))
+    open_other Open = left_open (cut s.zone (low q))
+    open_other Unsigned = left_open (cut s.zone (low q))
 
-chain_unsigned : (s : Served) (ns : List Name) → AllByRecursion NoSignature (map (chain_record s) ns)
-chain_unsigned s [] = tt
-chain_unsigned s (n ∷ ns) = (one s.mode refl, chain_unsigned s ns)
+    pub ahead_other : (v : Verdict) → Other (ahead s q t v)
+    ahead_other (Records ds) = (unlike, tt)
+    ahead_other NoType = (beside.soa, tt)
+    ahead_other NoName = (beside.soa, tt)
+    ahead_other (StarRecords ds) = at_star (ce s.zone (low q))
+    ahead_other StarNoType = (beside.soa, tt)
+    ahead_other Delegated = at_cut (cut s.zone (low q))
+    ahead_other Open = open_other (verdict s.zone false q t)
+    ahead_other Unsigned = tt
+
+pub chain_other : (s : Served) (u : ℕ) → eqb 47 u ≡ false → eqb 50 u ≡ false → (ns : List Name) → AllByRecursion (IsOther u) (map (chain_record s) ns)
+chain_other s u nsec nsec3 [] = tt
+chain_other s u nsec nsec3 (n ∷ ns) = (one s.mode refl, chain_other s u nsec nsec3 ns)
   where
-    one : (m : Mode) → s.mode ≡ m → NoSignature (chain_record s n)
-    one Nsec e = subst (λ (x : Mode). NoSignature (chain_record (record s { mode = x }) n)) (sym e) refl
-    one (Nsec3 iterations salt optout) e = subst (λ (x : Mode). NoSignature (chain_record (record s { mode = x }) n)) (sym e) refl
+    one : (m : Mode) → s.mode ≡ m → IsOther u (chain_record s n)
+    one Nsec e = subst (λ (x : Mode). IsOther u (chain_record (record s { mode = x }) n)) (sym e) nsec
+    one (Nsec3 iterations salt optout) e = subst (λ (x : Mode). IsOther u (chain_record (record s { mode = x }) n)) (sym e) nsec3
 
+-- none is of signatures
 pub groups_unsigned : (s : Served) (q : Name) (t : ℕ) → eqb t 46 ≡ false → AllByRecursion NoSignature (answer_groups s q t)
 groups_unsigned s q t plain =
     let v = verdict s.zone (optout_of s.mode) q t in
     let said = spoken s (low q) (verdict s.zone false q t) v in
-    all_join NoSignature (ahead s q t v) (proofs_of s said) (ahead_unsigned s q t plain v) (chain_unsigned s (filter (λ o. list_any (speaks_for s o) said) (chain_names s)))
+    all_joined NoSignature (ahead s q t v) (proofs_of s said) (ahead_other s q t 46 (record { ns = refl; soa = refl; ds = refl }) plain v)
+    (chain_other s 46 refl refl (filter (λ o. list_any (speaks_for s o) said) (chain_names s)))
 
 -- ---- the groups of a referral are of no addresses
 
@@ -99,36 +105,18 @@ referred z optout q t told = go (is_open z optout (low q))
     go true = inr refl
     go false = inl told
 
-module _ (s : Served) (q : Name) (t u : ℕ) (address : (eqb u 1 || eqb u 28) ≡ true) where
-  abbrev Other : List Group → Type 0
-  Other gs = AllByRecursion (IsOther u) gs
-
-  at_delegation : (o : Option Name) → Other (elim o [ None ↦ [] | Some c ↦ unsigned_ns s c ++ if_any s c 43 ])
-  at_delegation None = tt
-  at_delegation (Some c) = (not_address u 2 address refl refl, either Other (has s.zone c 43) (rrset s c 43 ∷ []) [] (not_address u 43 address refl refl, tt) tt)
-
-  at_open : (o : Option Name) → Other (elim o [ None ↦ soa s ∷ [] | Some c ↦ cond (labels_eq c (low q) && eqb t 43) (soa s ∷ []) (unsigned_ns s c) ])
-  at_open None = (not_address u 6 address refl refl, tt)
-  at_open (Some c) = either Other (labels_eq c (low q) && eqb t 43) (soa s ∷ []) (unsigned_ns s c) (not_address u 6 address refl refl, tt) (not_address u 2 address refl refl, tt)
-
-  chain_other : (ns : List Name) → Other (map (chain_record s) ns)
-  chain_other [] = tt
-  chain_other (n ∷ ns) = (one s.mode refl, chain_other ns)
-    where
-      one : (m : Mode) → s.mode ≡ m → IsOther u (chain_record s n)
-      one Nsec e = subst (λ (x : Mode). IsOther u (chain_record (record s { mode = x }) n)) (sym e) (not_address u 47 address refl refl)
-      one (Nsec3 iterations salt optout) e = subst (λ (x : Mode). IsOther u (chain_record (record s { mode = x }) n)) (sym e) (not_address u 50 address refl refl)
-
-  pub referral_other : verdict s.zone false q t ≡ Delegated → Other (answer_groups s q t)
-  referral_other told =
-      let v = verdict s.zone (optout_of s.mode) q t in
-      let said = spoken s (low q) (verdict s.zone false q t) v in
-      let front : Other (ahead s q t v) =
-      ⊎_elim
-      (λ e. subst (λ x. Other (ahead s q t x)) (sym e) (at_delegation (cut s.zone (low q))))
-      (λ e. subst (λ x. Other (ahead s q t x)) (sym e) (subst (λ x. Other (ahead_open s q t x)) (sym told) (at_open (cut s.zone (low q)))))
-      (referred s.zone (optout_of s.mode) q t told) in
-      all_join (IsOther u) (ahead s q t v) (proofs_of s said) front (chain_other (filter (λ o. list_any (speaks_for s o) said) (chain_names s)))
+pub referral_other : (s : Served) (q : Name) (t u : ℕ) → (eqb u 1 || eqb u 28) ≡ true → verdict s.zone false q t ≡ Delegated → AllByRecursion (IsOther u) (answer_groups s q t)
+referral_other s q t u address told =
+    let v = verdict s.zone (optout_of s.mode) q t in
+    let said = spoken s (low q) (verdict s.zone false q t) v in
+    let beside : StandsBeside u = record { ns = not_address u 2 address refl refl; soa = not_address u 6 address refl refl; ds = not_address u 43 address refl refl } in
+    let front : AllByRecursion (IsOther u) (ahead s q t v) =
+    ⊎_elim
+    (λ e. subst (λ x. AllByRecursion (IsOther u) (ahead s q t x)) (sym e) (at_cut s q t u beside (cut s.zone (low q))))
+    (λ e. subst (λ x. AllByRecursion (IsOther u) (ahead s q t x)) (sym e) (subst (λ x. AllByRecursion (IsOther u) (ahead_open s q t x)) (sym told) (left_open s q t u beside (cut s.zone (low q)))))
+    (referred s.zone (optout_of s.mode) q t told) in
+    all_joined (IsOther u) (ahead s q t v) (proofs_of s said) front
+    (chain_other s u (not_address u 47 address refl refl) (not_address u 50 address refl refl) (filter (λ o. list_any (speaks_for s o) said) (chain_names s)))
 
 -- ---- each has a name as its owner
 
@@ -226,4 +214,4 @@ module _ (hasher : Hasher) (apex : Name) (limit : ℕ) (rs : List HandedRr) wher
       let v = verdict (zone_with apex sorted) (optout_of mode) q t in
       let said = spoken x (low q) (verdict (zone_with apex sorted) false q t) v in
       answer_formed apex mode hash sorted (records_in_order hasher apex mode rs accepted.faultless.plain accepted.faultless.aliases accepted.chained) h q t is small plain
-      (all_join Named (ahead x q t v) (proofs_of x said) (ahead_named apex mode hash sorted h q t is v) (chain_names_are mode h accepted.chained.chain said))
+      (all_joined Named (ahead x q t v) (proofs_of x said) (ahead_named apex mode hash sorted h q t is v) (chain_names_are mode h accepted.chained.chain said))

@@ -1,15 +1,15 @@
 -- What a judge says of what a name server answers.
-use Rattle.std.specs.Prelude.{◌≡◌, ℕ, ◌<◌, ◌≤◌, Bool, true, false, List, [], ◌∷◌, Option, Result, Ok, Err}
+use Rattle.std.specs.Prelude.{◌≡◌, ℕ, ◌<◌, ◌≤◌, Bool, true, false, ◌&&◌, ◌==◌, List, [], ◌∷◌, Option, Result, Ok, Err}
 use Rattle.std.specs.List.{AllByRecursion}
 use Rattle.definitions.specs.Limits.{pointer_limit}
-use Rattle.definitions.specs.Name.{IsName}
+use Rattle.definitions.specs.Name.{IsName, Name, same}
 use Rattle.definitions.specs.Zone.{verdict}
 use Rattle.definitions.specs.ZoneChain.{Mode, optout_of}
 use Rattle.denial_laws.specs.Aliases.{is_alias_type}
 use Rattle.messages.specs.Handed.{IsHanded}
 use Rattle.messages.specs.HandedRr.{HandedRr, among}
 use Rattle.messages.specs.declared.error.MessageError.{MessageError}
-use Rattle.messages.specs.Message.{Message, message, pair}
+use Rattle.messages.specs.Message.{Asked, Message, message, pair}
 use Rattle.messages.specs.WrittenLaws.{IsQuestion}
 use Rattle.answer_scheme.specs.Answers.{Answers}
 use Rattle.answer_shared.specs.Accepting.{sorted_records, zone_of}
@@ -77,12 +77,18 @@ has_link_in q m (Ok read) = shows_link q m read.records
 abbrev pub is_link_shown : Queried → List ℕ → Bool
 is_link_shown q m = has_link_in q m (message pointer_limit m)
 
--- The response to a question for a type that no zone holds, or for NSEC where the name has no such record, is made of the message for a
--- reserved type: a judge that takes an answer to another question says of it what it says of that message, whatever it is asked.
+-- a question for the SOA record of a zone
+abbrev pub asks_soa : Name → Asked → Bool
+asks_soa apex a = (a.rtype == 6) && same a.name apex
+
+-- The response to a question for a type that no zone holds, or for NSEC, is made of the message for a reserved type: a judge that takes an
+-- answer to another question says of it what it says of that message, whatever it is asked; of a response that shows the NSEC record, and
+-- so no SOA record, whatever it is asked but for the SOA record of the zone.
 abbrev pub DenialsJudgedAlike : Type 0
 DenialsJudgedAlike =
-    (s : Serving) (q : Queried) (old new : Option ℕ) (octets : List ℕ) → HoldsAll s q octets → (d : IsDenied s q old new octets) → is_link_shown q d.0.m ≡ false
-    → (a : Answers) (h : JudgeInput) → h.other_question ≡ true → judged a pointer_limit (record h { answer_bytes = octets }) ≡ judged a pointer_limit (record h { answer_bytes = d.0.m })
+    (s : Serving) (q : Queried) (old new : Option ℕ) (octets : List ℕ) → HoldsAll s q octets → (d : IsDenied s q old new octets)
+    → (a : Answers) (h : JudgeInput) → h.other_question ≡ true → (is_link_shown q d.0.m && asks_soa s.world.zone.apex h.asked) ≡ false
+    → judged a pointer_limit (record h { answer_bytes = octets }) ≡ judged a pointer_limit (record h { answer_bytes = d.0.m })
 
 -- The response to a question for all records or signatures of a name is made of the message for the type that is chosen, a number of 16
 -- bits: such a judge says of it what it says of that message. Only a question for NSEC has a response that shows an NSEC record so.

@@ -1,3 +1,4 @@
 pub mod Heard
 pub mod Unheld
 pub mod Aliased
+pub mod Redirected

@@ -1,6 +1,7 @@
 //! Laws of the responses of a name server.
 ghost use Rattle.server_laws.specs.Aliased.{AliasesAreAnswered, AllowedAreAliased};
 ghost use Rattle.server_laws.specs.Heard.{AliasesJudgedAlike, ClientsAreTold, DenialsJudgedAlike, ResponsesJudgedAlike, SubsetsJudgedAlike};
+ghost use Rattle.server_laws.specs.Redirected.{RedirectsAreMade, RedirectsJudgedAlike};
 ghost use Rattle.server_laws.specs.Unheld.{AbsentAnsweredAlike, UnheldAnsweredAlike};
 ghost use Rattle.server_laws.specs.Unheld.{UnheldAnsweredAlikeWithAliases};
 
@@ -18,8 +19,9 @@ pub fn responses_are_judged_alike()
 /// A response to a question for a type that the zone does not hold at the name (CNAME, DNAME,
 /// NSEC3; but at the apex DNSKEY; but at the apex of a chain of hashes NSEC3PARAM), or for NSEC, is
 /// made of the message for a reserved type: of such a response, whole and with records of DNSSEC, a
-/// judge that takes an answer to another question says what it says of that message. The law does
-/// not cover a response that has the NSEC record that is asked for, and so no SOA record.
+/// judge that takes an answer to another question says what it says of that message. A response
+/// that has the NSEC record which was asked for has no SOA record: of it the judge says the same
+/// but where it is asked for the SOA record of the zone.
 pub fn denials_are_judged_alike()
     ensures { DenialsJudgedAlike }
 {}
@@ -37,6 +39,17 @@ pub fn subsets_are_judged_alike()
 /// message.
 pub fn aliases_are_judged_alike()
     ensures { AliasesJudgedAlike }
+{}
+
+/// A response to a question for a name below a DNAME is made of the zone's message for that DNAME:
+/// it has the DNAME RRset with its signatures, and the CNAME that is made from it, which has none
+/// (RFC 6672, 3.1 and 5.3.1); or YXDOMAIN, where the name would be too long. Of such a response,
+/// whole and with records of DNSSEC, a judge that takes an answer to another question says what it
+/// says of that message: it sees neither the CNAME nor the code. No such response is SERVFAIL for
+/// want of a DNAME.
+pub fn redirects_are_judged_alike()
+    ensures made { RedirectsAreMade }
+    ensures judged { RedirectsJudgedAlike }
 {}
 
 /// Whether an RRset of an alias answers: of an allowed question exactly where the name is an alias
