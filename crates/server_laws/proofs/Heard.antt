@@ -8,7 +8,9 @@ use Rattle.definitions.specs.Dnskey.{Dnskey}
 use Rattle.definitions.specs.Limits.{pointer_limit}
 use Rattle.definitions.specs.Name.{IsName, Name, at_or_above, low, same}
 use Rattle.definitions.specs.Zone.{Delegated, NoName, NoType, Open, Records, StarNoType, StarRecords, Unsigned, Verdict, verdict}
+use Rattle.definitions.specs.ZoneChain.{Mode, Nsec, Nsec3}
 use Rattle.denial_laws.specs.Truth.{IsServable}
+use Rattle.messages.specs.Handed.{AreHanded}
 use Rattle.messages.specs.HandedRr.{HandedRr, among}
 use Rattle.messages.specs.Message.{Asked, Message, Spelled, message, pair}
 use Rattle.messages.specs.Written.{Written, record_octets}
@@ -38,18 +40,19 @@ use Rattle.server_answers.specs.World.{AnswersKeysQuestion, AnswersQuestion, Wor
 use Rattle.server_answers.proofs.WritesAnswer.{all_behind, all_presented}
 use Rattle.server_answers.proofs.WritesData.{of_chain}
 use Rattle.server_answers.proofs.WritesGroups.{Holds, IsFormed, all_hold, all_records, count_of}
-use Rattle.server_answers.proofs.WritesZone.{keys_formed}
+use Rattle.server_answers.proofs.WritesZone.{keys_formed, parameters_formed}
 use Rattle.server_queries.specs.Queries.{Queried}
 use Rattle.server_answers.specs.Glue.{IsAddress, glue, glue_in}
 use Rattle.server_responses.specs.Links.{shows_link}
 use Rattle.server_responses.specs.Responses.{AnswersQuery, is_dnssec_ok, response_of}
 use Rattle.server_responses.specs.Sections.{written_as_handed}
-use Rattle.server_answers.specs.Outcomes.{signed_by}
+use Rattle.server_answers.specs.Outcomes.{AnswersParametersEach, signed_by}
+use Rattle.server_answers.specs.Parameters.{IsParameters, is_for_parameters}
 use Rattle.server_answers.specs.Table.{sign_by, verify_by}
 use Rattle.server_answers.proofs.Signing.{own_entries}
 use Rattle.server_answers.specs.Glued.{AnswersGlued}
 use Rattle.server_answers.specs.Responding.{IsMessage, Serving, is_for_keys}
-use Rattle.server_laws.specs.Heard.{ClientsAreTold, IsJudgedAs, IsWhole, IsZone, ResponsesJudgedAlike, is_truncated}
+use Rattle.server_laws.specs.Heard.{ClientsAreTold, IsJudgedAs, IsWhole, IsZone, ParametersJudgedAlike, ResponsesJudgedAlike, is_truncated}
 use Rattle.server_laws.proofs.Alone.{IsOther, NoSignature, SignsOther, StandsAlone, groups_alone, groups_other}
 use Rattle.server_laws.proofs.Replied.{IsUnused}
 use Rattle.server_laws.proofs.Shown.{IsAlone, all_seen, all_where_clear, flags_told, in_message, message_read, none_covers, spelled_all, unasked, whole_all}
@@ -318,19 +321,49 @@ module _ (s : Serving) (q : Queried) (octets : List ℕ) (h : IsWhole s q octets
         response_judged (flags_for told) q.asked (joined is.written.answers) (joined is.written.authorities) m s.limit s.size q alone h.size h.limit h.asked h.wanted refl refl refl (glue s.addresses m) glued.each (bare told refl)
         (unasked q m (spelled_from (first_place q.asked) (joined is.written.answers ++ joined is.written.authorities)) link_unasked) octets h.whole glued.answers
 
+  -- of an RRset of the apex
+  apex_judged : (g : Group) (keys : List Dnskey) (v : GroupView) → IsFormed g → NoSignature g → Presents v g
+      → IsAnswer by_table.sign by_table.answers.verifies s.world.zone.apex (second_of s.at) s.world.life keys 33792 (record { name = s.world.zone.apex; rtype = g.rtype; class = 1 }) (v ∷ []) [] m
+      → same q.asked.name s.world.zone.apex ≡ true → q.asked.rtype ≡ g.rtype → q.asked.class ≡ 1 → AnswersGlued s.limit s.size q s.addresses m octets → IsJudgedAs octets m
+  apex_judged g keys v formed unsigned presents written name rtype class glued =
+      let apex = s.world.zone.apex in
+      let asked : Asked = record { name = apex; rtype = g.rtype; class = 1 } in
+      let fits : IsQuestion asked = record { name = h.zone.apex_is; rtype = formed.rtype; class = lit< tt } in
+      let alone = written_alone by_table.sign by_table.answers.verifies apex (second_of s.at) s.world.life keys 33792 asked (v ∷ []) [] (g ∷ []) m
+      h.zone.apex_is fits (formed, tt) (unsigned, tt) (presents, tt) written in
+      let none : glue s.addresses m ≡ [] = no_glue 33792 asked (joined written.answers) (joined written.authorities) m s.addresses alone 33792 refl (lit< tt) refl in
+      response_judged 33792 asked (joined written.answers) (joined written.authorities) m s.limit s.size q alone h.size h.limit h.asked h.wanted
+      (same_labels (low q.asked.name) (low apex) name) rtype class (glue s.addresses m) glued.each (λ t address. inl none) (unasked q m (spelled_from (first_place asked) (joined written.answers ++ joined written.authorities)) link_unasked) octets h.whole glued.answers
+
   keys_judged : is_for_keys s.world.zone.apex q.asked ≡ true → AnswersKeysQuestion by_table s.keys s.at m → AnswersGlued s.limit s.size q s.addresses m octets → IsJudgedAs octets m
   keys_judged for_keys is glued =
       let apex = s.world.zone.apex in
       let parts = and_parts (eqb q.asked.rtype 48 && eqb q.asked.class 1) (same q.asked.name apex) for_keys in
       let numbers = and_parts (eqb q.asked.rtype 48) (eqb q.asked.class 1) parts.0 in
-      let asked : Asked = record { name = apex; rtype = 48; class = 1 } in
-      let group : Group = key_group apex (ttl_among s.world.zone.records (low apex) 6) (present_keys s.keys) in
-      let fits : IsQuestion asked = record { name = h.zone.apex_is; rtype = lit< tt; class = lit< tt } in
-      let alone = written_alone by_table.sign by_table.answers.verifies apex (second_of s.at) s.world.life _ 33792 asked (is.group ∷ []) [] (group ∷ []) m
-      h.zone.apex_is fits (key_formed by_table zone_table (present_keys s.keys), tt) (refl, tt) (is.presents, tt) is.written in
-      let none : glue s.addresses m ≡ [] = no_glue 33792 asked (joined is.written.answers) (joined is.written.authorities) m s.addresses alone 33792 refl (lit< tt) refl in
-      response_judged 33792 asked (joined is.written.answers) (joined is.written.authorities) m s.limit s.size q alone h.size h.limit h.asked h.wanted
-      (same_labels (low q.asked.name) (low apex) parts.1) (eqb-true q.asked.rtype 48 numbers.0) (eqb-true q.asked.class 1 numbers.1) (glue s.addresses m) glued.each (λ t address. inl none) (unasked q m (spelled_from (first_place asked) (joined is.written.answers ++ joined is.written.authorities)) link_unasked) octets h.whole glued.answers
+      apex_judged (key_group apex (ttl_among s.world.zone.records (low apex) 6) (present_keys s.keys)) _ is.group (key_formed by_table zone_table (present_keys s.keys)) refl is.presents is.written
+      parts.1 (eqb-true q.asked.rtype 48 numbers.0) (eqb-true q.asked.class 1 numbers.1) glued
+
+  -- of the NSEC3PARAM RRset, which a chain of names does not have
+  abbrev at_mode : Mode → World
+  at_mode mode = record s.world { zone = record s.world.zone { mode = mode } }
+
+  chain_judged : (mode : Mode) → s.world.zone.mode ≡ mode → AnswersParametersEach s.table s.world s.keys s.at m → same q.asked.name s.world.zone.apex ≡ true → q.asked.rtype ≡ 51 → q.asked.class ≡ 1
+      → AnswersGlued s.limit s.size q s.addresses m octets → IsJudgedAs octets m
+  chain_judged Nsec e each name rtype class glued =
+      absurd (subst (λ (mode : Mode). AnswersParametersEach s.table (at_mode mode) s.keys s.at m) e each (sign_by s.table) (verify_by s.table) (own_entries s.table)).0
+  chain_judged (Nsec3 iterations salt optout) e each name rtype class glued =
+      let is = (subst (λ (mode : Mode). AnswersParametersEach s.table (at_mode mode) s.keys s.at m) e each (sign_by s.table) (verify_by s.table) (own_entries s.table)).0 in
+      let handed : AreHanded s.world.zone.apex s.world.zone.records =
+      subst (AreHanded s.world.zone.apex) (sym h.zone.sorted) (are_handed s.world.answers.hash s.world.zone.apex s.world.zone.limit h.zone.records s.world.zone.mode h.zone.apex_is h.zone.records_are h.zone.accepted) in
+      apex_judged _ _ is.group (parameters_formed s.world.zone.apex s.world.zone.records handed iterations salt) refl is.presents is.written name rtype class glued
+
+  parameters_judged_of : is_for_parameters s.world.zone.apex s.world.zone.mode q.asked ≡ true → AnswersParametersEach s.table s.world s.keys s.at m → AnswersGlued s.limit s.size q s.addresses m octets → IsJudgedAs octets m
+  parameters_judged_of asked each glued =
+      let apex = s.world.zone.apex in
+      let chained = and_parts (eqb q.asked.rtype 51 && eqb q.asked.class 1 && same q.asked.name apex) _ asked in
+      let parts = and_parts (eqb q.asked.rtype 51 && eqb q.asked.class 1) (same q.asked.name apex) chained.0 in
+      let numbers = and_parts (eqb q.asked.rtype 51) (eqb q.asked.class 1) parts.0 in
+      chain_judged s.world.zone.mode refl each parts.1 (eqb-true q.asked.rtype 51 numbers.0) (eqb-true q.asked.class 1 numbers.1) glued
 
   message_judged : (keys : Bool) → is_for_keys s.world.zone.apex q.asked ≡ keys → IsMessage s q.asked keys true m → AnswersGlued s.limit s.size q s.addresses m octets → IsJudgedAs octets m
   message_judged true e is glued = keys_judged e (is (sign_by s.table) (verify_by s.table) (own_entries s.table)).0 glued
@@ -339,6 +372,9 @@ module _ (s : Serving) (q : Queried) (octets : List ℕ) (h : IsWhole s q octets
 pub responses_judged : ResponsesJudgedAlike
 responses_judged s q old new octets h r =
     message_judged s q octets h r.m (is_for_keys s.world.zone.apex q.asked) refl (subst (λ b. IsMessage s q.asked (is_for_keys s.world.zone.apex q.asked) b r.m) h.wanted r.is_message) r.answers
+
+pub parameters_judged : ParametersJudgedAlike
+parameters_judged s q m octets h asked is glued = parameters_judged_of s q octets h m asked (subst (λ b. IsParameters s b m) h.wanted is) glued
 
 pub clients_told : ClientsAreTold
 clients_told s t q p old new before behind key_octets octets whole d other r a h mode rs small given answer exact =

@@ -24,6 +24,7 @@ use Rattle.server_responses.specs.Links.{shows_link}
 use Rattle.server_responses.specs.Responses.{is_dnssec_ok}
 use Rattle.server_answers.specs.Aliases.{for_type}
 use Rattle.server_answers.specs.Glued.{AnswersGlued}
+use Rattle.server_answers.specs.Parameters.{IsParameters, is_for_parameters}
 use Rattle.server_answers.specs.Responding.{IsAnswered, IsMessage, Serving}
 use Rattle.server_answers.specs.Subset.{IsSubset, wants_signatures}
 use Rattle.server_answers.specs.Unheld.{IsDenied}
@@ -59,6 +60,12 @@ pub record IsJudgedAs (one other : List ℕ) : Type 0 where
 -- a response, and the message that it is made of
 abbrev pub ResponsesJudgedAlike : Type 0
 ResponsesJudgedAlike = (s : Serving) (q : Queried) (old new : Option ℕ) (octets : List ℕ) → IsWhole s q octets → (r : IsAnswered s q old new octets) → IsJudgedAs octets r.m
+
+-- the response to a question for the NSEC3PARAM RRset of a chain of hashes, and the message that it is made of
+abbrev pub ParametersJudgedAlike : Type 0
+ParametersJudgedAlike =
+    (s : Serving) (q : Queried) (m octets : List ℕ) → IsWhole s q octets → is_for_parameters s.world.zone.apex s.world.zone.mode q.asked ≡ true
+    → IsParameters s (is_dnssec_ok q) m → AnswersGlued s.limit s.size q s.addresses m octets → IsJudgedAs octets m
 
 -- the same of a question for any type
 pub record HoldsAll (s : Serving) (q : Queried) (octets : List ℕ) : Type 0 where

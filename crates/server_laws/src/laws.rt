@@ -1,6 +1,7 @@
 //! Laws of the responses of a name server.
 ghost use Rattle.server_laws.specs.Aliased.{AliasesAreAnswered, AllowedAreAliased};
-ghost use Rattle.server_laws.specs.Heard.{AliasesJudgedAlike, ClientsAreTold, DenialsJudgedAlike, ResponsesJudgedAlike, SubsetsJudgedAlike};
+ghost use Rattle.server_laws.specs.Heard.{AliasesJudgedAlike, ClientsAreTold, DenialsJudgedAlike};
+ghost use Rattle.server_laws.specs.Heard.{ParametersJudgedAlike, ResponsesJudgedAlike, SubsetsJudgedAlike};
 ghost use Rattle.server_laws.specs.Redirected.{RedirectsAreMade, RedirectsJudgedAlike};
 ghost use Rattle.server_laws.specs.Unheld.{AbsentAnsweredAlike, UnheldAnsweredAlike};
 ghost use Rattle.server_laws.specs.Unheld.{UnheldAnsweredAlikeWithAliases};
@@ -11,9 +12,11 @@ ghost use Rattle.server_laws.specs.Unheld.{UnheldAnsweredAlikeWithAliases};
 ///
 /// The response has the query's id, RD and spelling of the question, an OPT record, and in a denial
 /// the lesser TTL of the SOA record (RFC 2308, 3; RFC 6891, 6.1): a judge sees none of them. One
-/// without TC holds all that the message holds.
+/// without TC holds all that the message holds. The message may be that for the NSEC3PARAM RRset of
+/// a zone with a chain of hashes.
 pub fn responses_are_judged_alike()
-    ensures { ResponsesJudgedAlike }
+    ensures answers { ResponsesJudgedAlike }
+    ensures parameters { ParametersJudgedAlike }
 {}
 
 /// A response to a question for a type that the zone does not hold at the name (CNAME, DNAME,
