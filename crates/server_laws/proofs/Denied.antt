@@ -1,5 +1,5 @@
 -- A judge says of a response to a question for a type that no zone holds, or for all types, what it says of the message for the type in its place.
-use Rattle.std.proofs.Common.{length, ◌≡◌, ◌⊎◌, ℕ, ◌≤◌, ◌<◌, Bool, true, false, ◌&&◌, ◌||◌, List, [], ◌∷◌, ◌++◌, map, eqb, inl, inr, refl, sym, subst, ap, ◌∙◌, ⊎_elim, arith, lit<}
+use Rattle.std.proofs.Common.{◌≡◌, ◌⊎◌, ℕ, ◌≤◌, ◌<◌, Bool, true, false, ◌&&◌, ◌||◌, List, [], ◌∷◌, ◌++◌, length, map, eqb, inl, inr, refl, sym, subst, ap, ◌∙◌, ⊎_elim, arith, lit<}
 use Rattle.std.specs.List.{AllByRecursion}
 use Rattle.std.proofs.lemmas.Bool.{eqb-true, or_cases}
 use Rattle.definitions.specs.Limits.{pointer_limit}

@@ -57,6 +57,10 @@ pub record IsJudgedAs (one other : List ℕ) : Type 0 where
   pub answers : (a : Answers) (h : JudgeInput) → judged a pointer_limit (record h { answer_bytes = one }) ≡ judged a pointer_limit (record h { answer_bytes = other })
   pub keys : (a : Answers) (h : JudgeInput) → judged a pointer_limit (record h { dnskey_bytes = one }) ≡ judged a pointer_limit (record h { dnskey_bytes = other })
 
+-- a judge that is handed one of two messages as an answer says the same
+abbrev pub SaysAlike : Answers → JudgeInput → List ℕ → List ℕ → Type 0
+SaysAlike a h one other = judged a pointer_limit (record h { answer_bytes = one }) ≡ judged a pointer_limit (record h { answer_bytes = other })
+
 -- a response, and the message that it is made of
 abbrev pub ResponsesJudgedAlike : Type 0
 ResponsesJudgedAlike = (s : Serving) (q : Queried) (old new : Option ℕ) (octets : List ℕ) → IsWhole s q octets → (r : IsAnswered s q old new octets) → IsJudgedAs octets r.m
@@ -94,23 +98,23 @@ asks_soa apex a = (a.rtype == 6) && same a.name apex
 abbrev pub DenialsJudgedAlike : Type 0
 DenialsJudgedAlike =
     (s : Serving) (q : Queried) (old new : Option ℕ) (octets : List ℕ) → HoldsAll s q octets → (d : IsDenied s q old new octets)
-    → (a : Answers) (h : JudgeInput) → h.other_question ≡ true → (is_link_shown q d.0.m && asks_soa s.world.zone.apex h.asked) ≡ false
-    → judged a pointer_limit (record h { answer_bytes = octets }) ≡ judged a pointer_limit (record h { answer_bytes = d.0.m })
+    → (a : Answers) (h : JudgeInput) → h.other_question ≡ true
+    → (is_link_shown q d.0.m && asks_soa s.world.zone.apex h.asked) ≡ false → SaysAlike a h octets d.0.m
 
 -- The response to a question for all records or signatures of a name is made of the message for the type that is chosen, a number of 16
 -- bits: such a judge says of it what it says of that message. Only a question for NSEC has a response that shows an NSEC record so.
 abbrev pub SubsetsJudgedAlike : Type 0
 SubsetsJudgedAlike =
-    (s : Serving) (q : Queried) (old new : Option ℕ) (octets : List ℕ) → HoldsAll s q octets → (d : IsSubset s q old new octets) → is_link_shown q d.m ≡ false → d.t < 65536
-    → (a : Answers) (h : JudgeInput) → h.other_question ≡ true → judged a pointer_limit (record h { answer_bytes = octets }) ≡ judged a pointer_limit (record h { answer_bytes = d.m })
+    (s : Serving) (q : Queried) (old new : Option ℕ) (octets : List ℕ) → HoldsAll s q octets
+    → (d : IsSubset s q old new octets) → is_link_shown q d.m ≡ false → d.t < 65536 → (a : Answers) (h : JudgeInput) → h.other_question ≡ true → SaysAlike a h octets d.m
 
 -- The response to a question that the CNAME or DNAME RRset of the name answers is made of the message for that type: such a judge says
 -- of it what it says of that message.
 abbrev pub AliasesJudgedAlike : Type 0
 AliasesJudgedAlike =
-    (s : Serving) (q : Queried) (t : ℕ) (m octets : List ℕ) → HoldsAll s q octets → is_alias_type t ≡ true → IsMessage s (for_type t q.asked) false (wants_signatures q) m
-    → AnswersGlued s.limit s.size q s.addresses m octets → is_link_shown q m ≡ false
-    → (a : Answers) (h : JudgeInput) → h.other_question ≡ true → judged a pointer_limit (record h { answer_bytes = octets }) ≡ judged a pointer_limit (record h { answer_bytes = m })
+    (s : Serving) (q : Queried) (t : ℕ) (m octets : List ℕ) → HoldsAll s q octets → is_alias_type t ≡ true
+    → IsMessage s (for_type t q.asked) false (wants_signatures q) m → AnswersGlued s.limit s.size q s.addresses m octets → is_link_shown q m ≡ false
+    → (a : Answers) (h : JudgeInput) → h.other_question ≡ true → SaysAlike a h octets m
 
 -- What a zone under keys that meet has given, a DNSKEY answer and an answer, is judged by its clients as it is: from the whole responses
 -- that they have of both, whichever servers of the zone made them, the judge says the zone's verdict.

@@ -1,13 +1,11 @@
 -- What a judge says of the response to a question for a name below a DNAME, and that there is one.
 use Rattle.std.specs.Prelude.{◌≡◌, ℕ, true, false, List, Some, unwrap_or}
 use Rattle.std.specs.Option.{is_some}
-use Rattle.definitions.specs.Limits.{pointer_limit}
 use Rattle.definitions.specs.Name.{strictly_above}
 use Rattle.messages.specs.Message.{Asked}
 use Rattle.messages.specs.WrittenLaws.{IsQuestion}
 use Rattle.answer_scheme.specs.Answers.{Answers}
 use Rattle.answer_judge_keys.specs.Judging.{JudgeInput}
-use Rattle.answer_judge_facts.specs.Judged.{judged}
 use Rattle.server_queries.specs.Queries.{Queried}
 use Rattle.server_responses.specs.Redirects.{redirect_response}
 use Rattle.server_responses.specs.Responses.{error_response}
@@ -15,7 +13,7 @@ use Rattle.server_answers.specs.Aliases.{alias_of}
 use Rattle.server_answers.specs.Responding.{IsMessage, Serving}
 use Rattle.server_answers.specs.Subset.{wants_signatures}
 use Rattle.server_answers.specs.World.{served_in}
-use Rattle.server_laws.specs.Heard.{HoldsAll, IsZone}
+use Rattle.server_laws.specs.Heard.{HoldsAll, IsZone, SaysAlike}
 
 -- the question is answered by a DNAME above its name (RFC 6672, 3.2), and this is the message for that DNAME
 pub record IsRedirected (s : Serving) (q : Queried) (alias : Asked) (m : List ℕ) : Type 0 where
@@ -36,4 +34,4 @@ abbrev pub RedirectsJudgedAlike : Type 0
 RedirectsJudgedAlike =
     (s : Serving) (q : Queried) (alias : Asked) (m octets : List ℕ) → HoldsAll s q octets → IsRedirected s q alias m
     → octets ≡ unwrap_or (redirect_response s.limit s.size q m) (error_response s.size q 2)
-    → (a : Answers) (h : JudgeInput) → h.other_question ≡ true → judged a pointer_limit (record h { answer_bytes = octets }) ≡ judged a pointer_limit (record h { answer_bytes = m })
+    → (a : Answers) (h : JudgeInput) → h.other_question ≡ true → SaysAlike a h octets m

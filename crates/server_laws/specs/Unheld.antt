@@ -39,5 +39,6 @@ holds_none rs t = not (list_any (λ (r : HandedRr). r.rtype == t) rs)
 abbrev pub UnheldAnsweredAlikeWithAliases : Type 0
 UnheldAnsweredAlikeWithAliases =
     (hasher : Hasher) (apex : Name) (mode : Mode) (limit : ℕ) (rs : List HandedRr) (hash : Name → List ℕ) (q : Name) (t : ℕ)
-    → IsAcceptedWithAliases hasher apex mode limit rs → holds_none rs 65535 ≡ true → (among (48 ∷ 50 ∷ 51 ∷ []) t || (is_alias_type t && holds_none rs t)) ≡ true
+    → IsAcceptedWithAliases hasher apex mode limit rs → holds_none rs 65535 ≡ true
+    → (among (48 ∷ 50 ∷ 51 ∷ []) t || (is_alias_type t && holds_none rs t)) ≡ true
     → answer_groups (served_of apex mode hash (sorted_records rs)) q t ≡ answer_groups (served_of apex mode hash (sorted_records rs)) q 65535

@@ -1,7 +1,8 @@
 //! Laws of the responses of a name server.
 ghost use Rattle.server_laws.specs.Aliased.{AliasesAreAnswered, AllowedAreAliased};
 ghost use Rattle.server_laws.specs.Heard.{AliasesJudgedAlike, ClientsAreTold, DenialsJudgedAlike};
-ghost use Rattle.server_laws.specs.Heard.{ParametersJudgedAlike, ResponsesJudgedAlike, SubsetsJudgedAlike};
+ghost use Rattle.server_laws.specs.Heard.{ParametersJudgedAlike, ResponsesJudgedAlike};
+ghost use Rattle.server_laws.specs.Heard.{SubsetsJudgedAlike};
 ghost use Rattle.server_laws.specs.Redirected.{RedirectsAreMade, RedirectsJudgedAlike};
 ghost use Rattle.server_laws.specs.Unheld.{AbsentAnsweredAlike, UnheldAnsweredAlike};
 ghost use Rattle.server_laws.specs.Unheld.{UnheldAnsweredAlikeWithAliases};
