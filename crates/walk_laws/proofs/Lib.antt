@@ -7,6 +7,14 @@ pub mod Counting
 pub mod Deep
 pub mod Way
 pub mod Uncut
+pub mod Denied
+pub mod Parts
+pub mod Keys
+pub mod Whether
+pub mod WhetherFound
+pub mod KeysTold
+pub mod Saying
+pub mod Stuck
 pub mod Few
 pub mod Ending
 pub mod Served

@@ -5,5 +5,6 @@ pub mod Laws
 pub mod Tree
 pub mod Few
 pub mod Ending
+pub mod Keys
 pub mod Served
 pub mod Verdict

@@ -1,10 +1,10 @@
 -- Where a walk over evidence of a tree ends whose zones answer as they are published.
-use Rattle.std.specs.Prelude.{◌≡◌, ◌⊎◌, ℕ, Bool, true, false, List, [], ◌∷◌, Option, Some, None}
+use Rattle.std.specs.Prelude.{◌≡◌, ◌⊎◌, ℕ, Bool, true, List, [], ◌∷◌, Option, Some, None}
 use Rattle.definitions.specs.Dnskey.{Ds}
 use Rattle.definitions.specs.Limits.{pointer_limit}
 use Rattle.definitions.specs.Name.{Name}
-use Rattle.definitions.specs.Zone.{NoType, verdict}
 use Rattle.messages.specs.Message.{Asked}
+use Rattle.answer_scheme.specs.Moments.{second_of}
 use Rattle.answer_judge.specs.Meeting.{WasGiven}
 use Rattle.answer_judge_keys.specs.Judging.{JudgeInput}
 use Rattle.answer_judge_keys.specs.declared.verdict.Refusal.{Refusal}
@@ -12,14 +12,15 @@ use Rattle.answer_judge_keys.specs.declared.verdict.Refusal.TheVariants as r
 use Rattle.answer_findings.specs.Table.{AgreesWith, Tried, answers_with}
 use Rattle.resolution_tree.specs.Tree.{Said, refers_to}
 use Rattle.resolution_evidence.specs.Counts.{Counts}
-use Rattle.resolution_evidence.specs.Given.{Given, IsOf}
+use Rattle.resolution_evidence.specs.Given.{Given, IsOf, message_of}
 use Rattle.resolution_evidence.specs.Truth.{IsAnchored, SignedZone, zone_of}
 use Rattle.resolution_evidence.specs.Walking.{renamed}
-use Rattle.resolution_walk.specs.Between.{IsAnswerUntold, IsUnanswered, is_itself}
+use Rattle.resolution_walk.specs.Between.{IsAnswerUntold, IsUnanswered}
 use Rattle.resolution_walk.specs.Judged.{are_keys_refused}
 use Rattle.resolution_walk.specs.declared.ending.Walk.{Walk}
 use Rattle.resolution_walk.specs.declared.walk.Limits.{Limits}
 use Rattle.walk_laws.specs.Ending.{EndsInTree, IsTreesWalk, IsUntoldOf}
+use Rattle.walk_laws.specs.Keys.{KeysWereGiven}
 
 -- a question for a type, of the class that is asked for
 abbrev pub asking : Asked → Name → ℕ → Asked
@@ -33,33 +34,37 @@ pub record AreServed (passes : Tried → Bool) (e : Given) (asked : Asked) (zone
   pub given : (s : SignedZone) (ds : List Ds) (n : Name) (t : ℕ) (h : JudgeInput) → (t ≡ asked.rtype) ⊎ (t ≡ 43) → IsAnchored e zones anchor s ds
       → refers_to (zone_of s).zone n t ≡ None → IsOf e s.apex ds (asking asked n t) h → WasGiven (answers_with passes) pointer_limit h s.version.mode s.version.records
 
--- An answer of a zone for DS, at a name between and not to the question itself, is not refused: it shows that there is none at the name,
--- and not whether the name is delegated.
-pub record ShowsNoDs (s : SignedZone) (asked : Asked) (sought : Name) (t : ℕ) (refusal : Option Refusal) : Type 0 where
-  pub for_ds : t ≡ 43
-  pub other : is_itself asked sought ≡ false
-  pub none_there : verdict (zone_of s).zone (zone_of s).optout sought 43 ≡ NoType
-  pub unrefused : refusal ≡ None
+-- The DNSKEY answer of each zone, if it is there, is of keys that the zone has given under its DS set, whatever is asked beside them.
+abbrev pub ZonesKeys : (Tried → Bool) → Given → List SignedZone → SignedZone → Type 0
+ZonesKeys passes e zones anchor =
+    (s : SignedZone) (ds : List Ds) (octets : List ℕ) → IsAnchored e zones anchor s ds → message_of e s.apex s.apex 48 ≡ Some octets
+    → KeysWereGiven (answers_with passes) pointer_limit s.apex ds octets (second_of e.at)
+
+-- so where the zone refers the question on, too
+pub record AreServedWithKeys (passes : Tried → Bool) (e : Given) (asked : Asked) (zones : List SignedZone) (anchor : SignedZone) : Type 0 where
+  pub served : AreServed passes e asked zones anchor
+  pub keys : ZonesKeys passes e zones anchor
 
 -- Memory ran out while the answer to the question was judged, of a zone that refers it nowhere: whichever judgement of that answer tells
--- nothing, it is refused for want of memory. So the walk is refused; or it ends behind that answer, in one for DS at a name between.
+-- nothing, it is refused for want of memory. So the walk is refused; or, behind that answer, one for DS at a name between is.
 pub record RanOutOfMemory (asked : Asked) (cuts : ℕ) (zones : List SignedZone) (anchor : SignedZone) (names : List Name) (e : Given) (w : Walk) : Type 0 where
   pub untold : IsUntoldOf asked cuts zones anchor names e w
   pub unreferred : refers_to (zone_of untold.zone).zone untold.name asked.rtype ≡ None
   pub answer : IsUnanswered e (renamed asked untold.name) untold.zone.apex untold.ds
   pub memory : (refusal : Option Refusal) (counts : Counts) → IsAnswerUntold e (renamed asked untold.name) untold.zone.apex untold.ds refusal counts → refusal ≡ Some r.Memory
-  pub ends : (untold.refusal ≡ Some r.Memory) ⊎ ShowsNoDs untold.zone (renamed asked untold.name) untold.sought untold.rtype untold.refusal
+  pub ends : untold.refusal ≡ Some r.Memory
 
--- Why a walk ends in an answer that tells nothing: memory ran out while the answer to the question was judged; or, of a zone that refers
--- the name on, while one for DS was; or such a zone's keys are refused; or its answer for DS shows that there is none at a name, and not
--- whether the name is delegated.
+-- Memory ran out while an answer was judged: of a zone that refers the question nowhere; or, of one that refers the name on, an answer for
+-- DS at a name between.
+pub data LacksMemory (asked : Asked) (cuts : ℕ) (zones : List SignedZone) (anchor : SignedZone) (names : List Name) (e : Given) (w : Walk) : Type 0 where
+  AtEnd : RanOutOfMemory asked cuts zones anchor names e w → LacksMemory asked cuts zones anchor names e w
+  ForDs : (u : IsUntoldOf asked cuts zones anchor names e w) (c : Name) → refers_to (zone_of u.zone).zone u.name asked.rtype ≡ Some c → u.rtype ≡ 43 → u.refusal ≡ Some r.Memory
+      → LacksMemory asked cuts zones anchor names e w
+
+-- Why a walk ends in an answer that tells nothing: memory ran out; or the keys of a zone that refers the name on are refused.
 pub data IsLeftUntold (asked : Asked) (cuts : ℕ) (zones : List SignedZone) (anchor : SignedZone) (names : List Name) (e : Given) (w : Walk) : Type 0 where
-  OfMemory : RanOutOfMemory asked cuts zones anchor names e w → IsLeftUntold asked cuts zones anchor names e w
-  OfMemoryForDs : (u : IsUntoldOf asked cuts zones anchor names e w) (c : Name) → refers_to (zone_of u.zone).zone u.name asked.rtype ≡ Some c → u.rtype ≡ 43 → u.refusal ≡ Some r.Memory
-      → IsLeftUntold asked cuts zones anchor names e w
+  OfMemory : LacksMemory asked cuts zones anchor names e w → IsLeftUntold asked cuts zones anchor names e w
   OfKeys : (u : IsUntoldOf asked cuts zones anchor names e w) (c : Name) → refers_to (zone_of u.zone).zone u.name asked.rtype ≡ Some c → are_keys_refused u.refusal ≡ true
-      → IsLeftUntold asked cuts zones anchor names e w
-  OfNoDs : (u : IsUntoldOf asked cuts zones anchor names e w) (c : Name) → refers_to (zone_of u.zone).zone u.name asked.rtype ≡ Some c → ShowsNoDs u.zone (renamed asked u.name) u.sought u.rtype u.refusal
       → IsLeftUntold asked cuts zones anchor names e w
 
 -- A walk over such evidence is stuck only so. Zones that lead on by aliases are not covered: what they give is not that of accepted zones,
@@ -69,6 +74,13 @@ ServedTreesAreWalked =
     (passes : Tried → Bool) (e : Given) (asked : Asked) (limits : Limits) (zones : List SignedZone) (anchor : SignedZone) (said : Said) (names : List Name) (w : Walk)
     → IsTreesWalk e asked limits zones anchor said names w → AreServed passes e asked zones anchor
     → EndsInTree (IsLeftUntold asked limits.cuts zones anchor names) e limits said names w
+
+-- Where the keys of all zones were given, only memory stops a walk.
+abbrev pub KeyedTreesAreWalked : Type 0
+KeyedTreesAreWalked =
+    (passes : Tried → Bool) (e : Given) (asked : Asked) (limits : Limits) (zones : List SignedZone) (anchor : SignedZone) (said : Said) (names : List Name) (w : Walk)
+    → IsTreesWalk e asked limits zones anchor said names w → AreServedWithKeys passes e asked zones anchor
+    → EndsInTree (LacksMemory asked limits.cuts zones anchor names) e limits said names w
 
 -- Of one zone without any alias, that refers the question nowhere, only memory stops a walk.
 abbrev pub ServedZonesAreWalked : Type 0

@@ -17,7 +17,7 @@ use Rattle.resolution_walk.specs.declared.walk.Limits.{Limits}
 use Rattle.walk_laws.specs.Ending.{IsUntoldOf, LeaveRoom}
 use Rattle.walk_laws.specs.Few.{IsReadOfTree}
 use Rattle.walk_laws.specs.Loop.{Caller, Reaches, Walks}
-use Rattle.walk_laws.specs.Served.{AreServed, RanOutOfMemory}
+use Rattle.walk_laws.specs.Served.{AreServed, AreServedWithKeys, LacksMemory, RanOutOfMemory}
 use Rattle.walk_laws.specs.Tree.{most_wanted}
 
 -- A walk says what the tree says, through its aliases; or it asks for more signatures than are allowed; or it is stuck.
@@ -61,3 +61,12 @@ ZonesComeToVerdicts =
     → refers_to (zone_of zone).zone asked.name asked.rtype ≡ None → IsTreesLoop c asked limits most walks from (zone ∷ []) zone said []
     → ((calls : ℕ) (e : Given) → Reaches c asked limits most walks from calls e → AreServed c.passes e asked (zone ∷ []) zone)
     → Comes (RanOutOfMemory asked limits.cuts (zone ∷ []) zone []) (wanted_on_way asked limits from (zone ∷ []) zone []) c asked limits most walks from said []
+
+-- Of a tree whose zones answer as they are published, and have given their keys, for a question that is allowed in each zone that refers it
+-- nowhere. Zones that lead on by aliases are not covered.
+abbrev pub TreesComeToVerdicts : Type 0
+TreesComeToVerdicts =
+    (c : Caller) (asked : Asked) (limits : Limits) (most : ℕ) (walks : (e : Given) → Walks asked limits e) (from : Given) (zones : List SignedZone) (anchor : SignedZone) (said : Said) (names : List Name)
+    → IsTreesLoop c asked limits most walks from zones anchor said names
+    → ((calls : ℕ) (e : Given) → Reaches c asked limits most walks from calls e → AreServedWithKeys c.passes e asked zones anchor)
+    → Comes (LacksMemory asked limits.cuts zones anchor names) (wanted_on_way asked limits from zones anchor names) c asked limits most walks from said names

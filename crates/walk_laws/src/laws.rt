@@ -4,8 +4,17 @@ ghost use Rattle.walk_laws.specs.Few.{TreesWantFew, ZonesAreFew};
 ghost use Rattle.walk_laws.specs.Found.{MessagesAreFound};
 ghost use Rattle.walk_laws.specs.Laws.{LoopsAreShort, LoopsEnd};
 ghost use Rattle.walk_laws.specs.New.{NothingIsWantedTwice};
-ghost use Rattle.walk_laws.specs.Served.{ServedTreesAreWalked, ServedZonesAreWalked};
-ghost use Rattle.walk_laws.specs.Verdict.{LoopsComeToVerdicts, ZonesComeToVerdicts};
+ghost use Rattle.walk_laws.specs.Keys.{GivenKeysAreTrusted};
+ghost use Rattle.walk_laws.specs.Served.{
+  KeyedTreesAreWalked,
+  ServedTreesAreWalked,
+  ServedZonesAreWalked,
+};
+ghost use Rattle.walk_laws.specs.Verdict.{
+  LoopsComeToVerdicts,
+  TreesComeToVerdicts,
+  ZonesComeToVerdicts,
+};
 
 use resolution_tree::laws::{trees_resolve_to_one, trees_say_one};
 
@@ -58,16 +67,31 @@ pub fn trees_are_walked()
     trees_resolve_to_one();
 }
 
+/// A judge does not refuse the keys of a DNSKEY answer that a zone has given, under a DS set that
+/// names one of them, whatever it is asked and whatever answer stands beside them. A zone that has
+/// given an answer under keys that meet has given them so.
+pub fn given_keys_are_trusted()
+    ensures { GivenKeysAreTrusted }
+{}
+
 /// Where zones without any alias answer allowed questions as they are published, what they refer
 /// nowhere and DS at the names between too, and signatures are checked truly, a walk is stuck only
 /// in the refusal of an answer for want of memory; or of the keys of a zone that refers the name
-/// on; or in an answer for DS that shows that there is none at a name, and not whether the name is
-/// delegated. Of a zone that refers the question nowhere, the last is only behind its own answer,
-/// which is refused for want of memory wherever it tells nothing. Allowed are questions of class
-/// IN, and for none of the types 0, 5, 39, 41, 46, 47, 48, 50, 51, and 128 to 255. Zones that lead
-/// on by aliases are not covered.
+/// on. Of a zone that refers the question nowhere, its own answer is refused for want of memory
+/// wherever it tells nothing. So no answer for DS leaves open whether a name is delegated. Allowed
+/// are questions of class IN, and for none of the types 0, 5, 39, 41, 46, 47, 48, 50, 51, and 128 to
+/// 255. Zones that lead on by aliases are not covered.
 pub fn served_trees_are_walked()
     ensures { ServedTreesAreWalked }
+{
+    trees_say_one();
+    trees_resolve_to_one();
+}
+
+/// Where the DNSKEY answers of these zones, if they are there, are of keys that the zones have
+/// given, also where they refer the name on, a walk is stuck only for want of memory.
+pub fn keyed_trees_are_walked()
+    ensures { KeyedTreesAreWalked }
 {
     trees_say_one();
     trees_resolve_to_one();
@@ -76,7 +100,7 @@ pub fn served_trees_are_walked()
 /// So a walk over the messages of one zone without any alias, for an allowed question that it
 /// refers nowhere, ends in the zone's verdict, or more is wanted, or memory ran out: whichever
 /// judgement of its answer tells nothing, it is refused for want of memory. The walk ends in that
-/// refusal, or behind it in one for DS at a name between, or in an answer for DS that shows none.
+/// refusal, or behind it in one for DS at a name between.
 pub fn served_zones_are_walked()
     ensures { ServedZonesAreWalked }
 {
@@ -101,6 +125,16 @@ pub fn loops_come_to_verdicts()
 /// are allowed, or memory runs out as it does for `served_zones_are_walked`.
 pub fn zones_come_to_verdicts()
     ensures { ZonesComeToVerdicts }
+{
+    trees_say_one();
+    trees_resolve_to_one();
+}
+
+/// Of a tree whose zones, without any alias, answer allowed questions as they are published, and
+/// have given their keys, the loop ends in what the tree says, unless more signatures are asked for
+/// than are allowed, or memory runs out. Zones that lead on by aliases are not covered.
+pub fn trees_come_to_verdicts()
+    ensures { TreesComeToVerdicts }
 {
     trees_say_one();
     trees_resolve_to_one();
