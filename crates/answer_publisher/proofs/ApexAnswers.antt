@@ -1,7 +1,6 @@
 -- Answers of one RRset of the apex.
-use Rattle.std.proofs.Common.{◌≡◌, ℕ, Bool, List, [], ◌∷◌, Option, Some, None, refl, subst, sym}
-use Rattle.std.specs.Prelude.{IsSome, IsSomeAnd}
-use Rattle.std.specs.Option.{option_map_or}
+use Rattle.std.proofs.Common.{ℕ, Bool, List, [], ◌∷◌, Option, Some, subst}
+use Rattle.std.specs.Prelude.{IsSomeAnd}
 use Rattle.definitions.specs.Limits.{pointer_limit}
 use Rattle.definitions.specs.Name.{Name, low}
 use Rattle.definitions.specs.Dnskey.{Dnskey}
@@ -9,14 +8,12 @@ use Rattle.definitions.specs.ZoneChain.{Mode, Nsec, Nsec3}
 use Rattle.messages.specs.Handed.{AreHanded}
 use Rattle.messages.specs.HandedRr.{HandedRr}
 use Rattle.answer_shared.specs.Given.{Gives}
-use Rattle.answer_shared.specs.GroupView.{GroupView, Presents, view_of}
+use Rattle.answer_shared.specs.GroupView.{GroupView, Presents}
 use Rattle.answer_shared.specs.Served.{Group, by_tag, ttl_among}
 use Rattle.answer_publisher.specs.Answering.{AnswersApex, RefusesApex, ahead_of_records, apex_question}
 use Rattle.answer_publisher.specs.Composed.{IsAnswer, RefusesGroups}
-use Rattle.answer_publisher.specs.Inputs.{all_inputs}
 use Rattle.answer_publisher.specs.Parameters.{OfBoth, parameters_group, parameters_of_chain}
 use Rattle.answer_publisher.specs.declared.fault.AnswerFault.{AnswerFault}
-use Rattle.answer_publisher.proofs.InputsMade.{inputs_of_one}
 use Rattle.answer_publisher.proofs.Refusals.{apex_refused}
 use Rattle.answer_publisher.proofs.WritesGiven.{apex_given}
 use Rattle.answer_publisher.proofs.WritesZone.{parameters_formed}
@@ -39,11 +36,6 @@ module _ (sign : Dnskey → List ℕ → Option (List ℕ)) (verifies : Dnskey �
   abbrev Seen : Mode → GroupView → Type 0
   Seen mode g = OfBoth (λ of v. Presents v of) (parameters_of_chain apex ttl mode) (Some g)
 
-  pub parameters_answered : (keys : List Dnskey) (mode : Mode) (g : GroupView) (m : List ℕ) → Seen mode g → IsAnswer sign verifies apex at life keys 33792 (apex_question apex g.rtype) (g ∷ []) [] m
-      → OfBoth (AnswersApex sign verifies apex at life keys) (parameters_of_chain apex ttl mode) (Some m)
-  parameters_answered keys Nsec g m seen w = absurd seen
-  parameters_answered keys (Nsec3 iterations salt optout) g m seen w = apex_answered sign verifies apex at life keys (parameters_group apex ttl iterations salt) g m seen w
-
   pub parameters_given : (signers : List Dnskey) (mode : Mode) (g : GroupView) (m : List ℕ) → AreHanded apex rs → Seen mode g → IsAnswer sign verifies apex at life (by_tag signers) 33792 (apex_question apex g.rtype) (g ∷ []) [] m
       → OfBoth (λ of b. Gives verifies pointer_limit apex at life (by_tag signers) (apex_question apex of.rtype) (of ∷ []) b) (parameters_of_chain apex ttl mode) (Some m)
   parameters_given signers Nsec g m handed seen w = absurd seen
@@ -56,24 +48,3 @@ module _ (sign : Dnskey → List ℕ → Option (List ℕ)) (verifies : Dnskey �
       → IsSomeAnd (parameters_of_chain apex ttl mode) (λ of. RefusesApex sign verifies apex at life keys of f)
   parameters_refused keys Nsec g f seen r = absurd seen
   parameters_refused keys (Nsec3 iterations salt optout) g f seen r = apex_refused sign verifies apex at life keys (parameters_group apex ttl iterations salt) g f seen r
-
-module _ (apex : Name) (at life : ℕ) (keys : List Dnskey) where
-  pub parameters_over : (o : Option Group) (g : GroupView) → OfBoth (λ of v. Presents v of) o (Some g)
-      → all_inputs apex at life keys (g ∷ []) ≡ option_map_or (λ of. all_inputs apex at life keys (view_of of ∷ [])) o []
-  parameters_over None g seen = absurd seen
-  parameters_over (Some of) g seen = inputs_of_one apex at life keys g of seen
-
-  pub over_none : (o : Option Group) → OfBoth (λ (of : Group) (v : GroupView). Presents v of) o None → [] ≡ option_map_or (λ of. all_inputs apex at life keys (view_of of ∷ [])) o []
-  over_none None h = refl
-  over_none (Some of) h = absurd h
-
--- of a chain, whichever it is seen to be
-pub of_names : (apex : Name) (ttl : ℕ) (mode : Mode) → mode ≡ Nsec → OfBoth (λ (of : Group) (v : GroupView). Presents v of) (parameters_of_chain apex ttl mode) None
-of_names apex ttl mode e = subst (λ (m : Mode). OfBoth (λ (of : Group) (v : GroupView). Presents v of) (parameters_of_chain apex ttl m) None) (sym e) tt
-
-pub of_hashes : (apex : Name) (ttl : ℕ) (mode : Mode) (iterations : ℕ) (salt : List ℕ) (optout : Bool) (g : GroupView) → mode ≡ Nsec3 iterations salt optout → Presents g (parameters_group apex ttl iterations salt)
-    → OfBoth (λ (of : Group) (v : GroupView). Presents v of) (parameters_of_chain apex ttl mode) (Some g)
-of_hashes apex ttl mode iterations salt optout g e p = subst (λ (m : Mode). OfBoth (λ (of : Group) (v : GroupView). Presents v of) (parameters_of_chain apex ttl m) (Some g)) (sym e) p
-
-pub there_of_hashes : (apex : Name) (ttl : ℕ) (mode : Mode) (iterations : ℕ) (salt : List ℕ) (optout : Bool) → mode ≡ Nsec3 iterations salt optout → IsSome (parameters_of_chain apex ttl mode)
-there_of_hashes apex ttl mode iterations salt optout e = subst (λ (m : Mode). IsSome (parameters_of_chain apex ttl m)) (sym e) refl
