@@ -7,13 +7,14 @@
 #include "ds_set.h"
 #include "show.h"
 #include "signature.h"
+#include "verdict.h"
 
 #include <ctype.h>
 #include <stdlib.h>
 #include <time.h>
 #include <unistd.h>
 
-enum { PROVEN = 0, NOT_PROVEN = 1, FAILED = 2, DS = 43 };
+enum { PROVEN = 0, NOT_PROVEN = 1, FAILED = 2 };
 
 /* A judgement, with the signatures that were checked for it. */
 struct judgement {
@@ -93,51 +94,6 @@ static void judge(struct zermuita_case handed, struct judgement *judgement) {
     } while (judgement->reply == ZERMUITA_ASK && check(judgement));
 }
 
-/* What stands before the names of a reply. */
-static const char *const before_names[][2] = {
-    [ZERMUITA_DELEGATED] = {" at ", NULL},
-    [ZERMUITA_ALIAS] = {" to ", NULL},
-    [ZERMUITA_WILDCARD_ALIAS] = {" to ", NULL},
-    [ZERMUITA_DNAME] = {" at ", " to "},
-    [ZERMUITA_REFERRAL] = {" at ", NULL},
-};
-
-/* Prints the names and the records of a verdict. */
-static void tell_octets(const struct judgement *judgement, uint16_t rtype) {
-    struct zermuita_octets rest = {judgement->out, judgement->report.len}, part;
-    const char *separator = judgement->reply == ZERMUITA_REFERRAL ? ": " : " ";
-    if (judgement->reply < sizeof before_names / sizeof *before_names) {
-        for (size_t i = 0; i < 2 && before_names[judgement->reply][i] != NULL && zermuita_next_name(&rest, &part); i++) {
-            fputs(before_names[judgement->reply][i], stdout);
-            print_name(stdout, part, 0);
-        }
-    }
-    while (zermuita_next_record(&rest, &part)) {
-        fputs(separator, stdout);
-        print_data(stdout, judgement->reply == ZERMUITA_REFERRAL ? DS : rtype, part, 0, part.len);
-        separator = ", ";
-    }
-}
-
-/* Prints a verdict, or why there is none. */
-static void tell_reply(const struct judgement *judgement, uint16_t rtype) {
-    static const char *const verdicts[] = {
-        "records", "NODATA",   "NXDOMAIN", "wildcard",       "wildcard NODATA", "delegated",
-        "opt-out", "insecure", "alias",    "wildcard alias", "DNAME",           "referral",
-    };
-    static const char *const delegates[] = {"", ", at a delegation", ", at no delegation"};
-    if (judgement->reply >= sizeof verdicts / sizeof *verdicts) {
-        printf("%s: %s", is_bogus(judgement->reply) ? "bogus" : "refused", zermuita_strerror(judgement->reply));
-        return;
-    }
-    fputs(verdicts[judgement->reply], stdout);
-    fputs(delegates[judgement->report.delegates % 3], stdout);
-    tell_octets(judgement, rtype);
-    if (judgement->reply == ZERMUITA_INSECURE && judgement->report.ede != 0) {
-        fputs(": no DS record has an algorithm and a digest that are known here", stdout);
-    }
-}
-
 /* Prints what is said, and gives the status. */
 static int tell(const struct judgement *judgement, uint16_t rtype) {
     /* Each signature is work for whoever checks it, and a message may have hundreds (CVE-2023-50387), or long ones. */
@@ -151,10 +107,12 @@ static int tell(const struct judgement *judgement, uint16_t rtype) {
         fprintf(stderr, "probe: not judged: %s\n", zermuita_strerror(judgement->reply));
         return FAILED;
     }
-    tell_reply(judgement, rtype);
-    if (judgement->report.ede != 0) {
-        printf(" (EDE %u)", judgement->report.ede);
+    if (zermuita_is_verdict(judgement->reply)) {
+        print_verdict(stdout, judgement->reply, &judgement->report, (struct zermuita_octets){judgement->out, judgement->report.len}, rtype);
+    } else {
+        printf("%s: %s", is_bogus(judgement->reply) ? "bogus" : "refused", zermuita_strerror(judgement->reply));
     }
+    print_ede(stdout, judgement->report.ede);
     printf("; %u signatures checked, %llu looked up, %llu names hashed", judgement->signatures,
            (unsigned long long)judgement->report.verifications, (unsigned long long)judgement->report.hashes);
     if (judgement->report.until > 0) {
@@ -165,7 +123,7 @@ static int tell(const struct judgement *judgement, uint16_t rtype) {
 }
 
 static void show_answer(const char *what, const struct answer *answer, const struct judgement *judgement) {
-    printf("; answer for %s over %s\n", what, answer->is_by_tcp ? "TCP" : "UDP");
+    printf("; answer for %s over %s\n", what, answer->course.is_by_tcp ? "TCP" : "UDP");
     show((struct zermuita_octets){answer->octets, answer->len}, (struct zermuita_octets){judgement->checked, judgement->checked_len});
 }
 
@@ -174,7 +132,7 @@ static int probe(const struct options *options, const struct addrinfo *server, s
                  const struct name *name) {
     static struct answer dnskey, answer;
     static struct judgement judgement;
-    if (!ask(server, TO_SERVER, zone, 48, &dnskey) || !ask(server, TO_SERVER, name, handed.rtype, &answer)) {
+    if (!ask(server, TO_SERVER, zone, TYPE_DNSKEY, NULL, &dnskey) || !ask(server, TO_SERVER, name, handed.rtype, NULL, &answer)) {
         fputs("probe: no answer\n", stderr);
         return FAILED;
     }

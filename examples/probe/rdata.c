@@ -4,6 +4,8 @@
 #include <stdlib.h>
 #include <time.h>
 
+static const char BASE32HEX[] = "0123456789ABCDEFGHIJKLMNOPQRSTUV";
+
 /* A record's data that are printed, from a place on. They have failed where a part is not there. */
 struct data {
     FILE *file;
@@ -43,14 +45,6 @@ static void address(struct data *data, int family, size_t len) {
     }
 }
 
-static void moment(struct data *data) {
-    time_t seconds = take_number(data, 4);
-    struct tm parts;
-    char text[16];
-    strftime(text, sizeof text, "%Y%m%d%H%M%S", gmtime_r(&seconds, &parts));
-    fputs(text, data->file);
-}
-
 static void string(struct data *data) {
     struct zermuita_octets octets = take(data, take_number(data, 1));
     fputc('"', data->file);
@@ -88,8 +82,13 @@ static void digits(struct data *data, struct zermuita_octets octets, size_t widt
     }
 }
 
+void print_hash(FILE *file, struct zermuita_octets hash) {
+    struct data data = {.file = file};
+    digits(&data, hash, 5, 1, BASE32HEX);
+}
+
 /* The types of a bitmap (RFC 4034, 4.1.2). */
-static void bitmap(struct data *data) {
+static void bitmap(struct data *data, const char *between) {
     const char *separator = "";
     while (data->at < data->end && !data->failed) {
         uint32_t window = take_number(data, 1);
@@ -98,10 +97,15 @@ static void bitmap(struct data *data) {
             if (bits.data[i / 8] >> (7 - i % 8) & 1) {
                 fputs(separator, data->file);
                 print_type(data->file, (uint16_t)(window << 8 | i));
-                separator = " ";
+                separator = between;
             }
         }
     }
+}
+
+void print_types(FILE *file, struct zermuita_octets types, const char *between) {
+    struct data data = {file, types, 0, types.len, false};
+    bitmap(&data, between);
 }
 
 /* A part of a form: a name, an address, a number of so many octets, a type, a moment, strings, octets in digits, a bitmap. */
@@ -125,7 +129,7 @@ static void part(struct data *data, char form) {
         print_type(data->file, (uint16_t)take_number(data, 2));
         break;
     case 'm':
-        moment(data);
+        print_moment(data->file, take_number(data, 4));
         break;
     case 's':
         string(data);
@@ -137,13 +141,13 @@ static void part(struct data *data, char form) {
         hexadecimal(data, take(data, take_number(data, 1)));
         break;
     case 'H':
-        digits(data, take(data, take_number(data, 1)), 5, 1, "0123456789ABCDEFGHIJKLMNOPQRSTUV");
+        digits(data, take(data, take_number(data, 1)), 5, 1, BASE32HEX);
         break;
     case 'b':
         digits(data, take_rest(data), 6, 4, "ABCDEFGHIJKLMNOPQRSTUVWXYZabcdefghijklmnopqrstuvwxyz0123456789+/");
         break;
     case 'T':
-        bitmap(data);
+        bitmap(data, " ");
         break;
     }
 }

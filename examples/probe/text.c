@@ -3,6 +3,7 @@
 #include <ctype.h>
 #include <stdlib.h>
 #include <strings.h>
+#include <time.h>
 
 static const struct type types[] = {
     {1, "A", "a"},
@@ -133,6 +134,14 @@ void print_type(FILE *file, uint16_t rtype) {
     }
 }
 
+void print_moment(FILE *file, uint32_t moment) {
+    time_t seconds = moment;
+    struct tm parts;
+    char text[16];
+    strftime(text, sizeof text, "%Y%m%d%H%M%S", gmtime_r(&seconds, &parts));
+    fputs(text, file);
+}
+
 void print_octet(FILE *file, uint8_t octet, const char *escaped) {
     if (octet <= ' ' || octet > '~') {
         fprintf(file, "\\%03u", octet);
@@ -141,25 +150,45 @@ void print_octet(FILE *file, uint8_t octet, const char *escaped) {
     }
 }
 
-size_t print_name(FILE *file, struct zermuita_octets octets, size_t at) {
-    size_t taken = 0, start = at, whole = 1; /* a name has 255 octets at most, in whole */
-    for (int labels = 0; at < octets.len && labels < 256; labels++) {
+size_t read_name(struct zermuita_octets octets, size_t at, struct name *name) {
+    size_t taken = 0, start = at;
+    name->len = 0;
+    for (int steps = 0; at < octets.len && steps < 256; steps++) {
         uint8_t len = octets.data[at];
         if (len >= 0xc0 && at + 1 < octets.len) {
             taken = taken == 0 ? at + 2 - start : taken;
             at = (size_t)(len & 0x3f) << 8 | octets.data[at + 1];
         } else if (len == 0) {
-            fputs(labels == 0 ? "." : "", file);
+            name->octets[name->len++] = 0;
             return taken == 0 ? at + 1 - start : taken;
-        } else if (len < 64 && octets.len - at > len && (whole += 1 + (size_t)len) <= 255) {
-            for (size_t i = at + 1; i <= at + len; i++) {
-                print_octet(file, octets.data[i], ".\\\"();@$");
-            }
-            fputc('.', file);
+        } else if (len < 64 && octets.len - at > len && name->len + 1 + len < sizeof name->octets) {
+            memcpy(name->octets + name->len, octets.data + at, 1 + (size_t)len);
+            name->len += 1 + (size_t)len;
             at += 1 + (size_t)len;
         } else {
             return 0;
         }
     }
     return 0;
+}
+
+void print_wire(FILE *file, const struct name *name) {
+    if (name->len == 1) {
+        fputc('.', file);
+    }
+    for (size_t label = 0; label < name->len && name->octets[label] != 0; label += 1 + (size_t)name->octets[label]) {
+        for (size_t i = label + 1; i <= label + name->octets[label]; i++) {
+            print_octet(file, name->octets[i], ".\\\"();@$");
+        }
+        fputc('.', file);
+    }
+}
+
+size_t print_name(FILE *file, struct zermuita_octets octets, size_t at) {
+    struct name name;
+    size_t taken = read_name(octets, at, &name);
+    if (taken > 0) {
+        print_wire(file, &name);
+    }
+    return taken;
 }

@@ -37,11 +37,25 @@ long octets_of_hex(const char *digits, uint8_t *octets, size_t room);
 
 void print_type(FILE *file, uint16_t rtype);
 
+/* Prints a moment, in seconds since 1970, as zone files have it (RFC 4034, 3.2). */
+void print_moment(FILE *file, uint32_t moment);
+
 /* Prints an octet of a text, by its number where it has no sign, and behind a backslash where it is one of some signs. */
 void print_octet(FILE *file, uint8_t octet, const char *escaped);
 
-/* Prints the name at a place, and says how many octets it takes there, or 0 where there is none. Pointers lead back into the octets. */
+/* Reads the name at a place, and says how many octets it takes there, or 0 where there is none. Pointers lead into the octets. */
+size_t read_name(struct zermuita_octets octets, size_t at, struct name *name);
+
+void print_wire(FILE *file, const struct name *name);
+
+/* Prints the name at a place; what it says is that of read_name. */
 size_t print_name(FILE *file, struct zermuita_octets octets, size_t at);
+
+/* Prints the hash of a name in digits of base32hex (RFC 5155, 3.3). */
+void print_hash(FILE *file, struct zermuita_octets hash);
+
+/* Prints the types of a bitmap (RFC 4034, 4.1.2), with something between them. */
+void print_types(FILE *file, struct zermuita_octets bitmap, const char *between);
 
 /* Prints a record's data, whose names may have pointers into the octets that they stand in. */
 void print_data(FILE *file, uint16_t rtype, struct zermuita_octets octets, size_t at, size_t len);

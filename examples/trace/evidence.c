@@ -3,40 +3,48 @@
 
 #include <stdlib.h>
 
+/* Memory that was asked for. Ends the program where there is none. */
+static void *or_exit(void *memory) {
+    if (memory == NULL) {
+        fputs("trace: out of memory\n", stderr);
+        exit(2);
+    }
+    return memory;
+}
+
 uint8_t *grown(struct buffer *buffer, size_t len) {
-    if (buffer->room - buffer->len < len) {
-        buffer->room = 2 * (buffer->room + len);
-        buffer->data = realloc(buffer->data, buffer->room);
-        if (buffer->data == NULL) {
-            fputs("trace: out of memory\n", stderr);
-            exit(2);
-        }
+    if (buffer->data == NULL || buffer->room - buffer->len < len) {
+        buffer->room = 2 * (buffer->room + len) + 1;
+        buffer->data = or_exit(realloc(buffer->data, buffer->room));
     }
     buffer->len += len;
     return buffer->data + buffer->len - len;
+}
+
+void *longer(void *items, size_t count, size_t size) {
+    return or_exit(reallocarray(items, count + 1, size));
 }
 
 struct zermuita_octets octets_of(const struct buffer *buffer) {
     return (struct zermuita_octets){buffer->data, buffer->len};
 }
 
-static struct name name_of(struct zermuita_octets octets) {
-    struct name name = {.len = octets.len};
-    memcpy(name.octets, octets.data, octets.len);
-    return name;
+struct zermuita_octets message_of(const struct evidence *evidence, const struct step *step) {
+    return (struct zermuita_octets){evidence->messages.data + step->at, step->len};
 }
 
 void add_message(struct evidence *evidence, const struct zermuita_wanted *wanted, struct zermuita_octets message, const char *server,
-                 bool is_by_tcp) {
-    size_t taken = evidence->count * sizeof *evidence->steps;
-    struct buffer steps = {(uint8_t *)evidence->steps, taken, taken};
-    struct step *step = (struct step *)(void *)grown(&steps, sizeof *step);
+                 const struct course *course) {
+    evidence->steps = longer(evidence->steps, evidence->count, sizeof *evidence->steps);
+    struct step *step = &evidence->steps[evidence->count++];
     size_t room = zermuita_message_room(wanted, message.len);
-    *step = (struct step){.zone = name_of(wanted->zone), .name = name_of(wanted->name), .rtype = wanted->rtype, .is_by_tcp = is_by_tcp,
-                          .at = evidence->messages.len + room - message.len, .len = message.len};
+    *step = (struct step){.zone = name_of_octets(wanted->zone), .name = name_of_octets(wanted->name), .rtype = wanted->rtype,
+                          .is_from_server = course != NULL, .at = evidence->messages.len + room - message.len, .len = message.len};
+    if (course != NULL) {
+        step->course = *course;
+        step->course.at = NULL;
+    }
     snprintf(step->server, sizeof step->server, "%s", server);
-    evidence->steps = (struct step *)(void *)steps.data;
-    evidence->count++;
     zermuita_put_message(grown(&evidence->messages, room), wanted, message);
 }
 
@@ -50,12 +58,28 @@ void add_checked(struct evidence *evidence, uint8_t *asks, size_t len) {
     memcpy(grown(&evidence->checked, len), asks, len);
 }
 
+static bool is_same(struct zermuita_octets a, struct zermuita_octets b) {
+    return a.len == b.len && memcmp(a.data, b.data, a.len) == 0;
+}
+
+bool passes_here(const struct evidence *evidence, const struct zermuita_ask *ask) {
+    uint8_t *next = evidence->checked.data;
+    struct zermuita_ask entry;
+    for (size_t left = evidence->checked.len; zermuita_next_ask(&next, &left, &entry);) {
+        if (is_same(entry.signature, ask->signature) && is_same(entry.dnskey, ask->dnskey) && is_same(entry.octets, ask->octets)) {
+            return *entry.passes == 1;
+        }
+    }
+    return signature_passes(ask);
+}
+
 bool save(const char *path, uint64_t moment, const struct evidence *evidence) {
     FILE *file = fopen(path, "wb");
     for (int shift = 56; file != NULL && shift >= 0; shift -= 8) {
         fputc((int)(moment >> shift & 255), file);
     }
-    bool is_written = file != NULL && fwrite(evidence->messages.data, 1, evidence->messages.len, file) == evidence->messages.len;
+    size_t len = evidence->messages.len;
+    bool is_written = file != NULL && (len == 0 || fwrite(evidence->messages.data, 1, len, file) == len);
     return file != NULL && fclose(file) == 0 && is_written;
 }
 
@@ -96,8 +120,14 @@ bool load(const char *path, uint64_t *moment, struct evidence *evidence) {
             free(read.data);
             return false;
         }
-        add_message(evidence, &wanted, message, path, false);
+        add_message(evidence, &wanted, message, path, NULL);
     }
     free(read.data);
     return true;
+}
+
+void free_evidence(struct evidence *evidence) {
+    free(evidence->messages.data);
+    free(evidence->checked.data);
+    free(evidence->steps);
 }
