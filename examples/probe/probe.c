@@ -67,7 +67,11 @@ static bool read_ds_set(struct ds_set *ds, char *text) {
     while (is_read && fgets(line, sizeof line, file) != NULL) {
         is_read = !has_record(line) || add_ds(ds, line);
     }
-    return is_read && !ferror(file);
+    is_read = is_read && !ferror(file);
+    if (file != stdin) {
+        fclose(file);
+    }
+    return is_read;
 }
 
 /* Checks the signatures that are asked for, and adds them to those that were. False where there is no room for them. */

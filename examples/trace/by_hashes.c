@@ -90,7 +90,7 @@ static void tell_wildcard(const struct facts *facts, FILE *because, const struct
         return;
     }
     const struct hash_link *link = look_up(facts, &wildcard, reasons, &state);
-    if (state == MATCHED) {
+    if (link != NULL && state == MATCHED) {
         tell_types(facts, because, "NSEC3", &wildcard, link->types);
     } else {
         tell_gap(because, &wildcard, state);
@@ -119,12 +119,12 @@ void tell_by_hashes(const struct facts *facts, FILE *because, struct reasons *re
     for (size_t depth = own; depth + 1 > apex; depth--) {
         struct name name = ancestor_of(facts->name, depth);
         const struct hash_link *link = look_up(facts, &name, reasons, &state);
-        if (state == MATCHED && depth == own) {
-            tell_at_name(facts, because, link);
-            return;
-        }
-        if (state == MATCHED) {
-            tell_from_encloser(facts, because, link, &name, closer_state, reasons);
+        if (link != NULL && state == MATCHED) {
+            if (depth == own) {
+                tell_at_name(facts, because, link);
+            } else {
+                tell_from_encloser(facts, because, link, &name, closer_state, reasons);
+            }
             return;
         }
         closer_state = state;

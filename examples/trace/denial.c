@@ -10,7 +10,7 @@ enum { NS = 2, NSEC3_FIXED = 5, OPT_OUT = 1, SHA1 = 1, DIGITS = 32 };
 bool has_type(struct zermuita_octets types, uint16_t rtype) {
     size_t at = 0;
     while (types.len - at >= 2) {
-        size_t window = types.data[at], len = types.data[at + 1], octet = (rtype & 255) / 8;
+        size_t window = types.data[at], len = types.data[at + 1], octet = (rtype & 255U) / 8;
         if (types.len - at - 2 < len) {
             return false;
         }

@@ -30,8 +30,8 @@ static void print_address(FILE *file, const struct progress *progress, const str
 static void print_course(FILE *file, const struct progress *progress, const struct course *course) {
     print_question(file, progress);
     print_address(file, progress, course);
-    fputs(course->is_by_tcp ? ", TCP" : ", UDP", file);
-    if (course->sent > 1) {
+    fputs(course->is_by_tcp ? ", UDP cut off, TCP" : ", UDP", file);
+    if (course->sent > 1U + course->is_by_tcp) {
         fprintf(file, ", %u sent", course->sent);
     }
     if (course->timeouts > 0) {

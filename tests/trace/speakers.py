@@ -177,7 +177,7 @@ class Trace:
 
     async def ask(self, question):
         saved = self.folder / f"{question['number']}"
-        words = [self.program, question["name"], question["type"], *self.words, "--json", "--save", saved]
+        words = [self.program, question["name"], question["type"], *self.words, "--json", "--quiet", "--save", saved]
         how = {"stdin": asyncio.subprocess.DEVNULL, "stdout": asyncio.subprocess.PIPE, "stderr": asyncio.subprocess.STDOUT}
         process = await asyncio.create_subprocess_exec(*map(str, words), **how)
         output = (await process.communicate())[0].decode(errors="replace")
