@@ -125,11 +125,13 @@ static bool take_answer(const struct asking *asking, int socket, int64_t end) {
 static bool ask_by_udp(const struct asking *asking, int64_t end) {
     const struct query *query = &asking->query;
     int it = connected(asking, SOCK_DGRAM);
-    bool is_sent = it >= 0 && send(it, query->octets, query->len, 0) == (ssize_t)query->len;
-    bool is_answered = is_sent && take_answer(asking, it, end);
-    if (it >= 0) {
-        close(it);
+    if (it < 0) {
+        return false;
     }
+    bool is_sent = send(it, query->octets, query->len, 0) == (ssize_t)query->len;
+    asking->answer->course.error = is_sent ? 0 : errno;
+    bool is_answered = is_sent && take_answer(asking, it, end);
+    close(it);
     return is_answered;
 }
 

@@ -96,7 +96,7 @@ def told(trace, words, root, servers):
 
 def terminal_faults(text, line):
     """On a terminal a line is written over while it is waited, and then is the one that stands elsewhere."""
-    shown = [it.split("\r\x1b[K") for it in text.replace("\r\n", "\n").splitlines()]
+    shown = [it.split("\r\x1b[K") for it in text.replace("\r\n", "\n").split("\n")]
     waited = [it for it in shown if len(it) > 10 and all(re.fullmatch(r"\.: .*, UDP.*: \d+ ms", more) for more in it[1:-1])]
     if len(waited) != 2 or not all(re.fullmatch(line, it[-1]) for it in waited):
         yield f"on a terminal it told {text!r}"

@@ -78,8 +78,6 @@ def reason_faults(said):
         wanted = {"NXDOMAIN": 2, "WILDCARD": 1, "WILDCARD_NODATA": 1, "WILDCARD_ALIAS": 1, "OPTOUT": 1}.get(word, 0)
         if gaps < wanted or word in DENIALS and not because:
             yield f"{it['name']} {it['type']} is {word} because {because}"
-        if any(hashed["state"] == "neither" and hashed["name"] != it["name"] for hashed in it["hashes"]) and word != "OPTOUT":
-            yield f"{it['name']} {it['type']} is {word} by hashes {it['hashes']}"
 
 
 def faults(folder, said, qname, rtype, through):
