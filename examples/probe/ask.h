@@ -20,8 +20,8 @@ struct course {
 
 /* Whoever is told how a question goes, ten times a second while there is no answer. */
 struct watch {
-    void (*tell)(void *who, const struct course *course);
-    void *who;
+    void (*tell)(const void *who, const struct course *course);
+    const void *who;
 };
 
 /* An answer, a whole message, and how it came. */

@@ -49,7 +49,7 @@ static size_t columns(void) {
     return ioctl(STDERR_FILENO, TIOCGWINSZ, &size) == 0 && size.ws_col > 1 ? size.ws_col : 80;
 }
 
-void tell_waiting(void *who, const struct course *course) {
+void tell_waiting(const void *who, const struct course *course) {
     const struct progress *progress = who;
     char *line = NULL;
     size_t len = 0;

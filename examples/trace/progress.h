@@ -12,7 +12,7 @@ struct progress {
 };
 
 /* Tells, on a terminal, how a question goes that has no answer yet; `who` is a struct progress. */
-void tell_waiting(void *who, const struct course *course);
+void tell_waiting(const void *who, const struct course *course);
 
 /* Tells how a question went; `answer` is null where there is none. */
 void tell_end(const struct progress *progress, const struct course *course, const struct answer *answer);

@@ -1,5 +1,6 @@
 #include "servers.h"
 
+#include "found.h"
 #include "progress.h"
 
 /* Cuts HOST, HOST:PORT, [ADDRESS] or [ADDRESS]:PORT into host and port. An IPv6 address outside of brackets has no port behind it. */
@@ -40,8 +41,9 @@ static bool is_answer(const struct answer *answer) {
     return (0x49 >> (answer->octets[3] & 15) & 1) != 0;
 }
 
-/* Asks a server. */
-static bool ask_at(struct progress *progress, const struct zermuita_wanted *wanted, struct answer *answer) {
+/* Asks a server, by the header's flags. */
+static bool ask_at(const struct progress *progress, uint16_t flags, struct answer *answer) {
+    const struct zermuita_wanted *wanted = progress->wanted;
     char text[256];
     const char *host, *port;
     struct addrinfo *server, hints = {.ai_socktype = SOCK_DGRAM};
@@ -56,36 +58,66 @@ static bool ask_at(struct progress *progress, const struct zermuita_wanted *want
         tell_failure(progress, gai_strerror(failure));
         return false;
     }
-    bool is_answered = ask(server, TO_RESOLVER, &name, wanted->rtype, &watch, answer);
+    bool is_answered = ask(server, flags, &name, wanted->rtype, &watch, answer);
     tell_end(progress, &answer->course, is_answered ? answer : NULL);
     freeaddrinfo(server);
     return is_answered && is_answer(answer);
 }
 
-/* Whether a server is asked for a zone's messages. */
-static bool serves(const struct server *server, const struct zermuita_wanted *wanted) {
-    struct name zone = name_of_octets(wanted->zone);
-    return !server->has_zone || is_same_name(&server->zone, &zone);
+/* Where a message is sought: where it is asked for, and the answer that came from there. */
+struct seeking {
+    struct progress progress;
+    struct answer answer;
+    char where[WHERE];
+};
+
+/* Asks at one place, and keeps it where it answers. */
+static bool seek_at(struct seeking *seeking, const char *where, uint16_t flags) {
+    seeking->progress.where = where;
+    snprintf(seeking->where, sizeof seeking->where, "%s", where);
+    return ask_at(&seeking->progress, flags, &seeking->answer);
 }
 
-/* Asks the servers of a zone, one after another, until one answers. Null where none does. */
-static const struct server *ask_one(const struct servers *servers, const struct zermuita_wanted *wanted, struct answer *answer) {
-    struct progress progress = {.wanted = wanted, .is_quiet = servers->is_quiet};
+/* Asks the servers that are given for a zone, one after another, until one answers. Says whether there are any. */
+static bool seek_at_given(struct seeking *seeking, const struct servers *servers, const struct name *zone, bool *is_given) {
+    *is_given = false;
     for (size_t i = 0; i < servers->count; i++) {
-        progress.where = servers->items[i].where;
-        if (serves(&servers->items[i], wanted) && ask_at(&progress, wanted, answer)) {
-            return &servers->items[i];
+        const struct server *server = &servers->items[i];
+        if (!server->has_zone || is_same_name(&server->zone, zone)) {
+            *is_given = true;
+            if (seek_at(seeking, server->where, TO_RESOLVER)) {
+                return true;
+            }
         }
     }
-    return NULL;
+    return false;
+}
+
+/* Asks the servers of a zone, one after another, until one answers: those that are given, or else those that messages name. */
+static bool seek(struct seeking *seeking, const struct servers *servers, const struct evidence *evidence) {
+    static struct found found;
+    struct name zone = name_of_octets(seeking->progress.wanted->zone);
+    bool is_given;
+    if (seek_at_given(seeking, servers, &zone, &is_given)) {
+        return true;
+    }
+    if (!is_given) {
+        find_servers(&found, evidence, &zone);
+    }
+    for (size_t i = 0; !is_given && i < found.count; i++) {
+        if (seek_at(seeking, found.where[i], TO_SERVER)) {
+            return true;
+        }
+    }
+    return false;
 }
 
 bool ask_all(const struct servers *servers, struct evidence *evidence, struct zermuita_octets rest) {
-    static struct answer answer;
+    static struct seeking seeking;
     struct zermuita_wanted wanted;
     while (zermuita_next_wanted(&rest, &wanted)) {
-        const struct server *server = ask_one(servers, &wanted, &answer);
-        if (server == NULL) {
+        seeking.progress = (struct progress){.wanted = &wanted, .is_quiet = servers->is_quiet};
+        if (servers->is_none || !seek(&seeking, servers, evidence)) {
             fputs("trace: no answer for ", stderr);
             print_name(stderr, wanted.name, 0);
             fprintf(stderr, " %u of ", wanted.rtype);
@@ -93,7 +125,8 @@ bool ask_all(const struct servers *servers, struct evidence *evidence, struct ze
             fputs("\n", stderr);
             return false;
         }
-        add_message(evidence, &wanted, (struct zermuita_octets){answer.octets, answer.len}, server->where, &answer.course);
+        struct zermuita_octets message = {seeking.answer.octets, seeking.answer.len};
+        add_message(evidence, &wanted, message, seeking.where, &seeking.answer.course);
     }
     return true;
 }

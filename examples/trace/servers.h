@@ -16,6 +16,7 @@ struct server {
 struct servers {
     struct server items[MOST_SERVERS];
     size_t count;
+    bool is_none;  /* nothing is asked */
     bool is_quiet; /* nothing is told while it is waited for them */
 };
 
@@ -23,8 +24,9 @@ struct servers {
 bool add_server(struct servers *servers, char *text);
 
 /*
- * Asks the servers for the messages that are wanted, and tells on standard error how that goes: a line for each question to each
- * server, which on a terminal tells while it is waited. False where a message has no answer.
+ * Asks servers for the messages that are wanted: those that are given for the zone, or, where none is, those that messages name. Tells
+ * on standard error how that goes, a line for each question to each server, which on a terminal tells while it is waited. False where
+ * a message has no answer.
  */
 bool ask_all(const struct servers *servers, struct evidence *evidence, struct zermuita_octets wanted);
 

@@ -1,6 +1,6 @@
 /*
  * Says what a tree of signed zones says of a name, from a trust anchor down, and shows the way. Servers are asked for what the library
- * wants; without any a file has the messages. `build` builds it, and usage() says how it is called. Signatures are checked by OpenSSL.
+ * wants, or a file has the messages. `build` builds it, and usage() says how it is called. Signatures are checked by OpenSSL.
  */
 #include "ds_set.h"
 #include "servers.h"
@@ -27,13 +27,15 @@ static int usage(void) {
           "\n"
           "--anchor   DS records of the trust anchor, one on each line behind the zone's name, as '. IN DS 20326 8 2 E06D..'\n"
           "--server   a resolver, or a server of all the zones on the way, or of one; where one gives no answer the next is asked;\n"
-          "           an IPv6 address stands in brackets where a port is behind it, as [::1]:5353\n"
+          "           an IPv6 address stands in brackets where a port is behind it, as [::1]:5353. Of a zone for which none is given\n"
+          "           those are asked that the messages of the way name; of the root its servers\n"
           "--json     prints an object of JSON\n"
           "--messages prints the messages whole, too\n"
           "--quiet    tells nothing on standard error while servers are asked: else a line for each question, with the zone, the\n"
           "           server, UDP or TCP, what was sent again or timed out, and milliseconds\n"
           "--save     writes the messages to a file, without how long they took\n"
-          "--from     takes messages and the moment from such a file; what is missing there is asked for if there is a server\n"
+          "--from     takes messages and the moment from such a file; what is missing there is asked for where a server\n"
+          "           is given\n"
           "--moment   when signatures are to hold, in seconds since 1970: that of the file, or now, if it is left out\n"
           "\n"
           "Prints the way, zone by zone, with DS sets, keys, and of each message what it says, by which records and signatures; and what\n"
@@ -134,7 +136,8 @@ static bool read_options(int argc, char **argv, struct options *options) {
     for (int option; is_read && (option = getopt_long(argc, argv, "", known, NULL)) != -1;) {
         is_read = read_option(options, option);
     }
-    return is_read && argc - optind == 2 && options->anchor != NULL && (options->servers.count > 0 || options->from != NULL);
+    options->servers.is_none = options->from != NULL && options->servers.count == 0;
+    return is_read && argc - optind == 2 && options->anchor != NULL;
 }
 
 /* Walks, saves the messages, and prints what is said. */

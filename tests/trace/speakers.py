@@ -1,5 +1,5 @@
 """Those who say what a tree of zones says of a question: unbound and Knot Resolver, which walk down by themselves; delv, which asks a
-named that walks and does not validate; and the trace, which asks the servers of the zones."""
+named that walks and does not validate; and the trace, which walks down and asks the servers of the zones."""
 import asyncio
 import json
 import pathlib
@@ -164,13 +164,12 @@ AS_SERVFAIL = ("TOO_MANY_CUTS", "TOO_MANY_ALIASES", "TOO_MANY_MESSAGES")
 
 
 class Trace:
-    """The program of examples/trace."""
+    """The program of examples/trace, which is told the root's server, and finds those of other zones by the messages of the way."""
 
     def __init__(self, program, room):
         self.program, self.folder = program, room / "ways"
         servers = json.loads((room / "tree/servers").read_text())
-        asked = (word for apex, it in servers.items() for word in ("--server", f"{apex}={it}:53"))
-        self.words = ["--anchor", room / "tree/anchor", *asked]
+        self.words = ["--anchor", room / "tree/anchor", "--server", f".={servers['.']}"]
 
     async def start(self):
         self.folder.mkdir(parents=True, exist_ok=True)
