@@ -112,10 +112,26 @@ static bool seek(struct seeking *seeking, const struct servers *servers, const s
     return false;
 }
 
+/* Whether a message is among those that were added behind the first ones: where keys are asked for, they are wanted as the answer too. */
+static bool is_added(const struct evidence *evidence, size_t first, const struct zermuita_wanted *wanted) {
+    struct name zone = name_of_octets(wanted->zone), name = name_of_octets(wanted->name);
+    for (size_t i = first; i < evidence->count; i++) {
+        const struct step *step = &evidence->steps[i];
+        if (step->rtype == wanted->rtype && is_same_name(&step->zone, &zone) && is_same_name(&step->name, &name)) {
+            return true;
+        }
+    }
+    return false;
+}
+
 bool ask_all(const struct servers *servers, struct evidence *evidence, struct zermuita_octets rest) {
     static struct seeking seeking;
     struct zermuita_wanted wanted;
+    size_t first = evidence->count;
     while (zermuita_next_wanted(&rest, &wanted)) {
+        if (is_added(evidence, first, &wanted)) {
+            continue;
+        }
         seeking.progress = (struct progress){.wanted = &wanted, .is_quiet = servers->is_quiet};
         if (servers->is_none || !seek(&seeking, servers, evidence)) {
             fputs("trace: no answer for ", stderr);
