@@ -147,11 +147,10 @@ static int trace(const struct options *options, struct zermuita_evidence handed,
     grown(&out, 65536);
     bool has_ended = walk(options, handed, evidence, &out, end);
     bool is_saved = options->save == NULL || save(options->save, options->moment, evidence);
-    if (is_saved) {
-        make_way(&way, evidence, &handed);
-        (options->is_json ? tell_json : tell)(&way, end, options->has_messages);
-        free_way(&way);
-    } else {
+    make_way(&way, evidence, &handed);
+    (options->is_json ? tell_json : tell)(&way, end, options->has_messages);
+    free_way(&way);
+    if (!is_saved) {
         fprintf(stderr, "trace: %s cannot be written\n", options->save);
     }
     free(out.data);
@@ -165,9 +164,12 @@ int main(int argc, char **argv) {
     struct name anchor = {.len = 0};
     struct end end = {.reply = ZERMUITA_BAD_CASE};
     options.moment = (uint64_t)time(NULL);
-    if (!read_options(argc, argv, &options) || !read_anchor(options.anchor, &anchor, &ds) || !name_of_text(argv[optind], &end.name)
-        || !type_of_text(argv[optind + 1], &end.rtype)) {
+    if (!read_options(argc, argv, &options) || !name_of_text(argv[optind], &end.name) || !type_of_text(argv[optind + 1], &end.rtype)) {
         return usage();
+    }
+    if (!read_anchor(options.anchor, &anchor, &ds)) {
+        fprintf(stderr, "trace: %s: no DS records of one zone can be read there\n", options.anchor);
+        return FAILED;
     }
     uint64_t moment = options.moment;
     if (options.from != NULL && !load(options.from, &moment, &evidence)) {
