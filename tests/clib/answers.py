@@ -163,11 +163,11 @@ def found(printed: str) -> Reply:
     raise ValueError(printed)
 
 
-def entries() -> list[bytes]:
-    """The signatures that pass, as entries without their last octets."""
+def entries(crate: pathlib.Path = SERVERS) -> list[bytes]:
+    """The signatures that pass by the lines of a crate, as entries without their last octets."""
     found = []
     signer = b""
-    for line in (SERVERS / "stdin").read_text().splitlines():
+    for line in (crate / "stdin").read_text().splitlines():
         name, *words = line.split(" ")
         if name == "key":
             flags, protocol, algorithm, key = words

@@ -7,7 +7,9 @@
 #include <stdio.h>
 #include <stdlib.h>
 
-enum { SLOTS = 4096, OCTETS = 6 };
+enum { SLOTS = 4096, OCTETS = 7 };
+
+struct messages stored;
 
 /* The signatures that pass, by a hash of their octets: each in the first free slot behind its own. */
 static struct buffer table[SLOTS];
@@ -61,14 +63,10 @@ static uint64_t next_number(char **rest) {
     return strtoull(next_word(rest), NULL, 10);
 }
 
-/* What octets a case has, in the order of its line. */
+/* What octets a case or a walk has, in the order of its line: a walk has the first five, a case all but `without`. */
 static void octets_in(struct answered *it, struct buffer *octets[OCTETS]) {
-    octets[0] = &it->algorithms;
-    octets[1] = &it->apex;
-    octets[2] = &it->name;
-    octets[3] = &it->ds;
-    octets[4] = &it->dnskey;
-    octets[5] = &it->answer;
+    struct buffer *const all[OCTETS] = {&it->algorithms, &it->apex, &it->name, &it->ds, &it->without, &it->dnskey, &it->answer};
+    memcpy(octets, all, sizeof all);
 }
 
 static void take_saying(struct saying *saying, char *word) {
@@ -80,26 +78,36 @@ static void take_saying(struct saying *saying, char *word) {
     saying->delegates = (uint16_t)strtoull(word, NULL, 10);
 }
 
-static void take_case(struct answered *answered, char *rest) {
-    memset(answered, 0, sizeof *answered);
+static void take_case(struct answered *it, bool is_walk, char *rest) {
+    memset(it, 0, sizeof *it);
+    it->is_walk = is_walk;
     char *words = next_word(&rest);
-    for (char *word; (word = strsep(&words, ",")) != NULL && answered->may_be_len < MOST_REPLIES;) {
-        take_saying(&answered->may_be[answered->may_be_len++], word);
+    for (char *word; (word = strsep(&words, ",")) != NULL && it->may_be_len < MOST_REPLIES;) {
+        take_saying(&it->may_be[it->may_be_len++], word);
     }
-    answered->rtype = (uint16_t)next_number(&rest);
-    answered->limit = (uint16_t)next_number(&rest);
-    answered->now = next_number(&rest);
-    uint32_t *flags[] = {
-        &answered->one_moment, &answered->as_received, &answered->other_question, &answered->max_signatures, &answered->places,
-    };
-    for (size_t i = 0; i < sizeof flags / sizeof *flags; i++) {
-        *flags[i] = (uint32_t)next_number(&rest);
+    it->rtype = (uint32_t)next_number(&rest);
+    it->limit = (uint32_t)next_number(&rest);
+    it->now = next_number(&rest);
+    uint32_t *const of_case[] = {&it->one_moment, &it->as_received, &it->other_question, &it->max_signatures, &it->places};
+    uint32_t *const of_walk[] = {&it->one_moment, &it->max_cuts, &it->max_aliases, &it->max_messages, &it->max_signatures};
+    for (size_t i = 0; i < sizeof of_case / sizeof *of_case; i++) {
+        *(is_walk ? of_walk : of_case)[i] = (uint32_t)next_number(&rest);
     }
     struct buffer *octets[OCTETS];
-    octets_in(answered, octets);
-    for (size_t i = 0; i < OCTETS; i++) {
-        next_octets(&rest, octets[i]);
+    octets_in(it, octets);
+    for (size_t i = 0; i < (is_walk ? 5 : OCTETS); i++) {
+        if (is_walk || octets[i] != &it->without) {
+            next_octets(&rest, octets[i]);
+        }
     }
+}
+
+static void take_stored(struct message *message, char *rest) {
+    memset(message, 0, sizeof *message);
+    message->rtype = (uint32_t)next_number(&rest);
+    next_octets(&rest, &message->zone);
+    next_octets(&rest, &message->name);
+    next_octets(&rest, &message->octets);
 }
 
 static void take_passing(char *rest) {
@@ -125,9 +133,12 @@ struct cases read_cases(void) {
         char *rest = line, *name = next_word(&rest);
         if (strcmp(name, "passes") == 0) {
             take_passing(rest);
-        } else if (strcmp(name, "case") == 0) {
+        } else if (strcmp(name, "case") == 0 || strcmp(name, "walk") == 0) {
             cases.all = realloc(cases.all, (cases.len + 1) * sizeof *cases.all);
-            take_case(&cases.all[cases.len++], rest);
+            take_case(&cases.all[cases.len++], *name == 'w', rest);
+        } else if (strcmp(name, "message") == 0) {
+            stored.all = realloc(stored.all, (stored.len + 1) * sizeof *stored.all);
+            take_stored(&stored.all[stored.len++], rest);
         } else {
             fail(name);
         }
@@ -148,12 +159,18 @@ void cases_free(struct cases *cases) {
         }
     }
     free(cases->all);
+    for (size_t i = 0; i < stored.len; i++) {
+        buffer_free(&stored.all[i].zone);
+        buffer_free(&stored.all[i].name);
+        buffer_free(&stored.all[i].octets);
+    }
+    free(stored.all);
     for (size_t i = 0; i < SLOTS; i++) {
         buffer_free(&table[i]);
     }
 }
 
-struct zermuita_case case_of(const struct answered *answered) {
+static struct zermuita_case case_of(const struct answered *answered) {
     return (struct zermuita_case){
         .size = sizeof(struct zermuita_case),
         .apex = octets_of(&answered->apex),
@@ -162,9 +179,9 @@ struct zermuita_case case_of(const struct answered *answered) {
         .answer = octets_of(&answered->answer),
         .name = octets_of(&answered->name),
         .now = answered->now,
-        .rtype = answered->rtype,
+        .rtype = (uint16_t)answered->rtype,
         .rclass = 1,
-        .max_nsec3_iterations = answered->limit,
+        .max_nsec3_iterations = (uint16_t)answered->limit,
         .one_moment = answered->one_moment,
         .as_received = answered->as_received,
         .algorithms = octets_of(&answered->algorithms),
@@ -173,6 +190,34 @@ struct zermuita_case case_of(const struct answered *answered) {
         .no_ds = answered->ds.len == 0,
         .places = answered->places,
     };
+}
+
+static struct zermuita_evidence evidence_of(const struct answered *answered) {
+    return (struct zermuita_evidence){
+        .size = sizeof(struct zermuita_evidence),
+        .anchor = octets_of(&answered->apex),
+        .ds = octets_of(&answered->ds),
+        .name = octets_of(&answered->name),
+        .algorithms = octets_of(&answered->algorithms),
+        .now = answered->now,
+        .rtype = (uint16_t)answered->rtype,
+        .max_nsec3_iterations = (uint16_t)answered->limit,
+        .max_cuts = (uint16_t)answered->max_cuts,
+        .max_aliases = (uint16_t)answered->max_aliases,
+        .one_moment = (uint16_t)answered->one_moment,
+        .max_messages = (uint16_t)answered->max_messages,
+        .max_signatures = answered->max_signatures,
+    };
+}
+
+struct handed handed_of(const struct answered *answered) {
+    struct handed handed = {.is_walk = answered->is_walk, .of = answered};
+    if (answered->is_walk) {
+        handed.walked = evidence_of(answered);
+    } else {
+        handed.judged = case_of(answered);
+    }
+    return handed;
 }
 
 /* How many names stand in front of a reply's octets at most. */
@@ -203,6 +248,62 @@ static bool are_same_names(struct zermuita_octets one, struct zermuita_octets ot
     return are_same;
 }
 
+struct zermuita_wanted wanted_of(const struct message *message) {
+    return (struct zermuita_wanted){octets_of(&message->zone), octets_of(&message->name), (uint16_t)message->rtype};
+}
+
+void put_message(struct buffer *messages, const struct zermuita_wanted *wanted, struct zermuita_octets octets) {
+    size_t room = zermuita_message_room(wanted, octets.len);
+    buffer_reserve(messages, messages->len + room);
+    zermuita_put_message(messages->data + messages->len, wanted, octets);
+    messages->len += room;
+}
+
+bool take_message(struct zermuita_octets *rest, struct zermuita_wanted *wanted, struct zermuita_octets *octets) {
+    bool has_names = zermuita_next_part(rest, 2, &wanted->zone) && zermuita_next_part(rest, 2, &wanted->name) && rest->len >= 2;
+    if (!has_names) {
+        return false;
+    }
+    wanted->rtype = (uint16_t)zermuita_number(rest->data, 2);
+    rest->data += 2;
+    rest->len -= 2;
+    return zermuita_next_part(rest, 4, octets) == 1;
+}
+
+size_t messages_in(struct zermuita_octets list) {
+    size_t count = 0;
+    struct zermuita_wanted wanted;
+    for (struct zermuita_octets octets; take_message(&list, &wanted, &octets);) {
+        count++;
+    }
+    return count;
+}
+
+/* Whether a walk is to go without a message. */
+static bool is_without(const struct answered *walk, size_t number) {
+    struct zermuita_octets rest = octets_of(&walk->without);
+    for (uint32_t without; zermuita_next_place(&rest, &without);) {
+        if (without == number) {
+            return true;
+        }
+    }
+    return false;
+}
+
+bool answer_wanted(const struct handed *handed, const struct zermuita_wanted *wanted, struct buffer *messages) {
+    for (size_t i = 0; i < stored.len; i++) {
+        struct zermuita_wanted its = wanted_of(&stored.all[i]);
+        bool is_it = its.rtype == wanted->rtype && are_same_names(its.name, wanted->name) && are_same_names(its.zone, wanted->zone);
+        if (is_it && !is_without(handed->of, i)) {
+            put_message(messages, wanted, octets_of(&stored.all[i].octets));
+            return true;
+        }
+    }
+    return false;
+}
+
+const struct caller plainly = {call, is_in_table, answer_wanted};
+
 /* Takes places off that ascend. */
 static bool take_ascending(struct zermuita_octets *rest) {
     struct zermuita_octets places;
@@ -214,12 +315,12 @@ static bool take_ascending(struct zermuita_octets *rest) {
     return ascend;
 }
 
-static bool is_said(const struct saying *saying, const struct judgement *judgement, struct zermuita_octets other) {
+static bool is_said(const struct saying *saying, const struct judgement *judgement, struct zermuita_octets other, bool is_walk) {
     struct zermuita_octets one = octets_of(&saying->octets), name, other_name;
     if (judgement->reply != saying->reply || judgement->report.delegates != saying->delegates) {
         return false;
     }
-    for (size_t i = 0; i < names_of(saying->reply) && zermuita_next_name(&one, &name); i++) {
+    for (size_t i = 0; !is_walk && i < names_of(saying->reply) && zermuita_next_name(&one, &name); i++) {
         if (!zermuita_next_name(&other, &other_name) || !are_same_names(name, other_name)) {
             return false;
         }
@@ -228,7 +329,7 @@ static bool is_said(const struct saying *saying, const struct judgement *judgeme
 }
 
 bool is_zones(const struct answered *answered, const struct judgement *judgement) {
-    if (judgement->reply == ZERMUITA_INSECURE) {
+    if (judgement->reply == ZERMUITA_INSECURE && !answered->is_walk) {
         return answered->ds.len == 0 || judgement->report.ede != 0;
     }
     struct zermuita_octets octets = octets_of(&judgement->octets);
@@ -237,7 +338,7 @@ bool is_zones(const struct answered *answered, const struct judgement *judgement
     }
     bool is_one = false;
     for (size_t i = 0; i < answered->may_be_len; i++) {
-        is_one |= is_said(&answered->may_be[i], judgement, octets);
+        is_one |= is_said(&answered->may_be[i], judgement, octets, answered->is_walk);
     }
     return is_one;
 }

@@ -83,7 +83,7 @@ int main(void) {
         fputs("no answer with records\n", stderr);
         return 2;
     }
-    struct zermuita_case handed = case_of(it);
+    struct zermuita_case handed = handed_of(it).judged;
     print_reply(handed, 65536, ZERMUITA_ASK);
     print_reply(handed, 1, ZERMUITA_BUFFER_TOO_SMALL);
     heap_begin(1);

@@ -194,40 +194,24 @@ static bool passes(const struct zermuita_ask *ask) {
 
 static int wrong;
 
-/* Judges from an empty list, and gives the most that a call had in use. */
-static size_t measured(struct zermuita_case handed, struct judgement *judgement) {
-    size_t most = 0;
-    struct zermuita_ask ask;
-    judgement->report.size = sizeof judgement->report;
-    judgement->checked.len = 0;
-    for (;;) {
-        handed.checked = octets_of(&judgement->checked);
-        heap_begin(0);
-        judgement->reply = zermuita_judge(&handed, judgement->octets.data, judgement->octets.room, &judgement->report);
-        struct heap heap = heap_end();
-        most = most < heap.most ? heap.most : most;
-        size_t each = handed.as_received ? ROOM_EACH : ROOM_ANEW;
-        wrong |= heap.most > each * (handed.dnskey.len + handed.answer.len + handed.checked.len) + ROOM_BESIDES;
-        judgement->octets.len = judgement->report.len;
-        if (judgement->reply == ZERMUITA_BUFFER_TOO_SMALL) {
-            buffer_reserve(&judgement->octets, judgement->report.len);
-        } else if (judgement->reply == ZERMUITA_ASK) {
-            uint8_t *next = judgement->octets.data;
-            for (size_t len = judgement->octets.len; zermuita_next_ask(&next, &len, &ask);) {
-                zermuita_answer(&ask, passes(&ask));
-            }
-            buffer_append(&judgement->checked, judgement->octets.data, judgement->octets.len);
-        } else {
-            return most;
-        }
-    }
+static size_t most;
+
+/* A call, measured. */
+static void call_measured(const struct handed *handed, struct judgement *judgement) {
+    const struct zermuita_case *its = &handed->judged;
+    size_t each = its->as_received ? ROOM_EACH : ROOM_ANEW;
+    heap_begin(0);
+    call(handed, judgement);
+    struct heap heap = heap_end();
+    most = most < heap.most ? heap.most : most;
+    wrong |= heap.most > each * (its->dnskey.len + its->answer.len + its->checked.len) + ROOM_BESIDES;
 }
 
 /* A row: DNSKEY answers of these sizes, or answers. */
 static void print_row(const char *shape, void (*make)(struct buffer *, size_t), uint16_t rtype, uint32_t as_received) {
     struct buffer keys = {0}, ds = {0}, answer = {0};
+    static const struct caller measuring = {call_measured, passes, NULL};
     struct judgement judgement = {0};
-    buffer_reserve(&judgement.octets, 512);
     printf("%s:", shape);
     for (size_t i = 0; i < sizeof sizes / sizeof *sizes; i++) {
         bool is_keys = make == NULL;
@@ -239,12 +223,14 @@ static void print_row(const char *shape, void (*make)(struct buffer *, size_t), 
         }
         struct zermuita_octets name = {answer.data + 12, 255};
         name.len = make == make_chain ? 251 : 255;
-        struct zermuita_case handed = {
-            .size = sizeof handed, .apex = is_keys ? whole : last, .ds = octets_of(&ds), .dnskey = octets_of(&keys),
+        struct handed handed = {.is_walk = false};
+        handed.judged = (struct zermuita_case){
+            .size = sizeof handed.judged, .apex = is_keys ? whole : last, .ds = octets_of(&ds), .dnskey = octets_of(&keys),
             .answer = octets_of(&answer), .name = name, .now = NOW, .rtype = rtype, .rclass = 1, .max_nsec3_iterations = 100,
             .as_received = as_received, .max_signatures = UINT32_MAX,
         };
-        size_t most = measured(handed, &judgement);
+        most = 0;
+        judge(handed, &measuring, &judgement);
         printf(" %zu", most);
         fflush(stdout);
     }

@@ -1,4 +1,4 @@
-/* Eight threads judge the same answers at once, each beginning with another: every judgement must be that of one thread alone. */
+/* Eight threads judge the same answers, or walk the same walks, at once, each beginning with another: all must be as of one alone. */
 #include "cases.h"
 
 #include <pthread.h>
@@ -10,20 +10,14 @@ enum { THREADS = 8, ROUNDS = 20 };
 static struct cases cases;
 static struct judgement *alone;
 
-static bool is_same(const struct judgement *one, const struct judgement *other) {
-    return one->reply == other->reply && one->octets.len == other->octets.len
-        && memcmp(one->octets.data, other->octets.data, one->octets.len) == 0
-        && memcmp(&one->report, &other->report, sizeof one->report) == 0;
-}
-
 /* How many judgements of a thread are unlike those of one alone, written where its number stood. */
 static void *judge_all(void *number) {
     struct judgement judgement = {0};
     size_t *thread = number, unlike = 0;
     for (size_t i = 0; i < ROUNDS * cases.len; i++) {
         size_t which = (i + *thread * cases.len / THREADS) % cases.len;
-        judge(case_of(&cases.all[which]), is_in_table, &judgement);
-        unlike += !is_same(&judgement, &alone[which]);
+        judge(handed_of(&cases.all[which]), &plainly, &judgement);
+        unlike += !are_same_replies(&judgement, &alone[which]);
     }
     judgement_free(&judgement);
     *thread = unlike;
@@ -36,7 +30,7 @@ int main(void) {
     cases = read_cases();
     alone = calloc(cases.len + 1, sizeof *alone);
     for (size_t i = 0; i < cases.len; i++) {
-        judge(case_of(&cases.all[i]), is_in_table, &alone[i]);
+        judge(handed_of(&cases.all[i]), &plainly, &alone[i]);
     }
     for (size_t i = 0; i < THREADS; i++) {
         numbers[i] = i;
@@ -49,7 +43,7 @@ int main(void) {
         pthread_join(threads[i], NULL);
         unlike += numbers[i];
     }
-    printf("%d threads, each %d times %zu answers: %zu unlike those of one\n", THREADS, ROUNDS, cases.len, unlike);
+    printf("%d threads, each %d times %zu judged: %zu unlike those of one\n", THREADS, ROUNDS, cases.len, unlike);
     for (size_t i = 0; i < cases.len; i++) {
         judgement_free(&alone[i]);
     }
