@@ -213,21 +213,27 @@ static enum zermuita_reply walk_of(struct zermuita_evidence handed) {
 }
 
 /* Evidence of walks: its size, its flag, and how many messages it may have. */
-static void call_with_evidence(void) {
-    static const uint8_t capital[] = {1, 'A', 0};
-    uint8_t ds[64], messages[64], out[64];
-    struct zermuita_octets ds_set = of(ds, put_ds(ds, 13, 2, 32));
-    struct zermuita_evidence handed = without_anything(of(root, sizeof root), ds_set);
+static void call_with_evidence(struct zermuita_evidence good) {
+    uint8_t messages[64];
+    struct zermuita_evidence handed = good;
     for (size_t size = 0; size < sizeof handed + 32; size++) {
         handed.size = size;
         expect(walk_of(handed) == (size == 128 ? ZERMUITA_WANT : ZERMUITA_BAD_CASE), "the size of evidence");
     }
-    handed.size = sizeof handed;
+    handed.size = (size_t)-1;
+    expect(walk_of(handed) == ZERMUITA_BAD_CASE, "the greatest size of evidence");
+    handed = good;
     for (uint16_t flag = 0; flag < 3; flag++) {
         handed.one_moment = flag;
         expect(walk_of(handed) == (flag < 2 ? ZERMUITA_WANT : ZERMUITA_BAD_CASE), "the flag of evidence");
     }
-    handed.one_moment = 0;
+    handed.one_moment = 65535;
+    expect(walk_of(handed) == ZERMUITA_BAD_CASE, "the greatest flag of evidence");
+    handed = good;
+    handed.max_cuts = handed.max_aliases = handed.max_messages = 65535;
+    handed.max_signatures = (uint32_t)-1;
+    expect(walk_of(handed) == ZERMUITA_WANT, "the greatest limits");
+    handed = good;
     struct zermuita_wanted wanted;
     wanted.zone = wanted.name = of(root, sizeof root);
     wanted.rtype = 1;
@@ -239,11 +245,95 @@ static void call_with_evidence(void) {
     }
     struct zermuita_report report = report_of_nines();
     handed.max_messages = 1;
-    expect(zermuita_resolve(&handed, out, sizeof out, &report) == ZERMUITA_TOO_MANY_MESSAGES && report.len == 4, "no aliases");
-    handed = without_anything(of(capital, sizeof capital), ds_set);
+    expect(zermuita_resolve(&handed, messages, 0, &report) == ZERMUITA_BUFFER_TOO_SMALL && report.len == 4, "no room for no aliases");
+}
+
+/* No octets, null or not; null with a length; octets that are not what they are to be. */
+static void walk_with_null(struct zermuita_evidence good) {
+    struct zermuita_evidence handed = good;
+    struct zermuita_octets *const parts[] = {
+        &handed.anchor, &handed.ds, &handed.name, &handed.messages, &handed.checked, &handed.algorithms,
+    };
+    static const enum zermuita_reply none[] = {
+        ZERMUITA_BAD_APEX, ZERMUITA_BAD_DS_SET, ZERMUITA_BAD_NAME, ZERMUITA_WANT, ZERMUITA_WANT, ZERMUITA_WANT,
+    };
+    static const enum zermuita_reply unread[] = {
+        ZERMUITA_BAD_APEX, ZERMUITA_BAD_DS_SET, ZERMUITA_BAD_NAME, ZERMUITA_BAD_MESSAGES, ZERMUITA_BAD_SIGNATURES,
+    };
+    for (size_t i = 0; i < sizeof parts / sizeof *parts; i++) {
+        struct zermuita_report report = report_of_nines();
+        handed = good;
+        *parts[i] = of(NULL, 1);
+        expect(zermuita_resolve(&handed, NULL, 0, &report) == ZERMUITA_BAD_CASE && is_empty(&report), "null with a length");
+        *parts[i] = of(NULL, 0);
+        expect(walk_of(handed) == none[i], "no octets");
+        *parts[i] = of(root, 0);
+        expect(walk_of(handed) == none[i], "no octets, by a pointer");
+        *parts[i] = of(name, 2);
+        expect(i == 5 || walk_of(handed) == unread[i], "octets that cannot be read");
+    }
+}
+
+/* Sizes of reports, and room: of an unknown size nothing is written, and nothing where there is too little room. */
+static void walk_with_reports(struct zermuita_evidence handed) {
+    uint8_t out[64];
+    for (size_t size = 0; size < sizeof(struct zermuita_report) + 32; size++) {
+        struct zermuita_report report = report_of_nines();
+        memset(out, 9, sizeof out);
+        report.size = size;
+        enum zermuita_reply reply = zermuita_resolve(&handed, out, sizeof out, &report);
+        expect(reply == (size == sizeof report ? ZERMUITA_WANT : ZERMUITA_BAD_CASE), "the size of a report beside a walk");
+        expect((out[0] == 9) == (reply != ZERMUITA_WANT), "octets beside a report that is unknown");
+    }
+    struct zermuita_report report = report_of_nines();
+    expect(zermuita_resolve(&handed, out, sizeof out, &report) == ZERMUITA_WANT && report.size == sizeof report, "a report's size stays");
+    size_t len = report.len;
+    report.len = 0;
+    expect(len > 0 && is_empty(&report), "an empty report beside messages that are wanted");
+    for (size_t room = 0; room <= len; room++) {
+        memset(out, 9, sizeof out);
+        report = report_of_nines();
+        enum zermuita_reply reply = zermuita_resolve(&handed, room == 0 ? NULL : out, room == 0 ? sizeof out : room, &report);
+        expect(reply == (room < len ? ZERMUITA_BUFFER_TOO_SMALL : ZERMUITA_WANT) && report.len == len, "room for messages that are wanted");
+        expect((out[0] == 9) == (room < len) && out[len] == 9, "octets where there is too little room");
+    }
+    expect(zermuita_resolve(&handed, NULL, 0, NULL) == ZERMUITA_BUFFER_TOO_SMALL, "no report beside a walk");
+}
+
+/* Trust anchors: in lower case in what is wanted; names outside them; DS sets of which no record counts. */
+static void walk_from_anchors(struct zermuita_evidence good) {
+    static const uint8_t capital[] = {1, 'A', 0}, eight[] = {8, 5};
+    uint8_t out[64], ds[64];
+    struct zermuita_evidence handed = good;
+    struct zermuita_report report = report_of_nines();
+    struct zermuita_wanted wanted;
+    handed.anchor = of(capital, sizeof capital);
     expect(zermuita_resolve(&handed, out, sizeof out, &report) == ZERMUITA_WANT, "an anchor with capitals");
-    struct zermuita_octets rest = of(out, report.len);
+    struct zermuita_octets rest = of(out, report.len), names;
     expect(zermuita_next_wanted(&rest, &wanted) && wanted.zone.len == 3 && wanted.zone.data[1] == 'a', "its name in lower case");
+    handed.rtype = 43;
+    for (int outside = 0; outside < 2; outside++) {
+        handed.name = outside ? of(root, sizeof root) : of(name, sizeof name);
+        handed.rtype = outside ? 1 : 43;
+        expect(zermuita_resolve(&handed, out, sizeof out, &report) == ZERMUITA_OUTSIDE && report.len == 4, "DS at an anchor, a name above");
+        rest = of(out, report.len);
+        expect(zermuita_take_aliases(&rest, &names) && names.len == 0 && rest.len == 0, "no aliases");
+    }
+    handed = good;
+    handed.algorithms = of(eight, sizeof eight);
+    expect(walk_of(handed) == ZERMUITA_BAD_DS_SET, "an anchor of an algorithm that is not checked");
+    handed = good;
+    handed.ds = of(ds, put_ds(ds, 13, 1, 20));
+    expect(walk_of(handed) == ZERMUITA_BAD_DS_SET, "an anchor of a digest that is not made");
+}
+
+static void call_with_walks(void) {
+    uint8_t ds[64];
+    struct zermuita_evidence good = without_anything(of(root, sizeof root), of(ds, put_ds(ds, 13, 2, 32)));
+    call_with_evidence(good);
+    walk_with_null(good);
+    walk_with_reports(good);
+    walk_from_anchors(good);
 }
 
 /* What walks over replies, on octets made by hand. */
@@ -341,7 +431,7 @@ int main(void) {
     call_with_flags();
     call_with_classes();
     call_with_ds();
-    call_with_evidence();
+    call_with_walks();
     walk_over_replies();
     walk_over_names();
     walk_over_places();

@@ -29,7 +29,7 @@ static void put_number(uint8_t *octets, size_t number) {
 void change_octet(struct buffer *message) {
     static const uint8_t telling[] = {0, 1, 2, 63, 64, 127, 128, 192, 254, 255};
     uint8_t *octet = &message->data[below(message->len)];
-    *octet = one_in(2) ? (uint8_t)(*octet ^ 1u << below(8)) : telling[below(sizeof telling)];
+    *octet = (uint8_t)(one_in(2) ? *octet ^ 1u << below(8) : telling[below(sizeof telling)]);
 }
 
 static void change_number(struct buffer *message) {
