@@ -35,19 +35,21 @@ static bool passes_over_keys(const struct zermuita_ask *ask) {
     return ask->octets.len >= 2 && zermuita_number(ask->octets.data, 2) == DNSKEY && signature_passes(ask);
 }
 
+static const struct caller checking = {call, passes, NULL}, checking_keys = {call, passes_over_keys, NULL};
+
 /* What is handed in and what was replied. */
 static struct zermuita_case handed;
 static struct judgement judgement;
 static enum zermuita_reply reply;
 
-static bool call(const struct asked *asked) {
+static bool call_once(const struct asked *asked) {
     (void)asked;
     reply = zermuita_judge(&handed, judgement.octets.data, judgement.octets.room, &judgement.report);
     return reply == ZERMUITA_ASK || reply == ZERMUITA_RECORDS || reply == ZERMUITA_NXDOMAIN;
 }
 
 static bool call_refused(const struct asked *asked) {
-    return !call(asked) && reply == ZERMUITA_NOT_PROVEN && judgement.report.ede != 0;
+    return !call_once(asked) && reply == ZERMUITA_NOT_PROVEN && judgement.report.ede != 0;
 }
 
 int main(void) {
@@ -55,18 +57,18 @@ int main(void) {
     buffer_reserve(&judgement.octets, ROOM);
     while (next_asked(&asked)) {
         handed = case_of(&asked);
-        judge(handed, passes, &judgement);
+        judge((struct handed){.judged = handed}, &checking, &judgement);
         handed.checked = (struct zermuita_octets){judgement.checked.data, 0};
         for (reply = ZERMUITA_ASK; reply == ZERMUITA_ASK;) {
-            count(&asked, "judge", call);
+            count(&asked, "judge", call_once);
             if (reply == ZERMUITA_ASK) {
                 handed.checked.len += judgement.report.len;
             }
         }
         handed.places = 1;
-        count(&asked, "places", call);
+        count(&asked, "places", call_once);
         handed.places = 0;
-        judge(handed, passes_over_keys, &judgement);
+        judge((struct handed){.judged = handed}, &checking_keys, &judgement);
         handed.checked = octets_of(&judgement.checked);
         count(&asked, "refused", call_refused);
     }

@@ -109,7 +109,7 @@ static void print_said(const struct zermuita_evidence *walked, const struct judg
 
 /* Whether a walk may say so where it says no verdict: why, what is still wanted, or what cannot be read. */
 static bool is_said_of_walks(enum zermuita_reply reply) {
-    bool is_unread = ZERMUITA_BAD_APEX <= reply && reply <= ZERMUITA_BAD_MESSAGES && reply != ZERMUITA_BAD_CASE;
+    bool is_unread = ZERMUITA_BAD_APEX <= reply && reply <= ZERMUITA_BAD_MESSAGES;
     bool is_of_memory = reply == ZERMUITA_OUT_OF_MEMORY || reply == ZERMUITA_HASH_FAILED;
     return reply == ZERMUITA_WANT || is_unread || (zermuita_is_refusal(reply) && !is_of_memory);
 }
