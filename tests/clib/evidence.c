@@ -178,7 +178,7 @@ static void mutate_anchor(const struct answered *other, struct evidence *evidenc
     if (one_in(16)) {
         mutate_name(&evidence->anchor, one_in(2) ? &other->apex : &other->name);
     }
-    if (one_in(8)) {
+    if (one_in(16)) {
         mutate(&evidence->ds, &other->ds);
     } else if (one_in(16)) {
         buffer_append(&evidence->ds, other->ds.data, other->ds.len);
