@@ -286,15 +286,15 @@ static void walk_with_reports(struct zermuita_evidence handed) {
         expect((out[0] == 9) == (reply != ZERMUITA_WANT), "octets beside a report that is unknown");
     }
     struct zermuita_report report = report_of_nines();
-    expect(zermuita_resolve(&handed, out, sizeof out, &report) == ZERMUITA_WANT && report.size == sizeof report, "a report's size stays");
+    expect(zermuita_resolve(&handed, out, sizeof out, &report) == ZERMUITA_WANT, "the first call of a walk");
     size_t len = report.len;
     report.len = 0;
-    expect(len > 0 && is_empty(&report), "an empty report beside messages that are wanted");
+    expect(len > 0 && is_empty(&report) && report.size == sizeof report, "an empty report beside messages that are wanted");
     for (size_t room = 0; room <= len; room++) {
         memset(out, 9, sizeof out);
         report = report_of_nines();
         enum zermuita_reply reply = zermuita_resolve(&handed, room == 0 ? NULL : out, room == 0 ? sizeof out : room, &report);
-        expect(reply == (room < len ? ZERMUITA_BUFFER_TOO_SMALL : ZERMUITA_WANT) && report.len == len, "room for messages that are wanted");
+        expect(reply == (room < len ? ZERMUITA_BUFFER_TOO_SMALL : ZERMUITA_WANT) && report.len == len, "room for what is wanted");
         expect((out[0] == 9) == (room < len) && out[len] == 9, "octets where there is too little room");
     }
     expect(zermuita_resolve(&handed, NULL, 0, NULL) == ZERMUITA_BUFFER_TOO_SMALL, "no report beside a walk");
@@ -315,7 +315,7 @@ static void walk_from_anchors(struct zermuita_evidence good) {
     for (int outside = 0; outside < 2; outside++) {
         handed.name = outside ? of(root, sizeof root) : of(name, sizeof name);
         handed.rtype = outside ? 1 : 43;
-        expect(zermuita_resolve(&handed, out, sizeof out, &report) == ZERMUITA_OUTSIDE && report.len == 4, "DS at an anchor, a name above");
+        expect(zermuita_resolve(&handed, out, sizeof out, &report) == ZERMUITA_OUTSIDE, "DS at an anchor, and a name above");
         rest = of(out, report.len);
         expect(zermuita_take_aliases(&rest, &names) && names.len == 0 && rest.len == 0, "no aliases");
     }

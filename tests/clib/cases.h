@@ -1,12 +1,12 @@
 /*
- * Answers of name servers that are to be judged, and walks over them, as the script in this folder hands them in: a line each, of words.
+ * Answers of name servers that are to be judged, and walks over them, as the script in this folder hands them in: a line each.
  *
  * - `passes ENTRY`: a signature that passes, as an entry without its last octet.
  * - `case MAY_BE TYPE LIMIT MOMENT ONE_MOMENT AS_RECEIVED OTHER MOST PLACES ALGORITHMS APEX NAME DS DNSKEY ANSWER`: what may be
  *   replied, by what the zone says, with commas between replies: each a number, octets, and what it says of a delegation, with colons
  *   between them; the question; the flags; and what is judged. Octets are hexadecimal digits, "-" for none.
- * - `walk MAY_BE TYPE LIMIT MOMENT ONE_MOMENT CUTS ALIASES MESSAGES MOST ALGORITHMS ANCHOR NAME DS WITHOUT`: what is replied in the end;
- *   the question; the limits; what is walked from; and the messages that are not there, each by its number in four octets.
+ * - `walk MAY_BE TYPE LIMIT MOMENT ONE_MOMENT CUTS ALIASES MESSAGES MOST ALGORITHMS ANCHOR NAME DS WITHOUT`: what is replied in the
+ *   end; the question; the limits; what is walked from; and the messages that are not there, each by its number in four octets.
  * - `message TYPE ZONE NAME OCTETS`: what a server of a zone answers to a question. Messages are counted from 0.
  */
 #ifndef CASES_H

@@ -14,7 +14,7 @@ struct evidence {
     bool is_of_another;
 };
 
-/* Mutates the evidence of a walk; `whole` has all messages and signatures that it takes. Those to go on from are put in a judgement. */
+/* Mutates the evidence of a walk; `whole` has all that it takes. Messages and signatures to go on from are put in a judgement. */
 void mutate_evidence(const struct answered *walk, const struct judgement *whole, const struct answered *other,
                      const struct judgement *others, struct evidence *evidence, struct judgement *judgement);
 

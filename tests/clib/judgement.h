@@ -32,7 +32,7 @@ struct judgement {
     unsigned calls;
 };
 
-/* How a call is made, which signatures pass, and what puts a message that is wanted at the end of a list: false where none is there. */
+/* How a call is made, which signatures pass, and what puts a message that is wanted at the end of a list, if it is there. */
 struct caller {
     void (*calls)(const struct handed *handed, struct judgement *judgement);
     bool (*passes)(const struct zermuita_ask *ask);
@@ -47,7 +47,7 @@ struct zermuita_octets octets_of(const struct buffer *buffer);
 /* A call with what the judgement has of messages and signatures, and room for so many octets as its buffer has. */
 void call(const struct handed *handed, struct judgement *judgement);
 
-/* Judges, or walks, from no messages of a walk and no signatures on. The judgement may have octets of an earlier one, which are reused. */
+/* Judges, or walks, from no signatures and messages that are wanted on. Octets of an earlier judgement are reused. */
 void judge(struct handed handed, const struct caller *caller, struct judgement *judgement);
 
 /* The same from the messages and signatures on that the judgement has. */

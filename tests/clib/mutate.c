@@ -37,7 +37,8 @@ static double now(void) {
 static size_t octets_in(const struct handed *handed) {
     const struct zermuita_evidence *walked = &handed->walked;
     const struct zermuita_case *judged = &handed->judged;
-    return handed->is_walk ? walked->messages.len + walked->checked.len : judged->dnskey.len + judged->answer.len + judged->checked.len;
+    return handed->is_walk ? walked->messages.len + walked->checked.len
+                           : judged->dnskey.len + judged->answer.len + judged->checked.len;
 }
 
 /* A call, measured. */

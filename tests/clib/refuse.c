@@ -56,7 +56,8 @@ int main(int argc, char **argv) {
     for (size_t i = 0; i < cases.len; i++) {
         judge(handed_of(&cases.all[i]), &refusing, &judgement);
     }
-    printf("%zu judged in %lu calls: %lu requests refused, %lu calls as with memory, %lu wrong\n", cases.len, calls, refused, same, wrong);
+    printf("%zu judged in %lu calls: %lu requests refused, %lu calls as with memory, %lu wrong\n", cases.len, calls, refused, same,
+           wrong);
     judgement_free(&judgement);
     judgement_free(&without);
     cases_free(&cases);

@@ -1,7 +1,7 @@
 /*
- * Walks whose evidence is handed in otherwise: all messages at once and in another order, with less room for each reply, with octets cut
- * off at each place, and with limits as low as the walk allows, lower, and the highest. Each reply must be the one that the header says.
- * Prints how many walks and calls there were, and how many replies were others.
+ * Walks whose evidence is handed in otherwise: all messages at once and in another order, with less room for each reply, with octets
+ * cut off at each place, and with limits as low as the walk allows, lower, and the highest. Each reply must be the one that the header
+ * says. Prints how many walks and calls there were, and how many replies were others.
  */
 #include "cases.h"
 
