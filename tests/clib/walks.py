@@ -25,7 +25,7 @@ from zone import Records  # noqa: E402
 TOO_MANY = {"too many cuts": 48, "too many aliases": 49, "too many messages": 50}
 OUTSIDE, WANT = 31, 33
 SOA_TYPE = 6
-# Types that are not judged, and so never answered.
+# Types that are not judged.
 NOT_JUDGED = {0, CNAME_TYPE, DNAME_TYPE, 41, 46, 47, 48, 50, 51, *range(128, 256)}
 # The algorithm of all zones that are not insecure or bogus, and of one that is insecure where it is not checked; zones that are bogus.
 SIGNED_BY, OLD = 13, 5
@@ -229,8 +229,9 @@ def insecure_with(algorithms: bytes) -> set[tuple[bytes, ...]]:
 
 @functools.lru_cache(1 << 16)
 def told(name: bytes, rtype: int, algorithms: bytes = bytes([SIGNED_BY])) -> Reply | None:
-    """What the tree says of a question, down from the root; nothing where that is no verdict."""
-    if rtype in NOT_JUDGED or algorithms and SIGNED_BY not in algorithms:
+    """What the tree says of a question, down from the root; nothing where that is no verdict. A question for a type that is not judged
+    has none of a zone that has the name: it may be insecure."""
+    if algorithms and SIGNED_BY not in algorithms:
         return None
     qname, led = tuple(it.lower() for it in labels(name)), []
     while len(led) <= MOST_ALIASES:
@@ -241,7 +242,7 @@ def told(name: bytes, rtype: int, algorithms: bytes = bytes([SIGNED_BY])) -> Rep
             if len(wire_of(qname)) > 255:
                 return Reply(DNAME, front)
             led.append(qname)
-        elif word:
+        elif word in ("Open", "Unsigned") or word and rtype not in NOT_JUDGED:
             return Reply(NUMBERS[word], front + wire_of(zone.apex if zone else data) + (b"".join(map(part, data)) if zone else b""))
         else:
             return None
