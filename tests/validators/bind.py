@@ -11,6 +11,7 @@ from authority import Missing, packed
 from cases import Zoned
 from keys import ds_of
 from wire import A, AAAA, DNSKEY, DS, NS, SOA
+from zones import LONG, octets
 
 ADDRESS = "127.0.0.1", 5300
 ALGORITHMS = {13: ["-a", "ECDSAP256SHA256"], 8: ["-a", "RSASHA256", "-b", "2048"]}
@@ -31,10 +32,12 @@ def line(owner, rtype, ttl, data):
 
 def likely(zone, questions):
     """What is asked on the way: names and those above them, delegations, the names right below the apex, servers."""
-    asked = sorted({name[at:] for name, _rtype in questions for at in range(len(name))})
+    ends = [(zone.end(name), rtype) for name, rtype in questions]
+    asked = sorted({name[at:] for name, _rtype in [*questions, *ends] for at in range(len(name)) if octets(name) < LONG})
     found = dict.fromkeys((name, rtype) for name in asked for rtype in (A, NS))
     found.update(dict.fromkeys((name, DS) for name in asked if len(name) == 1 or name in zone.cuts))
     found.update(dict.fromkeys(((("ns",), A), (("ns",), AAAA), ((), A), ((), NS), ((), SOA))))
+    found.update(dict.fromkeys(it for it in ends if octets(it[0]) < LONG))
     return list(found)
 
 

@@ -11,7 +11,7 @@ from authority import Relay
 from bench import SHOWN, STAGES, STEPS
 from static import Static
 from wire import A, DNSKEY, NS
-from zones import BELOW, PLACES, SERVER
+from zones import BELOW, PLACES, SERVER, said_of
 
 # How long before the report the last server has a change, in seconds: answers may be under way.
 MARGIN = 0.5
@@ -166,16 +166,18 @@ class Clocked(Zoned):
         await asyncio.to_thread(server.replace, self.source.records(zone))
 
     def touch(self, after, name):
-        """Notes questions about a name that was changed."""
+        """Notes questions about a name that was changed, or that it stands for."""
         zones = (self.versions[-1].zone, after)
         rtypes = {rtype for zone in zones for owner, rtype in zone.sets if owner == name} | {A}
-        self.touched = [*((name, it) for it in sorted(rtypes)), (("under", *name), A), ((), wire.SOA)]
+        below = name[1:] if name[:1] == ("*",) else name
+        self.touched = [*((name, it) for it in sorted(rtypes)), (("under", *below), A), ((), wire.SOA)]
 
     def says(self, question, asked):
-        """What a cache may hold from a moment on: that of each version that was there then, the last one first."""
+        """What a cache may hold from a moment on: of each name that an alias leads to, that of each version that was there then, the
+        last one first."""
         now = time.time()
-        versions = [it for it in reversed(self.versions) if it.begin <= now and it.end >= asked]
-        return [it.zone.says(*question) for it in versions]
+        versions = [it.zone for it in reversed(self.versions) if it.begin <= now and it.end >= asked]
+        return [*said_of(versions, *question)]
 
     def drawn_questions(self, drawn, count):
         """Half the questions are about what was replaced last."""

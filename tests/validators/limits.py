@@ -38,6 +38,12 @@ class Few(Zone):
     def add_cuts(self):
         self.cut(("d",), False)
 
+    def add_aliases(self):
+        pass
+
+    def draw_alias_questions(self):
+        return []
+
 
 async def shown(world, folder):
     """What named says of BIND's answers, of each question in turn."""
@@ -82,6 +88,7 @@ def limit_of(told, log):
         return LOOP
     with_proof = told.heard._replace(is_secure=True)
     lacks_proof_alone = told.says.is_secure and agrees(None, told.says, with_proof, told.case.apex)
-    if lacks_proof_alone and zone.shape.chain == "nsec" and passes_over(zone, name) in zone.cuts:
+    names = [name, *(lead for _owner, _rtype, lead in told.says.links)]
+    if lacks_proof_alone and zone.shape.chain == "nsec" and any(passes_over(zone, it) in zone.cuts for it in names):
         return REFERRAL
     return ""

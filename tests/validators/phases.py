@@ -8,6 +8,7 @@ import typing
 
 import authority
 from validators import Drill, Heard, Program
+from zones import Zone
 
 FORKED = multiprocessing.get_context("fork")
 SERVERS = 3
@@ -37,16 +38,23 @@ def data_of(says, apex):
     return tuple(sorted(data))
 
 
+def links_of(validator, says, apex):
+    """The records of the aliases that lead to an answer, as a validator shows them."""
+    links = [(Zone.owner(owner, apex), rtype, Zone.owner(lead, apex)) for owner, rtype, lead in says.links]
+    return tuple(sorted(validator.links(links) if validator else links))
+
+
 def agrees(validator, says, heard, apex):
     """Whether a validator says what the zone says. Of a denial that opts out the two programs do not tell whether it is a proof."""
     is_program = isinstance(validator, Program)
-    wanted = "NOERROR" if says.exists else "NXDOMAIN"
+    wanted = says.status
     if isinstance(validator, Drill) and not says.data:
         wanted = "denied"
     is_open = says.is_secure is None or (is_program and not says.is_secure and not says.data)
     is_sure = is_open or heard.is_secure == says.is_secure
     has_data = heard.data == data_of(says, apex) or (heard.data is None and says.data)
-    return heard.status == wanted and bool(has_data) and is_sure
+    has_links = heard.links in (None, links_of(validator, says, apex))
+    return heard.status == wanted and bool(has_data) and has_links and is_sure
 
 
 def address_of(at):

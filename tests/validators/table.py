@@ -2,6 +2,7 @@
 
 import collections
 
+import wire
 import zones
 
 CHAINS = {"nsec": "NSEC", "nsec3": "NSEC3", "nsec3optout": "opt-out"}
@@ -17,6 +18,7 @@ def lines(all_told):
     for it in all_told:
         asked = zones.title(it.question, it.case.apex)
         heard = outcome(it.heard) + "".join(f" {data.hex()}" for data in it.heard.data or ())
+        heard += "".join(f", {wire.text(owner)} {wire.NAMES[rtype]} {wire.text(lead)}" for owner, rtype, lead in it.heard.links or ())
         yield f"{'agrees' if it.agrees else 'differs'}: {it.validator}: {asked}: {it.says.kind}: {heard}"
 
 
@@ -43,7 +45,8 @@ def cell(good, bad):
 
 def outcome(heard):
     """What was heard, without its data."""
-    return f"{heard.status}{', secure' if heard.is_secure else ''}{', with data' if heard.data else ''}"
+    aliases = f", {len(heard.links)} of aliases" if heard.links else ""
+    return f"{heard.status}{', secure' if heard.is_secure else ''}{aliases}{', with data' if heard.data else ''}"
 
 
 def by_question(of_bind):

@@ -14,22 +14,28 @@ import wire
 from authority import FORWARD, ROOT, dotted
 
 PATIENCE = 20
+# In seconds, when a program is ended.
+ENDLESS = 60
+ALIASES = wire.CNAME, wire.DNAME
 
 
 class Heard(typing.NamedTuple):
-    """What a validator says: a word for the RCODE, or bogus; whether it has a proof; the data of the records asked for, unless
-    it does not tell them."""
+    """What a validator says: a word for the RCODE, or bogus; whether it has a proof; the data of the records asked for, and the
+    records of aliases before them, unless it does not tell them."""
 
     status: str
     is_secure: bool
     data: tuple | None
+    links: tuple | None = ()
 
 
 def heard(octets, rtype):
     message = wire.read(octets)
-    status = {0: "NOERROR", 2: "bogus", 3: "NXDOMAIN"}.get(message.rcode, f"RCODE {message.rcode}")
-    data = sorted(wire.canonical_data(rtype, it.data) for it in message.sections[0] if it.rtype == rtype)
-    return Heard(status, bool(message.flags & wire.AD), tuple(data))
+    status = {0: "NOERROR", 2: "bogus", 3: "NXDOMAIN", 6: "YXDOMAIN"}.get(message.rcode, f"RCODE {message.rcode}")
+    answer = [it._replace(owner=it.owner.lower(), data=wire.canonical_data(it.rtype, it.data)) for it in message.sections[0]]
+    data = sorted(it.data for it in answer if it.rtype == rtype)
+    links = {(it.owner, it.rtype, it.data) for it in answer if it.rtype in ALIASES and it.rtype != rtype}
+    return Heard(status, bool(message.flags & wire.AD), tuple(data), tuple(sorted(links)))
 
 
 def query(number, name, rtype):
@@ -109,6 +115,16 @@ class Validator:
 
     def end(self):
         pass
+
+    @staticmethod
+    def in_place_of(question, _zone):
+        """What it is asked in the place of a question about a zone; none, where that is nothing."""
+        return question
+
+    @staticmethod
+    def links(links):
+        """The records of aliases as it shows them."""
+        return links
 
     def write(self, name, text):
         (self.folder / name).write_text(text)
@@ -295,7 +311,12 @@ class Program(Validator):
     async def output(self, words):
         how = {"stdin": asyncio.subprocess.DEVNULL, "stdout": asyncio.subprocess.PIPE, "stderr": asyncio.subprocess.STDOUT}
         process = await asyncio.create_subprocess_exec(*words, cwd=self.folder, **how)
-        output, _none = await process.communicate()
+        try:
+            output, _none = await asyncio.wait_for(process.communicate(), ENDLESS)
+        except asyncio.TimeoutError:
+            process.kill()
+            await process.wait()
+            return ""
         return output.decode(errors="replace")
 
     async def is_up(self):
@@ -303,6 +324,8 @@ class Program(Validator):
 
 
 class Delv(Program):
+    """It does not end where a name that a DNAME makes is too long, and is not asked for such names."""
+
     NAME, package = "delv", "bind9-dnsutils"
 
     async def start(self):
@@ -312,34 +335,55 @@ class Delv(Program):
         how = [f"@{dotted(FORWARD)}", "-b", self.address, "-a", "anchor", "+root=.", "+unknownformat"]
         return ["delv", *how, "-q", name, "-t", rtype]
 
+    @staticmethod
+    def in_place_of(question, zone):
+        return None if zone.says(*question).status == "YXDOMAIN" else question
+
+    @staticmethod
+    def links(links):
+        """It shows a DNAME at the name that it leads elsewhere, and not the CNAME that is made from it."""
+        made = {(links[at + 1][0], it[2]): it for at, it in enumerate(links) if it[1] == wire.DNAME}
+        names = {owner for owner, _lead in made}
+        shown = ((owner, rtype, lead) for owner, rtype, lead in links if rtype == wire.CNAME and owner not in names)
+        return *shown, *((owner, wire.DNAME, lead) for owner, lead in made)
+
     def said(self, output, rtype):
-        data = tuple(sorted(data for of, data in unknown_data(output) if of == rtype))
-        is_secure = "fully validated" in output
+        records = [*unknown_data(output)]
+        data = tuple(sorted(data for _owner, of, data in records if of == rtype))
+        links = tuple(sorted(it for it in records if it[1] in ALIASES and it[1] != rtype))
+        is_secure = "fully validated" in output and "unsigned answer" not in output
         if "resolution failed" in output and "ncache" not in output:
-            return Heard("bogus", False, data)
+            return Heard("bogus", False, data, links)
         status = "NXDOMAIN" if "ncache nxdomain" in output else "NOERROR"
-        return Heard(status, is_secure, data)
+        return Heard(status, is_secure, data, links)
 
 
 def unknown_data(output):
-    """Type and data of the records of a text, as RFC 3597 writes data."""
+    """Owner, type and data of the records of a text, as RFC 3597 writes data."""
     for line in output.splitlines():
-        found = re.match(r"^\S+\s+\d+\s+(?:IN|CLASS1)\s+(\S+)\s+\\# \d+ ([0-9A-Fa-f ]+)$", line)
+        found = re.match(r"^(\S+)\s+\d+\s+(?:IN|CLASS1)\s+(\S+)\s+\\# \d+ ([0-9A-Fa-f ]+)$", line)
         if found:
-            rtype = wire.NUMBERS.get(found[1]) or int(found[1].removeprefix("TYPE"))
-            yield rtype, bytes.fromhex(found[2])
+            rtype = wire.NUMBERS.get(found[2]) or int(found[2].removeprefix("TYPE"))
+            yield wire.wire(found[1].lower()), rtype, wire.canonical_data(rtype, bytes.fromhex(found[3]))
 
 
 class Drill(Program):
     """It goes from the root down, and stops where a wildcard answers for a name above the one that is asked for; there, and for DS,
     which it would ask of the zone below, it is run so that it goes from signatures up, and prints no data. What it prints does
-    not tell NXDOMAIN from NODATA: both are `denied`."""
+    not tell NXDOMAIN from NODATA: both are `denied`. It follows no aliases, and is asked for these by their own type, from signatures
+    up for a CNAME, since a wildcard's answers for names above."""
 
     NAME, package = "drill", "ldnsutils"
+    UPWARD = wire.DS, wire.CNAME
 
     async def start(self):
         self.write("anchor", self.anchor())
         self.write("hints", f". 3600 IN NS a.root.\na.root. 3600 IN A {dotted(ROOT)}\n")
+
+    @staticmethod
+    def in_place_of(question, zone):
+        link = zone.link(*question)
+        return link.links[0][:2] if link else question
 
     async def ask(self, name, rtype):
         """It gives up where a server is late, so that it is asked anew where it has no proof."""
@@ -352,8 +396,8 @@ class Drill(Program):
     async def asked(self, name, rtype):
         asked = wire.text(name), wire.NAMES[rtype]
         down = ["drill", "-t", "-TD", "-k", "anchor", "-r", "hints", *asked]
-        output = "" if rtype == wire.DS else await self.output(down)
-        if rtype == wire.DS or self.stops_above(output, *asked):
+        output = "" if rtype in self.UPWARD else await self.output(down)
+        if rtype in self.UPWARD or self.stops_above(output, *asked):
             return self.chased(await self.output(["drill", "-t", "-S", "-k", "anchor", f"@{dotted(FORWARD)}", *asked]))
         return self.said(output, rtype)
 
@@ -399,7 +443,7 @@ def data_of_text(rtype, words):
     match rtype:
         case wire.A | wire.AAAA:
             return ipaddress.ip_address(words[0]).packed
-        case wire.NS:
+        case wire.NS | wire.CNAME | wire.DNAME:
             return wire.wire(words[0])
         case wire.MX:
             return int(words[0]).to_bytes(2, "big") + wire.wire(words[1])

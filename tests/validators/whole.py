@@ -9,15 +9,17 @@ from bench import STATES
 from bind import ask, line
 from keys import POINT
 from served import dotted
-from wire import A, DNSKEY, DS, NSEC, NSEC3, NSEC3PARAM, RRSIG, SRV
+from wire import A, CNAME, DNSKEY, DS, NSEC, NSEC3, NSEC3PARAM, RRSIG, SRV, Record
 
 
 def questions(zone):
-    """For all that a zone has: its RRsets, its delegations, and by a type that no name has the records of the chain."""
+    """For all that a zone has: its RRsets, its delegations, and by a type that no name has the records of the chain. An alias would
+    answer for any type: its record of the chain denies the first name below it."""
     found = dict.fromkeys(owner_type for owner_type in zone.sets if zone.cut_above(owner_type[0]) is None)
     for cut in zone.cuts:
         found.update({(cut, DS): None, (cut, A): None})
-    found.update(((name, SRV), None) for name in sorted(zone.names) if zone.cut_above(name) is None)
+    names = (it for it in sorted(zone.names) if zone.cut_above(it) is None)
+    found.update(((("\0", *it) if (it, CNAME) in zone.sets else it, SRV), None) for it in names)
     return list(found)
 
 

@@ -12,12 +12,13 @@ sys.path.append(str(pathlib.Path(__file__).resolve().parent.parent / "rollovers"
 
 from messages import key_tag, wire  # noqa: F401
 
-A, NS, CNAME, SOA, PTR, MX, TXT, AAAA, SRV, DS, RRSIG, NSEC, DNSKEY, NSEC3 = 1, 2, 5, 6, 12, 15, 16, 28, 33, 43, 46, 47, 48, 50
+A, NS, CNAME, SOA, PTR, MX, TXT, AAAA, SRV, DNAME, DS, RRSIG, NSEC, DNSKEY, NSEC3 = 1, 2, 5, 6, 12, 15, 16, 28, 33, 39, 43, 46, 47, 48, 50
 OPT, NSEC3PARAM, CDS, CDNSKEY = 41, 51, 59, 60
-NUMBERS = {"A": A, "NS": NS, "SOA": SOA, "MX": MX, "TXT": TXT, "AAAA": AAAA, "DS": DS, "DNSKEY": DNSKEY, "CDS": CDS, "SRV": SRV}
+NUMBERS = {"A": A, "NS": NS, "CNAME": CNAME, "SOA": SOA, "MX": MX, "TXT": TXT, "AAAA": AAAA, "SRV": SRV, "DNAME": DNAME, "DS": DS}
+NUMBERS |= {"DNSKEY": DNSKEY, "CDS": CDS}
 NAMES = {number: name for name, number in NUMBERS.items()} | {CDNSKEY: "CDNSKEY", RRSIG: "RRSIG", NSEC: "NSEC", NSEC3: "NSEC3"}
 # Octets before the names in data of these types, and how many names there are.
-NAMED = {NS: (0, 1), CNAME: (0, 1), PTR: (0, 1), SOA: (0, 2), MX: (2, 1), SRV: (6, 1)}
+NAMED = {NS: (0, 1), CNAME: (0, 1), PTR: (0, 1), DNAME: (0, 1), SOA: (0, 2), MX: (2, 1), SRV: (6, 1)}
 # The flags QR, AA, TC, RD, RA and AD, and the RCODEs.
 QR, AA, TC, RD, RA, AD, CD = 0x8000, 0x0400, 0x0200, 0x0100, 0x0080, 0x0020, 0x0010
 NOERROR, SERVFAIL, NXDOMAIN, REFUSED = 0, 2, 3, 5
