@@ -113,4 +113,4 @@ def tells_apart(told):
 def limits(told):
     """A row for each limit that was shown of BIND's answers."""
     rows = [[it.limit, zones.title(it.question, it.case.apex), it.says.kind, outcome(it.heard)] for it in told if it.limit]
-    return of_lines(["limit of named", "question", "answer", "it says of BIND's answer"], rows) if rows else "none"
+    return of_lines(["limit", "question", "answer", "it says of BIND's answer"], rows) if rows else "none"

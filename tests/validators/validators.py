@@ -295,6 +295,7 @@ minimum-ttl-override=0
 max-cache-bogus-ttl=1
 packetcache-servfail-ttl=1
 max-rrsigs-per-record=20
+max-signature-validations-per-query=1000
 security-poll-suffix=
 """
 

@@ -90,8 +90,8 @@ class Link(typing.NamedTuple):
     is_secure: bool | None
 
     def before(self, says):
-        """What is said of the name that the alias leads to, with the alias before it. All has a proof where each part has (RFC 4035,
-        3.2.3)."""
+        """What is said of the name that the alias leads to, with the alias before it. All has a proof where each part has (RFC 6672,
+        5.3.3)."""
         parts = self.is_secure, says.is_secure
         is_secure = False if False in parts else None if None in parts else True
         kind = f"{self.kind}{',' if says.links else ' to'} {says.kind}"
