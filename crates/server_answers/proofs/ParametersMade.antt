@@ -1,19 +1,18 @@
 -- Messages for the NSEC3PARAM RRset of a zone.
-use Rattle.std.proofs.Common.{◌≡◌, ℕ, Bool, true, false, List, [], ◌∷◌, Option, Some, None, Result, Ok, Err, refl, sym}
+use Rattle.std.proofs.Common.{◌≡◌, ℕ, Bool, true, false, List, [], ◌∷◌, Option, Some, None, Result, Ok, Err, refl}
 use Rattle.std.specs.Prelude.{IfOk, IsOk}
 use Rattle.std.proofs.lemmas.Bool.{and_parts, false≢true}
 use Rattle.definitions.specs.Dnskey.{Dnskey}
 use Rattle.definitions.specs.Limits.{pointer_limit}
-use Rattle.definitions.specs.Name.{Name, same}
+use Rattle.definitions.specs.Name.{Name}
 use Rattle.definitions.specs.ZoneChain.{Mode, Nsec, Nsec3}
 use Rattle.messages.specs.Message.{Asked, message}
 use Rattle.answer_shared.specs.Given.{Gives}
 use Rattle.answer_shared.specs.Served.{Group}
 use Rattle.answer_zone.specs.Finding.{links_names}
 use Rattle.answer_publisher.specs.Answering.{apex_question}
-use Rattle.answer_publisher.specs.Parameters.{OfBoth, parameters_in, parameters_inputs, parameters_of_chain}
+use Rattle.answer_publisher.specs.Parameters.{OfBoth, parameters_in}
 use Rattle.answer_publisher.specs.declared.fault.AnswerFault.{AnswerFault}
-use Rattle.server_signatures.specs.Outcomes.{AnswersParametersEach, IsSigned, SignsParameters}
 use Rattle.server_signatures.specs.Table.{sign_by, verify_by}
 use Rattle.server_signatures.specs.declared.answering.Signed.{Signed}
 use Rattle.server_signatures.specs.declared.answering.Signed.TheVariants as signed
@@ -27,22 +26,6 @@ use Rattle.server_answers.proofs.Making.{ok_of}
 pub is_of_hashes : (apex : Name) (mode : Mode) (asked : Asked) → is_for_parameters apex mode asked ≡ true → links_names mode ≡ false
 is_of_hashes apex Nsec asked e = absurd (false≢true (and_parts _ false e).1)
 is_of_hashes apex (Nsec3 iterations salt optout) asked e = refl
-
--- which has it
-pub not_none : {B : Type 0} (P : Group → B → Type 0) (apex : Name) (ttl : ℕ) (mode : Mode) → links_names mode ≡ false → OfBoth P (parameters_of_chain apex ttl mode) None → ⊥
-not_none P apex ttl Nsec e h = false≢true (sym e)
-not_none P apex ttl (Nsec3 iterations salt optout) e h = h
-
-second_of_both : {A B : Type 0} (Q : B → Type 0) (o : Option A) (b : B) → OfBoth (λ (a : A) (c : B). Q c) o (Some b) → Q b
-second_of_both Q None b h = absurd h
-second_of_both Q (Some a) b h = h
-
-pub parameters_by_table : (s : Serving) (x : Signed) → SignsParameters s.table s.world s.keys s.at (Some x) → MakesParameters s true (Ok x)
-parameters_by_table s (signed.Message m) h =
-    second_of_both (IsSigned s.table (AnswersParametersEach s.table s.world s.keys s.at) (parameters_inputs s.world s.keys s.at)) (parameters_in s.world) (signed.Message m) h
-parameters_by_table s (signed.Missing v) h =
-    let is = second_of_both (IsSigned s.table (AnswersParametersEach s.table s.world s.keys s.at) (parameters_inputs s.world s.keys s.at)) (parameters_in s.world) (signed.Missing v) h in
-    (refl, is.0, is.1)
 
 spells_reads : (verifies : Dnskey → List ℕ → List ℕ → Bool) (apex : Name) (at life : ℕ) (keys : List Dnskey) (o : Option Group) (m : List ℕ)
     → OfBoth (λ (g : Group) (b : List ℕ). Gives verifies pointer_limit apex at life keys (apex_question apex g.rtype) (g ∷ []) b) o (Some m) → IsOk (message pointer_limit m)
