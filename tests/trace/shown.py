@@ -3,6 +3,7 @@ import base64
 import collections
 import re
 
+import fits
 from questions import BAD, CLOSED, on_the_way
 from wire import key_tag, name
 from zones import UNSIGNED, above
@@ -10,7 +11,6 @@ from zones import UNSIGNED, above
 # What becomes of signatures of zones in order: a key of the zone alone signs its keys beside the one that a DS record names; an RRset is
 # not needed; a server answers from the zone below.
 IN_ORDER = {"passed", "not-checked", "untrusted-key", "other-signer"}
-DENIALS = ("NODATA", "NXDOMAIN", "WILDCARD", "WILDCARD_NODATA", "DELEGATED", "OPTOUT")
 # A line of standard error, for a question to a server.
 ASKED = re.compile(r"(\S+): (\S+) (\S+) from (\S+), UDP( cut off, TCP)?(?:, (\d+) sent)?(?:, (\d+) timed out)?: (.*), (\d+\.\d{3}) ms")
 
@@ -57,27 +57,8 @@ def signature_faults(said):
         zone, is_for_keys = it["zone"].rstrip("."), it["type"] == "DNSKEY"
         if not states <= ({"expired"} if zone == "late.test" else IN_ORDER):
             yield f"signatures of {it['name']} {it['type']} of {it['zone']} are {states}"
-        proves = any(is_verdict(judgement) for judgement in it["judgements"])
-        if (proves or is_for_keys and zone not in BAD) and "passed" not in states:
-            yield f"no signature of {it['name']} {it['type']} of {it['zone']} passed"
-
-
-def word_of(judgement):
-    return judgement["reply"].split(":")[0].removeprefix("ZERMUITA_")
-
-
-def is_verdict(judgement):
-    return not judgement["says"].startswith("proves nothing")
-
-
-def reason_faults(said):
-    """Judgements without the records that they rest on."""
-    for it in (judgement for message in said["asked"] for judgement in message["judgements"]):
-        word, because = word_of(it), it["because"]
-        gaps = sum(" does not exist" in line or "unsigned delegation may be" in line for line in because)
-        wanted = {"NXDOMAIN": 2, "WILDCARD": 1, "WILDCARD_NODATA": 1, "WILDCARD_ALIAS": 1, "OPTOUT": 1}.get(word, 0)
-        if gaps < wanted or word in DENIALS and not because:
-            yield f"{it['name']} {it['type']} is {word} because {because}"
+        if is_for_keys and zone not in BAD and "passed" not in states:
+            yield f"no signature of the keys of {it['zone']} passed"
 
 
 def faults(folder, said, qname, rtype, through):
@@ -85,7 +66,7 @@ def faults(folder, said, qname, rtype, through):
     reached = {apex for at in (qname, *through) for apex, _name, _rtype in on_the_way(at, rtype)}
     yield from zone_faults(folder, said, sorted(reached, key=lambda it: len(name(it))))
     yield from signature_faults(said)
-    yield from reason_faults(said)
+    yield from fits.faults(said)
 
 
 def lines_of(said):
