@@ -86,8 +86,9 @@ def lines_of(said):
 
 def text_faults(said, text):
     """Lines that the text lacks, each as often as the object has it, and what its last lines say otherwise."""
-    has = collections.Counter(line.strip() for line in text.splitlines())
-    has += collections.Counter(it[1] for it in (re.match(r"\s*((?:RRSIG [^:]*)|(?:hash of \S+: \w+))[:,] ", line) for line in text.splitlines()) if it)
+    lines = [line.strip() for line in text.splitlines()]
+    begins = (re.match(r"(RRSIG [^:]*|hash of \S+: \w+)[:,] ", line) for line in lines)
+    has = collections.Counter([*lines, *(it[1] for it in begins if it)])
     lacking = collections.Counter(lines_of(said)) - has
     if lacking:
         yield f"the text lacks {dict(lacking)}"
