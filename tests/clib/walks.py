@@ -7,10 +7,14 @@ import functools
 import pathlib
 import re
 import socket
+import struct
 import sys
 
-from answers import CNAME_TYPE, DNAME, DNAME_TYPE, DS_TYPE, INSECURE, NUMBERS, OPTOUT, Reply, above, ds_set, labels, part, wire
-from findings import rrsets
+from answers import CNAME_TYPE, DNAME, DNAME_TYPE, DS_TYPE, INSECURE, NS_TYPE, NUMBERS, OPTOUT
+from answers import Reply, above, ds_set, labels, part, wire
+from errors import SIGNS, key_tag, rows
+from findings import first_name, rrsets
+from lasting import DNSKEY, NSEC, RRSIG, records
 
 TESTS = pathlib.Path(__file__).resolve().parents[1]
 WALK = TESTS.parent / "crates/test_walk"
@@ -23,10 +27,10 @@ from zone import Records  # noqa: E402
 
 # Replies of zermuita_resolve alone, by the words that are printed for them; and words of others.
 TOO_MANY = {"too many cuts": 48, "too many aliases": 49, "too many messages": 50}
-OUTSIDE, WANT = 31, 33
+NOTHING_TOLD, OUTSIDE, WANT = 30, 31, 33
 SOA_TYPE = 6
 # Types that are not judged.
-NOT_JUDGED = {0, CNAME_TYPE, DNAME_TYPE, 41, 46, 47, 48, 50, 51, *range(128, 256)}
+NOT_JUDGED = {0, 41, RRSIG, NSEC, DNSKEY, 50, 51, *range(128, 256)}
 # The algorithm of all zones that are not insecure or bogus, and of one that is insecure where it is not checked; zones that are bogus.
 SIGNED_BY, OLD = 13, 5
 BAD = ("late.test", "lost.test")
@@ -173,6 +177,37 @@ def lines() -> tuple[list[Message], list[Walk]]:
     return messages, list(walks.values())
 
 
+def denied(question: bytes, rtypes: tuple[int, ...], signer: bytes) -> bytes:
+    """A message with an NSEC record of the name below the first label, which has these types, and its signature: what that is made
+    over (RFC 4034, 4.1 and 3.1)."""
+    owner = above(question)[1]
+    bits = bytearray(6)
+    for rtype in rtypes:
+        bits[rtype // 8] |= 0x80 >> rtype % 8
+    data = wire("zz.example") + b"\0" + part(bytes(bits), 1)
+    rrset = owner + struct.pack(">HHIH", NSEC, 1, 300, len(data)) + data
+    fields = struct.pack(">HBBIIIH", NSEC, SIGNED_BY, len(labels(owner)), 300, 4000, 500, key_tag(signer)) + wire("example")
+    signature = fields + fields + rrset
+    records = rrset + owner + struct.pack(">HHIH", RRSIG, 1, 300, len(signature)) + signature
+    return struct.pack(">6H", 0, 0x8400, 1, 0, 2, 0) + question + struct.pack(">HH", 1, 1) + records
+
+
+def untold() -> tuple[list[bytes], list[Message], Walk]:
+    """A walk in a zone that changes between its answers, which so tell nothing: the name is below a delegation, and then there is none.
+    In front of it the signatures that pass, and the messages."""
+    first = next(rows()).case
+    zone, name = first.apex, wire("x.cut.example")
+    below, none = denied(name, (NS_TYPE, RRSIG, NSEC), SIGNS), denied(name, (1, RRSIG, NSEC), SIGNS)
+    messages = [Message(zone, zone, DNSKEY, first.dnskey), Message(zone, name, 1, below)]
+    messages += [Message(zone, it, DS_TYPE, none) for it in (name, above(name)[1])]
+    keys = {key_tag(it.raw): it.raw for it in rrsets(first.dnskey)[zone, DNSKEY]}
+    passing = []
+    for it in [signature for octets in (first.dnskey, below, none) for _, signature in records(octets) if signature]:
+        passing.append(part(keys[int.from_bytes(it.fields[16:18], "big")]) + part(it.signature, 4) + part(it.signature))
+    reply = Reply(NOTHING_TOLD, bytes(4) + zone + name + bytes([0, 1]))
+    return passing, messages, Walk("a zone that changes", name, 1, zone, tuple(first.ds), 1500, reply, len(messages), ede=0)
+
+
 class Zone(Records):
     """A zone of tests/walk, by the lines of its file, and by its delegations with their DS sets."""
 
@@ -247,6 +282,17 @@ def told(name: bytes, rtype: int, algorithms: bytes = bytes([SIGNED_BY])) -> Rep
         else:
             return None
     return None
+
+
+def lowered(reply: Reply | None) -> Reply | None:
+    """A reply, the letters of its names in lower case: those that aliases led through, and one behind them."""
+    if reply is None:
+        return None
+    names, rest = reply.octets[:4], reply.octets[4:]
+    for _ in range(int.from_bytes(names, "big") + 1):
+        name = first_name(rest)
+        names, rest = names + name.lower(), rest[len(name) :]
+    return dataclasses.replace(reply, octets=names + rest)
 
 
 def down(qname, rtype, insecure):
