@@ -1,6 +1,6 @@
-/* Judges answers of name servers, and walks over them, and prints a line for each: reply, counts, calls, TTL, until, extended error, what
- * is said of a delegation, octets; of a walk in front of these how many messages it took. OpenSSL checks the signatures; with an argument
- * they pass by the table. */
+/* Judges answers of name servers, and walks over them, and prints a line for each: reply, counts, calls, TTL, until, extended error,
+ * what is said of a delegation, octets; of a walk in front of these how many messages it took. OpenSSL checks the signatures; with an
+ * argument they pass by the table. */
 #include "cases.h"
 #include "text.h"
 

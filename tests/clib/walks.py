@@ -1,4 +1,4 @@
-"""The walks of crates/test_walk, as they are handed to a caller of the library for C; and what its tree of zones says of any question."""
+"""The walks of crates/test_walk, as they are handed to a caller of the library for C; and what its tree of zones says of questions."""
 
 from __future__ import annotations
 
@@ -131,10 +131,10 @@ def walk_of(said: str, state: dict, words: list[str]) -> Walk:
     ttl, until = map(int, lasts.groups()) if lasts else (0, 0)
     ede = re.search(r"; EDE (\d+)", more)
     errors = int(ede[1]) if ede else 0
-    name, rtype = words
     # Of a refusal whose line is not one from octets to octets no extended error is told.
     told = None if said.startswith("resolve ") and " bogus " in said else errors
-    return Walk(said, wire_name(name), int(rtype), reply=replied(says), messages=int(messages), ttl=ttl, until=until, ede=told, **state)
+    reply = {"reply": replied(says), "messages": int(messages), "ttl": ttl, "until": until, "ede": told}
+    return Walk(said, wire_name(words[0]), int(words[1]), **reply, **state)
 
 
 def lines() -> tuple[list[Message], list[Walk]]:
@@ -165,8 +165,8 @@ def lines() -> tuple[list[Message], list[Walk]]:
                 said = next(it for it in printed if it.startswith(f"{line}: "))
                 printed = printed[printed.index(said) + 1 :]
                 left = tuple(at for at, it in enumerate(messages) if (it.zone, it.name.lower(), it.rtype) in without)
-                given = state | {"cuts": limits["cuts"], "aliases": limits["aliases"], "max_messages": limits["messages"], "without": left}
-                walk = walk_of(said, given, words)
+                limited = {"cuts": limits["cuts"], "aliases": limits["aliases"], "max_messages": limits["messages"], "without": left}
+                walk = walk_of(said, state | limited, words)
                 key = *words, *limits.values(), walk.max_signatures, left
                 if name == "octets" or key not in walks:
                     walks[key] = walk
@@ -193,8 +193,8 @@ def denied(question: bytes, rtypes: tuple[int, ...], signer: bytes) -> bytes:
 
 
 def untold() -> tuple[list[bytes], list[Message], Walk]:
-    """A walk in a zone that changes between its answers, which so tell nothing: the name is below a delegation, and then there is none.
-    In front of it the signatures that pass, and the messages."""
+    """A walk in a zone that changes between its answers, which so tell nothing: the name is below a delegation, and then there is
+    none. In front of it the signatures that pass, and the messages."""
     first = next(rows()).case
     zone, name = first.apex, wire("x.cut.example")
     below, none = denied(name, (NS_TYPE, RRSIG, NSEC), SIGNS), denied(name, (1, RRSIG, NSEC), SIGNS)
