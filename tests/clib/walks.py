@@ -126,14 +126,14 @@ def replied(said: str) -> Reply:
 
 def walk_of(said: str, state: dict, words: list[str]) -> Walk:
     """A walk, by its line and what the lines before it set."""
-    says, messages, more = re.fullmatch(r"[^:]*: (.*); (\d+) messages(.*)", said).groups()
+    ((says, messages, more),) = re.findall(r"^[^:]*: (.*); (\d+) messages(.*)$", said)
     lasts = re.search(r"; TTL (\d+) until (\d+)", more)
     ttl, until = map(int, lasts.groups()) if lasts else (0, 0)
     ede = re.search(r"; EDE (\d+)", more)
     errors = int(ede[1]) if ede else 0
     # Of a refusal whose line is not one from octets to octets no extended error is told.
     told = None if said.startswith("resolve ") and " bogus " in said else errors
-    reply = {"reply": replied(says), "messages": int(messages), "ttl": ttl, "until": until, "ede": told}
+    reply: dict = {"reply": replied(says), "messages": int(messages), "ttl": ttl, "until": until, "ede": told}
     return Walk(said, wire_name(words[0]), int(words[1]), **reply, **state)
 
 
@@ -268,7 +268,8 @@ def told(name: bytes, rtype: int, algorithms: bytes = bytes([SIGNED_BY])) -> Rep
     has none of a zone that has the name: it may be insecure."""
     if algorithms and SIGNED_BY not in algorithms:
         return None
-    qname, led = tuple(it.lower() for it in labels(name)), []
+    qname = tuple(it.lower() for it in labels(name))
+    led: list = []
     while len(led) <= MOST_ALIASES:
         front = len(led).to_bytes(4, "big") + b"".join(map(wire_of, led))
         zone, word, data = down(qname, rtype, insecure_with(algorithms))
