@@ -1,12 +1,12 @@
 -- Facts that show no DS at a name below the apex show whether the name is delegated.
-use Rattle.std.proofs.Common.{◌≡◌, ℕ, Bool, true, false, ◌&&◌, not, List, [], ◌∷◌, Option, Some, None, refl, sym, ap, subst, ◌∙◌, inl, inr}
+use Rattle.std.proofs.Common.{◌≡◌, ℕ, Bool, true, false, ◌&&◌, not, List, [], ◌∷◌, Option, Some, None, refl, sym, inl, inr}
 use Rattle.std.specs.List.{list_any}
 use Rattle.definitions.specs.Bitmap.{bitmap_has}
 use Rattle.definitions.specs.Name.{Name, at_or_above, low, same, strictly_above}
 use Rattle.definitions.specs.Zone.{Verdict, NoType, NoName, StarNoType, Delegated, Open, star_under}
 use Rattle.denial_laws.specs.Deciding.{by_chain, decided}
-use Rattle.denial_laws.specs.Facts.{Facts, HashLink, Link}
-use Rattle.denial_laws.specs.NsecRules.{at_name, at_owner, at_star, below_cut, closest, covered, denied, first_some, is_cut, lacks, link_covers, or_else, star_lacks}
+use Rattle.denial_laws.specs.Facts.{HashLink, Link}
+use Rattle.denial_laws.specs.NsecRules.{at_name, at_owner, at_star, below_cut, closest, covered, denied, first_some, is_cut, link_covers, or_else, star_lacks}
 use Rattle.denial_laws.specs.Nsec3Rules.{at_hash, beyond, climbed, covers_hash, cut_above, enclosed, encloses, hash_denied, is_at, is_matched, star_at}
 use Rattle.denial_laws.proofs.Found.{either_from, first_from, first_is, left_is, right_is}
 use Rattle.denial_laws.proofs.NameFacts.{names_same, same_names, strictly_unlike}

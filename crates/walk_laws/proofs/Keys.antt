@@ -1,6 +1,6 @@
 -- A judge does not refuse keys that were given.
 use Rattle.std.proofs.Common.{◌≡◌, ℕ, ◌<◌, Bool, true, false, not, ◌&&◌, List, [], ◌∷◌, length, map, Option, Some, None, Result, Ok, Err, refl, ap, ◌∙◌, inl, inr, arith}
-use Rattle.std.specs.Prelude.{Contains, nat_eq, if◌then◌else◌}
+use Rattle.std.specs.Prelude.{nat_eq, if◌then◌else◌}
 use Rattle.std.specs.List.{filter}
 use Rattle.std.proofs.lemmas.Bool.{lt-ltb, ne_eqb}
 use Rattle.definitions.specs.Dnskey.{Dnskey, Ds, dnskey_data, key_tag}
@@ -15,9 +15,8 @@ use Rattle.answer_scheme.specs.Answers.{Answers}
 use Rattle.answer_shared.specs.EqualTags.{has_equal_tags}
 use Rattle.answer_shared.specs.Served.{Group, by_tag, key_group}
 use Rattle.answer_shared.specs.Told.{fields_for}
-use Rattle.answer_judge_keys.specs.Judging.{Answer, JudgeInput, Refuses, Says, is_judged, may_ask, same_question}
+use Rattle.answer_judge_keys.specs.Judging.{Answer, JudgeInput, Refuses, is_judged, may_ask, same_question}
 use Rattle.answer_judge_keys.specs.Trusted.{is_trusted, is_usable}
-use Rattle.answer_judge_keys.specs.declared.verdict.Refusal.{Refusal}
 use Rattle.answer_judge_keys.specs.declared.verdict.Refusal.TheVariants as r
 use Rattle.answer_judge_keys.proofs.GivenKeys.{by_tag-has, data_of_key, find_kept}
 use Rattle.answer_judge_keys.proofs.GivenSorted.{data_has, some_length, sorted_twice}

@@ -18,4 +18,9 @@ pub mod Stuck
 pub mod Few
 pub mod Ending
 pub mod Served
+pub mod Gave
+pub mod Ahead
+pub mod Leads
+pub mod Aliased
+pub mod ServedAliases
 pub mod Verdict

@@ -1,5 +1,5 @@
 -- What is judged of a case's messages, by its parts.
-use Rattle.std.specs.Prelude.{ℕ, Bool, true, false, not, ◌&&◌, Option, Some, None, Result, Ok, Err, if◌then◌else◌}
+use Rattle.std.specs.Prelude.{Bool, true, false, not, ◌&&◌, Option, Some, None, Result, Ok, Err, if◌then◌else◌}
 use Rattle.definitions.specs.Zone.{Verdict, Unsigned}
 use Rattle.messages.specs.Message.{Message}
 use Rattle.messages.specs.declared.error.MessageError.{MessageError}

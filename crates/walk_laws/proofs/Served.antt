@@ -19,7 +19,7 @@ use Rattle.answer_judge_table.specs.Outcomes.{IsJudgedBy}
 use Rattle.answer_findings.specs.Judgements.{is_delegated}
 use Rattle.answer_findings.specs.Table.{AgreesWith, Tried, answers_with}
 use Rattle.resolution_tree.specs.Laws.{TreesResolveToOne, TreesSayOne}
-use Rattle.resolution_tree.specs.Tree.{Said, refers_to}
+use Rattle.resolution_tree.specs.Tree.{refers_to}
 use Rattle.resolution_step.specs.Told.{StepSeen, IsCutTold, IsTold, at_cut, verdict_told}
 use Rattle.resolution_step.specs.declared.telling.Counts.{Counts}
 use Rattle.resolution_evidence.specs.Given.{Given, IsOf, judge_input}
@@ -28,10 +28,9 @@ use Rattle.resolution_evidence.specs.Walking.{IsNameStep, IsOwnStep, renamed}
 use Rattle.resolution_walk.specs.Between.{IsNothing}
 use Rattle.resolution_walk.specs.Judged.{IsHeard, OfAnswer, OfName, are_keys_refused}
 use Rattle.resolution_walk.specs.declared.ending.Walk.{Walk}
-use Rattle.resolution_walk.specs.declared.walk.Limits.{Limits}
 use Rattle.walk_laws.specs.Ending.{IsUntoldOf}
 use Rattle.walk_laws.specs.Keys.{KeysWereGiven}
-use Rattle.walk_laws.specs.Served.{AreServed, AreServedWithKeys, IsLeftUntold, OfMemory, OfKeys, LacksMemory, KeyedTreesAreWalked, RanOutOfMemory, ServedTreesAreWalked, ServedZonesAreWalked, ZonesKeys, asking}
+use Rattle.walk_laws.specs.Served.{AreServed, IsLeftUntold, OfMemory, OfKeys, LacksMemory, KeyedTreesAreWalked, RanOutOfMemory, ServedTreesAreWalked, ServedZonesAreWalked, ZonesKeys, asking}
 use Rattle.walk_laws.proofs.Ending.{trees_are_walked}
 use Rattle.walk_laws.proofs.KeysTold.{cut_told_trusting, nothing_trusting, told_trusting}
 use Rattle.walk_laws.proofs.Saying.{cut_nothing, proper, told_nothing}

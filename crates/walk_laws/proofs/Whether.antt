@@ -1,5 +1,5 @@
 -- A zone's answer for DS at a name below its apex, which shows that there is none, tells whether the name is delegated.
-use Rattle.std.proofs.Common.{◌≡◌, ℕ, Bool, true, false, ◌&&◌, ◌||◌, List, [], ◌∷◌, ◌++◌, map, Option, Some, None, Result, Ok, Err, eqb, refl, sym, ap, subst, ◌∙◌}
+use Rattle.std.proofs.Common.{◌≡◌, ℕ, Bool, true, false, ◌&&◌, List, [], ◌∷◌, ◌++◌, map, Option, Some, None, Result, Ok, Err, eqb, refl, sym, ap, subst, ◌∙◌}
 use Rattle.std.specs.Prelude.{nat_eq, length}
 use Rattle.std.specs.List.{AllByRecursion, filter, list_any}
 use Rattle.std.proofs.lemmas.Bool.{or_from}
@@ -9,18 +9,18 @@ use Rattle.definitions.specs.Zone.{Verdict, NoType, verdict}
 use Rattle.definitions.specs.ZoneChain.{Mode, Nsec, Nsec3, optout_of}
 use Rattle.denial_laws.specs.Facts.{Facts, Rrset}
 use Rattle.messages.specs.HandedRr.{HandedRr}
-use Rattle.messages.specs.Message.{Message, Spelled, message}
+use Rattle.messages.specs.Message.{Message, message}
 use Rattle.messages.specs.declared.error.MessageError.{MessageError}
 use Rattle.answer_scheme.specs.Answers.{Answers}
 use Rattle.answer_judge_rules.specs.Hashes.{hash_among}
 use Rattle.answer_shared.specs.Accepting.{sorted_records, zone_of}
 use Rattle.answer_shared.specs.Hashing.{hash_in}
-use Rattle.answer_shared.specs.Served.{Group, Served, ahead, answer_groups, by_tag, chain_names, chain_record, proofs_of, served_of, soa, speaks_for, spoken}
+use Rattle.answer_shared.specs.Served.{Group, Served, ahead, answer_groups, chain_names, chain_record, proofs_of, served_of, soa, speaks_for, spoken}
 use Rattle.answer_shared.specs.Told.{TellsGroups}
 use Rattle.answer_judge_keys.specs.Judging.{Answer, JudgeInput, Refuses, Says, is_judged}
 use Rattle.answer_judge_keys.specs.Trusted.{is_usable}
 use Rattle.answer_judge_keys.specs.declared.verdict.Refusal.{Refusal}
-use Rattle.answer_judge_facts.specs.Judged.{are_mixed, are_over, decided_by, ds_authenticates_keys, facts_in, has_unlike_times, is_unhashed, judged, judged_answer, judged_messages, judged_proof, keys_of, trusting}
+use Rattle.answer_judge_facts.specs.Judged.{are_mixed, are_over, decided_by, ds_authenticates_keys, has_unlike_times, is_unhashed, judged, judged_answer, judged_messages, judged_proof, keys_of, trusting}
 use Rattle.answer_judge_facts.specs.Times.{are_unlike, proof_times}
 use Rattle.answer_judge_facts.specs.Verified.{Trusting, verified_hash_links, verified_links, verified_rrset}
 use Rattle.answer_judge.specs.Meeting.{served_from}

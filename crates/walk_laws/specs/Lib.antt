@@ -7,4 +7,5 @@ pub mod Few
 pub mod Ending
 pub mod Keys
 pub mod Served
+pub mod Aliased
 pub mod Verdict

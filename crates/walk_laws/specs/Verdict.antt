@@ -14,6 +14,7 @@ use Rattle.resolution_walk.specs.Truth.{WalksTruly}
 use Rattle.resolution_walk.specs.declared.ending.Ending.TheVariants as ends
 use Rattle.resolution_walk.specs.declared.ending.Walk.{Walk}
 use Rattle.resolution_walk.specs.declared.walk.Limits.{Limits}
+use Rattle.walk_laws.specs.Aliased.{AreServedWithAliases}
 use Rattle.walk_laws.specs.Ending.{IsUntoldOf, LeaveRoom}
 use Rattle.walk_laws.specs.Few.{IsReadOfTree}
 use Rattle.walk_laws.specs.Loop.{Caller, Reaches, Walks}
@@ -63,10 +64,18 @@ ZonesComeToVerdicts =
     → Comes (RanOutOfMemory asked limits.cuts (zone ∷ []) zone []) (wanted_on_way asked limits from (zone ∷ []) zone []) c asked limits most walks from said []
 
 -- Of a tree whose zones answer as they are published, and have given their keys, for a question that is allowed in each zone that refers it
--- nowhere. Zones that lead on by aliases are not covered.
+-- nowhere: zones without aliases.
 abbrev pub TreesComeToVerdicts : Type 0
 TreesComeToVerdicts =
     (c : Caller) (asked : Asked) (limits : Limits) (most : ℕ) (walks : (e : Given) → Walks asked limits e) (from : Given) (zones : List SignedZone) (anchor : SignedZone) (said : Said) (names : List Name)
     → IsTreesLoop c asked limits most walks from zones anchor said names
     → ((calls : ℕ) (e : Given) → Reaches c asked limits most walks from calls e → AreServedWithKeys c.passes e asked zones anchor)
+    → Comes (LacksMemory asked limits.cuts zones anchor names) (wanted_on_way asked limits from zones anchor names) c asked limits most walks from said names
+
+-- Of a tree whose zones, aliases among their records or not, answer as they are published, by an alias in place of what is asked for too.
+abbrev pub AliasedTreesComeToVerdicts : Type 0
+AliasedTreesComeToVerdicts =
+    (c : Caller) (asked : Asked) (limits : Limits) (most : ℕ) (walks : (e : Given) → Walks asked limits e) (from : Given) (zones : List SignedZone) (anchor : SignedZone) (said : Said) (names : List Name)
+    → IsTreesLoop c asked limits most walks from zones anchor said names
+    → ((calls : ℕ) (e : Given) → Reaches c asked limits most walks from calls e → AreServedWithAliases c.passes e asked zones anchor)
     → Comes (LacksMemory asked limits.cuts zones anchor names) (wanted_on_way asked limits from zones anchor names) c asked limits most walks from said names

@@ -1,4 +1,5 @@
 //! Laws of a loop of walks. Each is the contract of a function that does nothing.
+ghost use Rattle.walk_laws.specs.Aliased.{AliasedTreesAreWalked};
 ghost use Rattle.walk_laws.specs.Ending.{TreesAreWalked};
 ghost use Rattle.walk_laws.specs.Few.{TreesWantFew, ZonesAreFew};
 ghost use Rattle.walk_laws.specs.Found.{MessagesAreFound};
@@ -11,6 +12,7 @@ ghost use Rattle.walk_laws.specs.Served.{
   ServedZonesAreWalked,
 };
 ghost use Rattle.walk_laws.specs.Verdict.{
+  AliasedTreesComeToVerdicts,
   LoopsComeToVerdicts,
   TreesComeToVerdicts,
   ZonesComeToVerdicts,
@@ -97,6 +99,17 @@ pub fn keyed_trees_are_walked()
     trees_resolve_to_one();
 }
 
+/// Where zones, aliases among their records or not, answer allowed questions so, and the keys of
+/// each are those that it has given, a walk is stuck only for want of memory. Where a zone has not
+/// what is asked for, its answer is that for the CNAME of the name, or of the wildcard that stands
+/// for it, or else for the DNAME of the nearest name above; each such alias leads to one name.
+pub fn aliased_trees_are_walked()
+    ensures { AliasedTreesAreWalked }
+{
+    trees_say_one();
+    trees_resolve_to_one();
+}
+
 /// So a walk over the messages of one zone without any alias, for an allowed question that it
 /// refers nowhere, ends in the zone's verdict, or more is wanted, or memory ran out: whichever
 /// judgement of its answer tells nothing, it is refused for want of memory. The walk ends in that
@@ -132,9 +145,18 @@ pub fn zones_come_to_verdicts()
 
 /// Of a tree whose zones, without any alias, answer allowed questions as they are published, and
 /// have given their keys, the loop ends in what the tree says, unless more signatures are asked for
-/// than are allowed, or memory runs out. Zones that lead on by aliases are not covered.
+/// than are allowed, or memory runs out.
 pub fn trees_come_to_verdicts()
     ensures { TreesComeToVerdicts }
+{
+    trees_say_one();
+    trees_resolve_to_one();
+}
+
+/// So does the loop of a tree whose zones may have aliases, through these, where they answer as it
+/// is for `aliased_trees_are_walked`.
+pub fn aliased_trees_come_to_verdicts()
+    ensures { AliasedTreesComeToVerdicts }
 {
     trees_say_one();
     trees_resolve_to_one();

@@ -1,0 +1,94 @@
+-- What zones with aliases give, and where a walk over evidence of a tree of such zones ends.
+use Rattle.std.specs.Prelude.{◌≡◌, ◌⊎◌, ℕ, ◌<◌, Bool, true, false, List, Some, None, Contains, if◌then◌else◌}
+use Rattle.std.specs.List.{AllByRecursion}
+use Rattle.definitions.specs.Dnskey.{Dnskey, Ds}
+use Rattle.definitions.specs.Limits.{pointer_limit}
+use Rattle.definitions.specs.Name.{Name, IsName}
+use Rattle.definitions.specs.Zone.{Verdict, Records, StarRecords, Zone, verdict}
+use Rattle.definitions.specs.ZoneChain.{Mode}
+use Rattle.messages.specs.Handed.{IsHanded}
+use Rattle.messages.specs.HandedRr.{HandedRr}
+use Rattle.messages.specs.Message.{Asked}
+use Rattle.messages.specs.WrittenLaws.{IsQuestion}
+use Rattle.answer_scheme.specs.Answers.{Answers}
+use Rattle.answer_shared.specs.Accepting.{zone_of}
+use Rattle.answer_shared.specs.Asking.{is_allowed}
+use Rattle.answer_shared.specs.EqualTags.{has_equal_tags}
+use Rattle.answer_shared.specs.Hashing.{HashesHold}
+use Rattle.answer_shared.specs.Served.{answer_groups, by_tag}
+use Rattle.answer_shared.specs.Told.{Tells}
+use Rattle.answer_zone.specs.Finding.{finds, redirecting}
+use Rattle.answer_zone_records.specs.AliasFaults.{IsAcceptedWithAliases}
+use Rattle.answer_judge.specs.Meeting.{holds, served_from}
+use Rattle.answer_judge_keys.specs.Judging.{JudgeInput}
+use Rattle.answer_judge_keys.specs.Trusted.{is_usable}
+use Rattle.answer_findings.specs.Seen.{one_name}
+use Rattle.answer_findings.specs.Table.{AgreesWith, Tried, answers_with}
+use Rattle.resolution_tree.specs.Tree.{Said, refers_to}
+use Rattle.resolution_evidence.specs.Given.{Given, IsOf}
+use Rattle.resolution_evidence.specs.Truth.{IsAnchored, SignedZone}
+use Rattle.resolution_evidence.specs.Truth as truth
+use Rattle.resolution_walk.specs.declared.ending.Walk.{Walk}
+use Rattle.resolution_walk.specs.declared.walk.Limits.{Limits}
+use Rattle.walk_laws.specs.Ending.{EndsInTree, IsTreesWalk}
+use Rattle.walk_laws.specs.Keys.{KeysWereGiven}
+use Rattle.walk_laws.specs.Served.{LacksMemory, ZonesKeys, asking}
+
+-- The question that a zone answers where it is asked one that is allowed: that; or, where it has no such RRset, the one for the CNAME that
+-- answers for the name, or for the DNAME of the nearest name above at which one stands (RFC 1034, 4.3.2; RFC 6672, 3.2).
+abbrev pub in_place : Zone → Asked → Asked
+in_place z q =
+    if finds z q.name q.rtype then q
+    else if finds z q.name 5 then record { name = q.name; rtype = 5; class = q.class }
+    else elim (redirecting z q.name) [ None ↦ q | Some d ↦ record { name = d; rtype = 39; class = q.class } ]
+
+-- the data of an RRset are one name's
+abbrev pub SpellsOne : Verdict → Type 0
+SpellsOne (Records datas) = (target : Name) × (one_name datas ≡ Some target)
+SpellsOne (StarRecords datas) = (target : Name) × (one_name datas ≡ Some target)
+SpellsOne _ = Unit {0}
+
+-- an alias that is answered in place of a question leads to one name
+abbrev pub LeadsToOne : Zone → Asked → Type 0
+LeadsToOne z q = finds z q.name q.rtype ≡ false → SpellsOne (verdict z false (in_place z q).name (in_place z q).rtype)
+
+-- What is handed in was given by the zone of these records and this chain, aliases among the records or not: a DNSKEY answer, and the
+-- RRsets that the zone answers the question with, whatever the message asks, of keys that meet, whose signatures hold.
+pub record WasGivenWithAliases (a : Answers) (k : ℕ) (h : JudgeInput) (mode : Mode) (rs : List HandedRr) : Type 0 where
+  pub keys : KeysWereGiven a k h.apex h.ds h.dnskey_bytes h.now
+  pub zonesigners : List Dnskey
+  pub signer : Dnskey
+  pub at : ℕ
+  pub life : ℕ
+  pub question : Asked
+  pub limit : h.limit < 65536
+  pub apex_is : IsName h.apex
+  pub records_are : AllByRecursion IsHanded rs
+  pub accepted : IsAcceptedWithAliases a.hash h.apex mode h.limit rs
+  pub asked_is : IsQuestion h.asked
+  pub allowed : is_allowed h.apex h.asked ≡ true
+  pub hashes : HashesHold a.hash mode (zone_of h.apex rs) h.asked.name
+  pub hashes_there : HashesHold a.hash mode (zone_of h.apex rs) (in_place (zone_of h.apex rs) h.asked).name
+  pub leads : LeadsToOne (zone_of h.apex rs) h.asked
+  pub signer_present : Contains keys.present signer
+  pub signs_zone : Contains zonesigners signer
+  pub signer_usable : is_usable signer ≡ true
+  pub zonesigner_tags : has_equal_tags zonesigners ≡ false
+  pub told : Tells a.verifies k h.apex at life (by_tag zonesigners) question
+      (answer_groups (served_from a h mode rs) (in_place (zone_of h.apex rs) h.asked).name (in_place (zone_of h.apex rs) h.asked).rtype) h.answer_bytes
+  pub hold : holds at life h.now ≡ true
+
+-- The table says of each signature that it has whether it passes, and the keys of each zone are those that it has given. Where a zone
+-- refers a question nowhere, for the type that is asked for or for DS, its answer, if it is there, is what it has given, by an alias or not.
+pub record AreServedWithAliases (passes : Tried → Bool) (e : Given) (asked : Asked) (zones : List SignedZone) (anchor : SignedZone) : Type 0 where
+  pub checked : AgreesWith e.table passes
+  pub keys : ZonesKeys passes e zones anchor
+  pub given : (s : SignedZone) (ds : List Ds) (n : Name) (t : ℕ) (h : JudgeInput) → (t ≡ asked.rtype) ⊎ (t ≡ 43) → IsAnchored e zones anchor s ds
+      → refers_to (truth.zone_of s).zone n t ≡ None → IsOf e s.apex ds (asking asked n t) h → WasGivenWithAliases (answers_with passes) pointer_limit h s.version.mode s.version.records
+
+-- Then too only memory stops a walk.
+abbrev pub AliasedTreesAreWalked : Type 0
+AliasedTreesAreWalked =
+    (passes : Tried → Bool) (e : Given) (asked : Asked) (limits : Limits) (zones : List SignedZone) (anchor : SignedZone) (said : Said) (names : List Name) (w : Walk)
+    → IsTreesWalk e asked limits zones anchor said names w → AreServedWithAliases passes e asked zones anchor
+    → EndsInTree (LacksMemory asked limits.cuts zones anchor names) e limits said names w
