@@ -133,9 +133,9 @@ pub fn loops_come_to_verdicts()
     trees_resolve_to_one();
 }
 
-/// Of one zone without any alias that answers as it is published, for an allowed question that it
-/// refers nowhere, the loop ends in the zone's verdict, unless more signatures are asked for than
-/// are allowed, or memory runs out as it does for `served_zones_are_walked`.
+/// The loop of a caller over one zone without any alias, which answers as it is published, ends in
+/// the zone's verdict for an allowed question that the zone refers nowhere, unless more signatures
+/// are asked for than are allowed, or memory runs out as it does for `served_zones_are_walked`.
 pub fn zones_come_to_verdicts()
     ensures { ZonesComeToVerdicts }
 {
@@ -143,9 +143,9 @@ pub fn zones_come_to_verdicts()
     trees_resolve_to_one();
 }
 
-/// Of a tree whose zones, without any alias, answer allowed questions as they are published, and
-/// have given their keys, the loop ends in what the tree says, unless more signatures are asked for
-/// than are allowed, or memory runs out.
+/// The loop of a caller over a tree whose zones, without any alias, answer allowed questions as they
+/// are published, and have given their keys, ends in what the tree says, unless more signatures are
+/// asked for than are allowed, or memory runs out.
 pub fn trees_come_to_verdicts()
     ensures { TreesComeToVerdicts }
 {
@@ -153,8 +153,9 @@ pub fn trees_come_to_verdicts()
     trees_resolve_to_one();
 }
 
-/// So does the loop of a tree whose zones may have aliases, through these, where they answer as it
-/// is for `aliased_trees_are_walked`.
+/// The loop of a caller over a tree whose zones may have aliases ends in what the tree says, through
+/// these aliases, unless more signatures are asked for than are allowed, or memory runs out, where
+/// the zones answer as for `aliased_trees_are_walked`.
 pub fn aliased_trees_come_to_verdicts()
     ensures { AliasedTreesComeToVerdicts }
 {
