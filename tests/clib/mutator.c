@@ -72,7 +72,9 @@ static void repeat(struct buffer *message) {
 static void join(struct buffer *message, const struct buffer *other) {
     size_t from = below(other->len);
     message->len = 12 + below(message->len - 12);
-    buffer_append(message, other->data + from, other->len - from);
+    if (other->len > 0) {
+        buffer_append(message, other->data + from, other->len - from);
+    }
 }
 
 void mutate(struct buffer *message, const struct buffer *other) {
