@@ -428,7 +428,7 @@ class Drill(Program):
         if last.startswith("Existence denied"):
             return Heard("denied", mark == "T", ())
         data = tuple(sorted(drill_data(output[output.rindex("\n[") :], rtype)))
-        return Heard("NOERROR" if data else "bogus", mark == "T", data)
+        return Heard("NOERROR", mark == "T", data) if data else Heard("bogus", False, ())
 
 
 def drill_data(text, rtype):
