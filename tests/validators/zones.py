@@ -338,8 +338,9 @@ class Zone:
         cut = self.cut_above(name)
         if cut is not None and (name != cut or rtype != DS):
             signed = "signed" if self.cuts[cut] else "unsigned"
-            data = (BELOW,) if rtype == A and name != cut else ()
-            return Says(f"below a delegation, {signed}", "NOERROR", data, self.cuts[cut])
+            is_host = name == ("host", *cut)
+            status = "NOERROR" if is_host or name == cut else "NXDOMAIN"
+            return Says(f"below a delegation, {signed}", status, (BELOW,) if is_host and rtype == A else (), self.cuts[cut])
         has_proof = name in self.shown or not self.shape.opts_out
         if name in self.names:
             data = tuple(self.sets.get((name, rtype), ()))
