@@ -44,7 +44,9 @@ def cell(good, bad):
 
 
 def outcome(heard):
-    """What was heard, without its data."""
+    """What was heard, without its data; what a bogus answer has is not asked for."""
+    if heard.status == "bogus":
+        return heard.status
     aliases = f", {len(heard.links)} of aliases" if heard.links else ""
     return f"{heard.status}{', secure' if heard.is_secure else ''}{aliases}{', with data' if heard.data else ''}"
 
