@@ -6,6 +6,7 @@
   (`loop detected` in its log).
 - A denial below a DNAME: PowerDNS makes NXDOMAIN of cached NSEC3 records (RFC 8198), although the one that matches the name above
   says that a DNAME leads elsewhere (RFC 6672, 5.3.4.1).
+- No room: PowerDNS refuses YXDOMAIN, which says that a DNAME makes a name that is too long.
 """
 
 import asyncio
@@ -17,18 +18,20 @@ from authority import BELOW
 from phases import Phase, agrees
 from validators import Named, PowerDns
 from wire import A, DNAME, SOA, TXT
-from zones import Shape, Zone
+from zones import DISTANT, Shape, Zone
 
 REFERRAL = "an answer made of a referral's NSEC record"
 LOOP = "a loop at the address of a zone's server"
 DENIED = "a denial below a DNAME, made of cached NSEC3 records"
+NO_ROOM = "a name below a DNAME that is too long"
 # In seconds: how late the server below the delegation is, and when each question is asked. The first finds empty caches. The
 # answer for `e` is made of the referral to `d`, while the server below `d` is waited for.
 LATE = 0.6
 TTL = 5
 ASKS = [(0, ("ns",), A), (1, (), SOA), (1.2, (), TXT), (3, ("host", "d"), A), (3.3, ("e",), A)]
-# The first find each NSEC3 record of the zone.
-REDIRECTED = [*((0, it, TXT) for it in ((), ("ns",), ("below",), ("d",), ("e",), ("b", "e"))), (1, ("b", "d"), A)]
+# All but the last one and the name that is too long find each NSEC3 record of the zone.
+OWNERS = [(), ("ns",), ("below",), ("d",), ("e",), ("f",), ("b", "e")]
+REDIRECTED = [(0, ("x" * 55, "y" * 55, "f"), A), *((1, it, TXT) for it in OWNERS), (2, ("b", "d"), A)]
 
 
 class Few(Zone):
@@ -51,10 +54,11 @@ class Few(Zone):
 
 
 class Redirected(Few):
-    """A DNAME that leads to a name with records."""
+    """A DNAME that leads to a name with records, and one that leads to a long one."""
 
     def add_cuts(self):
         self.alias(("e",), DNAME, ("d",))
+        self.alias(DISTANT, DNAME, ("f",))
 
 
 async def shown(world, folder):
@@ -104,6 +108,8 @@ def limit_of(told, logs):
         return limit_of_named(told, logs[0])
     if told.validator == PowerDns.NAME and denies_redirected(told):
         return DENIED
+    if told.validator == PowerDns.NAME and told.says.status == "YXDOMAIN" and told.heard.status == "bogus":
+        return NO_ROOM
     return ""
 
 
