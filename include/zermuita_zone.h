@@ -6,8 +6,8 @@
  * or a key server. It opens no file, reads no clock and calls nothing back but malloc, realloc and free.
  *
  * A zone stays with the thread that opened it. Any number of zones may be open, also of one journal: the lines of a journal determine
- * what its zone answers. Pass no null pointer, even where its length is 0; only pointers within struct zermuita_request may be null
- * then. What the library reads must not overlap what it writes.
+ * what its zone answers. Pass no null pointer, even where its length is 0; only pointers within struct zermuita_request and struct
+ * zermuita_master may be null then. What the library reads must not overlap what it writes.
  */
 #ifndef ZERMUITA_ZONE_H
 #define ZERMUITA_ZONE_H
@@ -22,7 +22,7 @@ extern "C" {
 enum zermuita_zone_reply {
     ZERMUITA_ZONE_DONE = 64,             /* it is done */
     ZERMUITA_ZONE_UNTOLD = 65,           /* the line is accepted, and memory ran out for what it answers */
-    ZERMUITA_ZONE_REFUSED = 66,          /* the line or the journal is refused */
+    ZERMUITA_ZONE_REFUSED = 66,          /* the line, the journal or the master file is refused */
     ZERMUITA_ZONE_RESPONSE = 67,         /* these octets answer the request */
     ZERMUITA_ZONE_NO_RESPONSE = 68,      /* nothing answers the request */
     ZERMUITA_ZONE_SIGN = 69,             /* signatures are to be made */
@@ -47,10 +47,47 @@ struct zermuita_zone {
 struct zermuita_zone_report {
     size_t size;    /* sizeof(struct zermuita_zone_report), set before the call */
     size_t len;     /* how many octets are told: they stand in front of `out` where there is room for them all */
-    size_t line;    /* of a journal that is refused: the line, counted from 1 on; else 0 */
+    size_t line;    /* of a journal or a master file that is refused: the line, counted from 1 on; else 0 */
     size_t whole;   /* of a journal: how many octets its whole lines have, those that end in a line feed */
     size_t settled; /* of a journal: how many octets stand up to the last line behind which no records wait for their replacement */
 };
+
+/* A master file, and what is wanted of it: set it to zero, then its size, then what it needs. */
+struct zermuita_master {
+    size_t size;                   /* sizeof(struct zermuita_master) */
+    struct zermuita_octets text;   /* the file (RFC 1035, 5) */
+    struct zermuita_octets origin; /* the name below which relative names stand until the file names one; may be empty */
+    struct zermuita_octets chain;  /* words of the zone's line behind its name, as `nsec 0 604800`; empty: the records alone */
+    struct zermuita_octets apex;   /* the name of the zone whose records these are to be; may be empty */
+};
+
+/*
+ * Tells the lines that a journal begins with, for a master file: that of the zone, whose name is the owner of the SOA record, and those
+ * of its records; or without words of a chain those of the records alone, for a replacement. ZERMUITA_ZONE_DONE; or
+ * ZERMUITA_ZONE_REFUSED, at the report's line unless that is 0, with what is wrong there in `out`, whether there is room for it or not.
+ * docs/use/SERVER.md says what is read. Whether a zone is accepted with these records is said once the journal is opened.
+ */
+uint32_t zermuita_zone_lines_of(const struct zermuita_master *master, uint8_t *out, size_t out_len,
+                                struct zermuita_zone_report *report);
+
+/* How many octets of a master file's structure the library may read, whatever the size of the caller's. */
+#define ZERMUITA_MASTER_ROOM 128
+
+/* The same, where octets of the master file may be null if there are none. */
+static inline uint32_t zermuita_zone_lines(const struct zermuita_master *master, uint8_t *out, size_t out_len,
+                                           struct zermuita_zone_report *report) {
+    union {
+        struct zermuita_master master;
+        uint8_t octets[ZERMUITA_MASTER_ROOM];
+    } room;
+    memset(&room, 0, sizeof room);
+    memcpy(&room, master, master->size < sizeof *master ? master->size : sizeof *master);
+    if (!zermuita_octets_are(&room.master.text) || !zermuita_octets_are(&room.master.origin)
+        || !zermuita_octets_are(&room.master.chain) || !zermuita_octets_are(&room.master.apex)) {
+        return ZERMUITA_ZONE_BAD_CALL;
+    }
+    return zermuita_zone_lines_of(&room.master, out, out_len, report);
+}
 
 /*
  * Opens a zone that is closed, from its journal: lines as docs/use/SESSIONS.md has them, those of the zone, its records, calls on
@@ -198,7 +235,7 @@ static inline const char *zermuita_zone_strerror(uint32_t reply) {
     switch (reply) {
     case ZERMUITA_ZONE_DONE: return "ZERMUITA_ZONE_DONE: it is done";
     case ZERMUITA_ZONE_UNTOLD: return "ZERMUITA_ZONE_UNTOLD: the line is accepted, and memory ran out for what it answers";
-    case ZERMUITA_ZONE_REFUSED: return "ZERMUITA_ZONE_REFUSED: the line or the journal is refused";
+    case ZERMUITA_ZONE_REFUSED: return "ZERMUITA_ZONE_REFUSED: the line, the journal or the master file is refused";
     case ZERMUITA_ZONE_RESPONSE: return "ZERMUITA_ZONE_RESPONSE: these octets answer the request";
     case ZERMUITA_ZONE_NO_RESPONSE: return "ZERMUITA_ZONE_NO_RESPONSE: nothing answers the request";
     case ZERMUITA_ZONE_SIGN: return "ZERMUITA_ZONE_SIGN: signatures are to be made";

@@ -2,8 +2,9 @@
 #ifndef ASK_H
 #define ASK_H
 
-#include "master.h"
+#include "words.h"
 #include <netdb.h>
+#include <stdio.h>
 #include <sys/random.h>
 #include <sys/socket.h>
 #include <time.h>
@@ -81,7 +82,7 @@ static size_t ask(const struct peer *peer, uint8_t *query, size_t len, uint8_t r
 }
 
 /* Writes a query for a type at the apex, with DO, behind its length. */
-static size_t write_query(const struct master *name, uint16_t rtype, uint8_t query[512]) {
+static size_t write_query(const struct name *name, uint16_t rtype, uint8_t query[512]) {
     const uint8_t behind[] = {0, (uint8_t)rtype, 0, 1, 0, 0, 41, 4, 208, 0, 0, 0x80, 0, 0, 0};
     size_t len = 12 + name->len + sizeof behind;
     memset(query, 0, 14);
@@ -91,7 +92,7 @@ static size_t write_query(const struct master *name, uint16_t rtype, uint8_t que
         return 0;
     }
     query[7] = query[13] = 1; /* a question, and the record of EDNS */
-    memcpy(query + 14, name->data, name->len);
+    memcpy(query + 14, name->octets, name->len);
     memcpy(query + 14 + name->len, behind, sizeof behind);
     return 2 + len;
 }
@@ -162,7 +163,7 @@ static bool read_set(const uint8_t *octets, size_t len, uint16_t rtype, struct s
 }
 
 /* Asks a server for a set. */
-static bool ask_set(const struct peer *peer, const struct master *name, uint16_t rtype, struct set *set) {
+static bool ask_set(const struct peer *peer, const struct name *name, uint16_t rtype, struct set *set) {
     uint8_t query[512], response[65535];
     size_t len = write_query(name, rtype, query);
     size_t count = len > 0 ? ask(peer, query, len, response) : 0;

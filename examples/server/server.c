@@ -3,8 +3,8 @@
  * a socket says. docs/use/SERVER.md is about it.
  *
  * usage: server [--address=A] [--port=N] [--share] [--backdate=SECONDS] [--step=SECONDS] [--rate=N] [--responses=N]
- *               [--chain=WORDS] [--auto] [--log=FILE] [--every=SECONDS] [--watch=HOST:PORT].. [--parent=HOST:PORT]..
- *               [--look=SECONDS] FOLDER [MASTER-FILE]
+ *               [--chain=WORDS] [--origin=NAME] [--auto] [--log=FILE] [--every=SECONDS] [--watch=HOST:PORT]..
+ *               [--parent=HOST:PORT].. [--look=SECONDS] FOLDER [MASTER-FILE]
  *        server --ctl FOLDER COMMAND..
  *
  * FOLDER has keys/NAME.pem, and gets the journal and the socket. A journal that is new begins with the records of MASTER-FILE.
@@ -46,7 +46,7 @@ struct server {
 };
 
 struct options {
-    const char *address, *port, *chain, *folder, *file, *log;
+    const char *address, *port, *origin, *chain, *folder, *file, *log;
     const char *servers[WATCHED], *parents[WATCHED];
     size_t server_count, parent_count;
     uint64_t backdate, step, rate, responses, every, look;
@@ -469,7 +469,7 @@ static bool read_options(struct options *options, int argc, char **argv) {
     const char *backdate = "3600", *step = "60", *rate = "200", *responses = "8192", *every = "3600", *look = "60";
     uint64_t port;
     int at = 1;
-    *options = (struct options){.address = "127.0.0.1", .port = "5353", .chain = "nsec 0 604800"};
+    *options = (struct options){.address = "127.0.0.1", .port = "5353", .origin = "", .chain = "nsec 0 604800"};
     for (; at < argc && argv[at][0] == '-'; at++) {
         const char *word = argv[at];
         if (strcmp(word, "--auto") == 0) {
@@ -477,7 +477,8 @@ static bool read_options(struct options *options, int argc, char **argv) {
         } else if (strcmp(word, "--share") == 0) {
             options->is_shared = true;
         } else if (!is_option(word, "--address=", &options->address) && !is_option(word, "--port=", &options->port)
-                   && !is_option(word, "--chain=", &options->chain) && !is_option(word, "--backdate=", &backdate)
+                   && !is_option(word, "--chain=", &options->chain) && !is_option(word, "--origin=", &options->origin)
+                   && !is_option(word, "--backdate=", &backdate)
                    && !is_option(word, "--step=", &step) && !is_option(word, "--rate=", &rate)
                    && !is_option(word, "--responses=", &responses)
                    && !is_option(word, "--log=", &options->log) && !is_option(word, "--every=", &every)
@@ -507,7 +508,7 @@ static void begin_folder(struct served *served, const struct options *options) {
     if (options->file == NULL) {
         fputs("a new journal begins with a master file\n", said);
     }
-    bool is_begun = options->file != NULL && begin_served(served, options->file, options->chain, said);
+    bool is_begun = options->file != NULL && begin_served(served, options->file, options->origin, options->chain, said);
     fclose(said);
     if (!is_begun) {
         log_failure(served->path, text);
@@ -644,8 +645,8 @@ int main(int argc, char **argv) {
     }
     if (!read_options(&options, argc, argv)) {
         fputs("usage: server [--address=A] [--port=N] [--share] [--backdate=SECONDS] [--step=SECONDS] [--rate=N] [--responses=N]\n"
-              "              [--chain=WORDS] [--auto] [--log=FILE] [--every=SECONDS] [--watch=HOST:PORT].. [--parent=HOST:PORT]..\n"
-              "              [--look=SECONDS] FOLDER [MASTER-FILE]\n"
+              "              [--chain=WORDS] [--origin=NAME] [--auto] [--log=FILE] [--every=SECONDS] [--watch=HOST:PORT]..\n"
+              "              [--parent=HOST:PORT].. [--look=SECONDS] FOLDER [MASTER-FILE]\n"
               "       server --ctl FOLDER COMMAND..\n", stderr);
         return EXIT_FAILURE;
     }

@@ -31,10 +31,10 @@ struct watch {
     struct peer own, servers[WATCHED];
     struct parent parents[WATCHED];
     size_t server_count, parent_count;
-    struct master name; /* of the zone, in wire form */
-    uint32_t greatest;  /* TTL of the zone's records */
-    struct set wanted;  /* the DS set that the parent is to have */
-    char lacking[512];  /* what the log said last of it */
+    struct name name;  /* of the zone */
+    uint32_t greatest; /* TTL of the zone's records */
+    struct set wanted; /* the DS set that the parent is to have */
+    char lacking[512]; /* what the log said last of it */
 };
 
 /* Notes what a server lacks, if it was not noted last. False, as what it is about. */
@@ -121,7 +121,7 @@ static bool have_ds(struct watch *watch, bool needs_ttl) {
 
 /* Reads the zone's name and the greatest TTL of all lines of its journal. */
 static bool read_zone(struct watch *watch) {
-    char path[512], name[MASTER_TEXT] = "", *line = NULL;
+    char path[512], name[NAME_TEXT] = "", *line = NULL;
     size_t room = 0;
     unsigned long ttl;
     snprintf(path, sizeof path, "%s/journal", watch->folder);
@@ -137,8 +137,7 @@ static bool read_zone(struct watch *watch) {
         fclose(file);
     }
     free(line);
-    watch->name = (struct master){.origin = "."};
-    return is_read && name[0] != 0 && strchr(name, '\\') == NULL && put_name(&watch->name, name);
+    return is_read && name[0] != 0 && read_name(name, &watch->name);
 }
 
 /* Makes the report that a line of the status asks for, or ends the roll, if all servers show what it is about. */

@@ -8,8 +8,8 @@
 #include "journal.h"
 #include "limits.h"
 #include "log.h"
-#include "master.h"
 #include "responses.h"
+#include "words.h"
 #include <time.h>
 
 enum { OUT_ROOM = 1 << 20, TEXT_ROOM = 1024, UDP_SIZE = 1232 };
@@ -23,7 +23,7 @@ struct served {
     struct limits limits;
     struct counts counts;
     const char *folder;
-    char apex[MASTER_TEXT]; /* the zone's name, as the journal has it */
+    char apex[NAME_TEXT]; /* the zone's name, as the journal has it */
     char path[512], key_folder[512]; /* of the journal, and of the keys */
     uint32_t backdate; /* everything is of the moment so many seconds before the clock */
     uint32_t step;     /* answers are of moments that are multiples of it, so that signatures serve again */
@@ -229,39 +229,84 @@ static bool apply_lines(struct served *served, char *lines, FILE *said) {
     return true;
 }
 
-/* The `rr` lines of a master file and a line behind them, in memory of their own; null where they cannot be read. */
-static char *lines_of(const char *path, char apex[256], const char *behind, FILE *said) {
-    char *lines = NULL;
-    size_t len = 0, wrong = 0;
-    FILE *file = fopen(path, "r"), *out = file == NULL ? NULL : open_memstream(&lines, &len);
-    bool is_whole = false;
-    if (out != NULL) {
-        wrong = write_lines(file, apex, out);
-        is_whole = wrong == 0 && !ferror(file) && fputs(behind, out) != EOF;
-        is_whole = fclose(out) == 0 && is_whole;
+/* The octets of a file, in memory of their own; null where it cannot be read. */
+static char *read_file(const char *path, size_t *len) {
+    char part[4096], *octets = NULL;
+    FILE *file = fopen(path, "r"), *out = file == NULL ? NULL : open_memstream(&octets, len);
+    bool is_read = out != NULL;
+    for (size_t count; is_read && (count = fread(part, 1, sizeof part, file)) > 0;) {
+        is_read = fwrite(part, 1, count, out) == count;
     }
-    if (wrong != 0) {
-        fprintf(said, "%s: line %zu cannot be read\n", path, wrong);
-    } else if (!is_whole) {
-        fprintf(said, "%s: %s\n", path, strerror(errno));
-    }
+    is_read = is_read && !ferror(file);
+    int why = errno;
     if (file != NULL) {
         fclose(file);
     }
-    if (!is_whole) {
+    is_read = out != NULL && fclose(out) == 0 && is_read;
+    errno = why;
+    if (!is_read) {
+        free(octets);
+        return NULL;
+    }
+    return octets;
+}
+
+static struct zermuita_octets octets_of(const char *text) {
+    return (struct zermuita_octets){(const uint8_t *)text, strlen(text)};
+}
+
+/* Says why a master file is refused. */
+static void say_refused(const char *path, uint32_t reply, const struct zermuita_zone_report *report, const char *text, FILE *said) {
+    fprintf(said, "%s: ", path);
+    if (reply != ZERMUITA_ZONE_REFUSED) {
+        fprintf(said, "%s\n", zermuita_zone_strerror(reply));
+        return;
+    }
+    if (report->line > 0) {
+        fprintf(said, "line %zu: ", report->line);
+    }
+    fprintf(said, "%.*s\n", report->len <= TEXT_ROOM ? (int)report->len : 0, text);
+}
+
+/*
+ * The lines of a journal for a master file, and one behind them, in memory of their own; null where the file is refused. `master` says
+ * what is wanted of it.
+ */
+static char *lines_of(const char *path, struct zermuita_master master, const char *behind, FILE *said) {
+    struct zermuita_zone_report report = {.size = sizeof report, .len = TEXT_ROOM};
+    uint32_t reply = ZERMUITA_ZONE_BUFFER_TOO_SMALL;
+    size_t len = 0;
+    char *text = read_file(path, &len), *lines = NULL;
+    if (text == NULL) {
+        fprintf(said, "%s: %s\n", path, strerror(errno));
+        return NULL;
+    }
+    master.size = sizeof master;
+    master.text = (struct zermuita_octets){(const uint8_t *)text, len};
+    while (reply == ZERMUITA_ZONE_BUFFER_TOO_SMALL) {
+        size_t room = report.len;
+        free(lines);
+        lines = malloc(room + strlen(behind) + 1);
+        reply = lines == NULL ? ZERMUITA_ZONE_OUT_OF_MEMORY : zermuita_zone_lines(&master, (uint8_t *)lines, room, &report);
+    }
+    free(text);
+    if (reply != ZERMUITA_ZONE_DONE) {
+        say_refused(path, reply, &report, lines, said);
         free(lines);
         return NULL;
     }
+    memcpy(lines + report.len, behind, strlen(behind) + 1);
     return lines;
 }
 
 /* Replaces the zone's records by those of a master file: all of them, or none. */
 static bool replace_records(struct served *served, const char *path, FILE *said) {
-    char apex[256], replacement[64];
+    struct zermuita_master master = {.origin = octets_of(served->apex), .apex = octets_of(served->apex)};
+    char replacement[64];
     uint64_t moment = line_moment(served);
     moment = moment > served->answered ? moment : served->answered + 1;
     snprintf(replacement, sizeof replacement, "replace %llu\n", (unsigned long long)moment);
-    char *lines = lines_of(path, apex, replacement, said);
+    char *lines = lines_of(path, master, replacement, said);
     bool is_done = false;
     if (lines != NULL && apply_lines(served, lines, said)) {
         served->floor = moment;
@@ -273,22 +318,16 @@ static bool replace_records(struct served *served, const char *path, FILE *said)
     return is_done;
 }
 
-/* Begins the journal with the records of a master file. Where that fails it is said why. */
-static bool begin_served(struct served *served, const char *path, const char *chain, FILE *said) {
-    char apex[256] = "", *all = NULL;
-    size_t len = 0;
-    char *lines = lines_of(path, apex, "", said);
-    FILE *out = lines == NULL ? NULL : open_memstream(&all, &len);
-    bool is_whole = out != NULL && fprintf(out, "zone %s %s\n%s", apex, chain, lines) > 0;
-    is_whole = out != NULL && fclose(out) == 0 && is_whole;
-    bool is_begun = is_whole && begin_journal(&served->journal, served->folder, served->path, all, len);
-    if (lines != NULL && !is_begun) {
+/* Begins the journal with the zone of a master file. Where that fails it is said why. */
+static bool begin_served(struct served *served, const char *path, const char *origin, const char *chain, FILE *said) {
+    struct zermuita_master master = {.origin = octets_of(origin), .chain = octets_of(chain)};
+    char *lines = lines_of(path, master, "", said);
+    bool is_begun = lines != NULL && begin_journal(&served->journal, served->folder, served->path, lines, strlen(lines));
+    if (is_begun) {
+        log_lines(lines, strlen(lines));
+    } else if (lines != NULL) {
         fprintf(said, "%s: %s\n", served->path, strerror(errno));
     }
-    if (is_begun) {
-        log_lines(all, len);
-    }
-    free(all);
     free(lines);
     return is_begun;
 }

@@ -25,10 +25,13 @@ use crate::options::{OPTIONS, Options, Style, Task, is_option};
 use crate::session::push_explained;
 use anyhow::{Context, Result, anyhow, ensure};
 use explain_messages::date::Date;
-use explain_zone::zone_file::session_lines;
+use explain_zone::zone_file::{Reading, session_lines};
 use std::io::Read;
 use std::rt::Files;
 use std::{env, fs};
+
+/// The chain of a zone that comes of a master file: of names, with signatures that hold a week.
+const CHAIN: &[u8] = b"nsec 0 604800";
 
 /// Explains the session of an input.
 fn explain(rt: &(impl Print + AllocGlobal), input: &[u8], options: &Options) -> Result<()> {
@@ -45,7 +48,12 @@ fn print_zone(
     text: &[u8],
     options: &Options,
 ) -> Result<bool> {
-    match session_lines(rt.alloc(), text, options.origin) {
+    let reading = Reading {
+        origin: options.origin.as_bytes(),
+        chain: CHAIN,
+        apex: b"",
+    };
+    match session_lines(rt.alloc(), text, &reading) {
         Ok(lines) => {
             rt.print(lines)?;
             Ok(true)

@@ -5,4 +5,5 @@ mod data;
 pub mod date;
 pub mod message;
 mod record;
-pub mod type_text;
+
+pub use explain_zone::type_text;

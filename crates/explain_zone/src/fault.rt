@@ -10,8 +10,12 @@ pub enum ZoneFileError {
     Line { line: usize, fault: EntryFault },
     #[error("no SOA record: `@ 3600 IN SOA ns.example. host.example. 1 3600 900 86400 3600`")]
     NoSoa,
-    #[error("the origin that is given is no name: `--origin=example.`")]
+    #[error("the origin that is given is no name: `example.`")]
     Origin,
+    #[error("the apex that is given is no name: `example.`")]
+    Apex,
+    #[error("the chain that is given is not words: `nsec 0 604800`")]
+    Chain,
     #[error("out of memory")]
     Memory,
 }
@@ -31,7 +35,7 @@ pub enum EntryFault {
     Name,
     #[error("a relative name or @ without an origin: `$ORIGIN example.`")]
     NoOrigin,
-    #[error("no TTL, neither here nor by $TTL: `$TTL 3600`")]
+    #[error("no TTL, neither here nor by $TTL nor of a record before: `$TTL 3600`")]
     NoTtl,
     #[error("only class IN is read: `www 3600 IN A 192.0.2.1`")]
     Class,
@@ -47,6 +51,8 @@ pub enum EntryFault {
     Alias,
     #[error("not the data of an SOA record: `ns.example. host.example. 1 3600 900 86400 3600`")]
     Soa,
+    #[error("an SOA record of another zone than the one whose records these are to be")]
+    OtherZone,
     #[error("not the data of an MX record: `10 mail.example.`")]
     Mx,
     #[error("not the data of a TXT record, texts of at most 255 octets: `\"v=spf1 -all\"`")]

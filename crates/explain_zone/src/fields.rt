@@ -1,5 +1,9 @@
 //! Names, numbers and texts as fields of a master file.
 
+ghost use Rattle.std.specs.Prelude.{◌≡◌, Some, IfOk};
+ghost use Rattle.std.specs.Str.{chars as chars_of};
+ghost use Rattle.definitions.specs.Text.{name_of_text};
+
 use crate::entries::Field;
 use crate::fault::EntryFault;
 use messages::names::{Name, ToName};
@@ -42,7 +46,9 @@ fn is_absolute(text: &str) -> bool {
 }
 
 /// The name that a text spells.
-pub(crate) fn name_from(alloc: Global, text: &str) -> Result<Name<Vec<u8>>, EntryFault> {
+pub(crate) fn name_from(alloc: Global, text: &str) -> Result<Name<Vec<u8>>, EntryFault>
+    ensures { IfOk result (λ n. name_of_text (chars_of text.now) ≡ Some n) }
+{
     match Name::vec_from_str(alloc, text) {
         Ok(name) => Ok(name),
         Err(names_flat::text_error::FromStrError::ShortBuf) => Err(EntryFault::Memory),

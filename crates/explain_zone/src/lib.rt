@@ -5,4 +5,6 @@ mod data;
 mod entries;
 mod fault;
 mod fields;
+mod lines;
+pub mod type_text;
 pub mod zone_file;

@@ -11,7 +11,7 @@ pub enum ZoneCode {
     Done = 64,
     /// The line is accepted, and memory ran out for what it answers.
     Untold = 65,
-    /// The line or the journal is refused.
+    /// The line, the journal or the master file is refused.
     Refused = 66,
     /// These octets answer the request.
     Response = 67,

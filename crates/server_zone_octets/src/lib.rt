@@ -1,12 +1,13 @@
 //! A zone that is served, octets to octets, for callers in other languages: it is opened from its
-//! journal, lines are applied to it, it says what is due, and it answers requests by signatures
-//! that its caller makes.
+//! journal, which begins with the lines of a master file, lines are applied to it, it says what is
+//! due, and it answers requests by signatures that its caller makes.
 #![tactic(auto)]
 
 mod code;
 mod due;
 mod entries;
 mod lines;
+mod master;
 mod parts;
 mod records;
 mod report;
@@ -16,6 +17,7 @@ mod told;
 pub use crate::code::ZoneCode;
 pub use crate::due::{OctetDue, due_octets};
 pub use crate::lines::{apply_octets, open_octets};
+pub use crate::master::{OctetMaster, master_octets};
 pub use crate::records::records_octets;
 pub use crate::report::ZoneReport;
 pub use crate::request::{OctetRequest, respond_octets};

@@ -4,12 +4,14 @@ use Rattle.server_zone.specs.States.{state_of, ungathered}
 use Rattle.server_zone_octets.specs.Codes.{number_of}
 use Rattle.server_zone_octets.specs.Dues.{SaysDue}
 use Rattle.server_zone_octets.specs.Lines.{AppliesLine, OpensAs, RefusesOpening}
+use Rattle.server_zone_octets.specs.Masters.{SaysMaster}
 use Rattle.server_zone_octets.specs.Requests.{AnswersRequest}
 use Rattle.server_zone_octets.specs.Sets.{SaysSet}
 use Rattle.server_zone_octets.specs.Telling.{is_known}
 use Rattle.server_zone_octets.specs.declared.code.ZoneCode.{ZoneCode}
 use Rattle.server_zone_octets.specs.declared.code.ZoneCode.TheVariants as c
 use Rattle.server_zone_octets.specs.declared.due.OctetDue.{OctetDue}
+use Rattle.server_zone_octets.specs.declared.master.OctetMaster.{OctetMaster}
 use Rattle.server_zone_octets.specs.declared.report.ZoneReport.{ZoneReport}
 use Rattle.server_zone_octets.specs.declared.request.OctetRequest.{OctetRequest}
 use Rattle.zermuita_zone.specs.Terms.{digest, hash, world_in}
@@ -29,6 +31,14 @@ pub record IsUnchanged {R : Type 0} (old new : Option OpenZone) (said said' : R)
 -- a call on a zone that is closed
 abbrev pub IsNotOpen : {R : Type 0} → Option OpenZone → R → R → List ℕ → List ℕ → ℕ → Type 0
 IsNotOpen new said said' before after reply = IsUnchanged None new said said' before after × (reply ≡ number_of c.NotOpen)
+
+-- ---- master files
+
+-- the lines of a master file are told
+pub record TellsLines (master : OctetMaster) (report report' : ZoneReport) (before after : List ℕ) (reply : ℕ) : Type 0 where
+  pub code : ZoneCode
+  pub says : SaysMaster master report report' before after code
+  pub reply_is : reply ≡ number_of code
 
 -- ---- opening
 

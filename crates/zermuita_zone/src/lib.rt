@@ -11,17 +11,30 @@ ghost use Rattle.std.specs.Prelude.{◌≡◌};
 ghost use Rattle.server_zone_octets.specs.Codes.{number_of};
 ghost use Rattle.server_zone_octets.specs.declared.code.ZoneCode.TheVariants as c;
 ghost use Rattle.zermuita_zone.specs.Calls.{AnswersFrom, AppliesTo, ForgetsIn, OpensFrom};
-ghost use Rattle.zermuita_zone.specs.Calls.{TellsDueOf, TellsSetOf, zone_in};
+ghost use Rattle.zermuita_zone.specs.Calls.{TellsDueOf, TellsLines, TellsSetOf, zone_in};
 
 use denial_nsec3_sha1::hasher::Sha1Hasher;
 use handle::ZoneHandle;
 use opened::OpenZone;
 use server_signatures::DigestScheme;
 use server_zone_octets::{
-    OctetDue, OctetRequest, ZoneCode, ZoneReport, apply_octets, due_octets, open_octets,
-    records_octets, respond_octets,
+    OctetDue, OctetMaster, OctetRequest, ZoneCode, ZoneReport, apply_octets, due_octets,
+    master_octets, open_octets, records_octets, respond_octets,
 };
 use std::alloc::Global;
+
+/// Tells the lines of a journal for a master file, as [`master_octets`] does.
+#[unsafe(no_mangle)]
+pub extern "C" fn zermuita_zone_lines_of(
+    alloc: Global,
+    master: &OctetMaster,
+    out: &mut [u8],
+    report: &mut ZoneReport,
+) -> u32
+    ensures { TellsLines master.now report.old report.new out.old out.new result }
+{
+    master_octets(alloc, master, out, report).number()
+}
 
 /// Opens a zone that is closed, as [`open_octets`] does.
 #[unsafe(no_mangle)]
