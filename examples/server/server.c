@@ -512,6 +512,7 @@ static void begin_folder(struct served *served, const struct options *options) {
     fclose(said);
     if (!is_begun) {
         log_failure(served->path, text);
+        unlink(served->path); /* it has nothing yet */
         exit(EXIT_FAILURE);
     }
     free(text);
