@@ -56,7 +56,7 @@ struct zermuita_zone_report {
 struct zermuita_master {
     size_t size;                   /* sizeof(struct zermuita_master) */
     struct zermuita_octets text;   /* the file (RFC 1035, 5) */
-    struct zermuita_octets origin; /* the name below which relative names stand until the file names one; may be empty */
+    struct zermuita_octets origin; /* the origin of relative names before the first $ORIGIN of the file; may be empty */
     struct zermuita_octets chain;  /* words of the zone's line behind its name, as `nsec 0 604800`; empty: the records alone */
     struct zermuita_octets apex;   /* the name of the zone whose records these are to be; may be empty */
 };
