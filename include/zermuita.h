@@ -187,12 +187,12 @@ enum zermuita_delegates {
  */
 struct zermuita_report {
     size_t size;            /* sizeof(struct zermuita_report), set before the call */
-    size_t len;             /* how many octets the output has, even if there is no room for it; all below is about it too */
+    size_t len;             /* how many octets the output has, even if there is no room for it; what follows is of it too */
     uint64_t until;         /* the last second, since 1970, in which the verdict stands, as said above */
-    uint64_t verifications; /* how many signatures were looked up in `checked` by judgements that were made, not for places */
-    uint64_t hashes;        /* how many names these hashed, also where signatures are asked for behind them */
+    uint64_t verifications; /* how many signatures the judgements looked up in `checked`; look-ups for places do not count */
+    uint64_t hashes;        /* how many names the judgements hashed; with ZERMUITA_ASK both are of those made before it */
     uint32_t ttl;           /* for how many seconds from its message's arrival the verdict may be kept (RFC 4035, 5.3.3) */
-    uint16_t ede;           /* the code of an extended error (RFC 8914); 0: none, since code 0 says nothing and is never meant */
+    uint16_t ede;           /* the code of an extended error (RFC 8914); 0: none, as code 0 of the RFC is never meant */
     uint16_t delegates;     /* with ZERMUITA_NODATA for DS: a number of enum zermuita_delegates; else 0 */
 };
 

@@ -46,7 +46,7 @@ struct zermuita_zone {
 /* What is said beside a reply. */
 struct zermuita_zone_report {
     size_t size;    /* sizeof(struct zermuita_zone_report), set before the call */
-    size_t len;     /* how many octets are told: they stand in front of `out` where there is room for them all */
+    size_t len;     /* how many octets are told: they are written to the front of `out` where there is room for them all */
     size_t line;    /* of a journal or a master file that is refused: the line, counted from 1 on; else 0 */
     size_t whole;   /* of a journal: how many octets its whole lines have, those that end in a line feed */
     size_t settled; /* of a journal: how many octets stand up to the last line behind which no records wait for their replacement */
@@ -62,8 +62,8 @@ struct zermuita_master {
 };
 
 /*
- * Tells the lines that a journal begins with, for a master file: that of the zone, whose name is the owner of the SOA record, and those
- * of its records; or without words of a chain those of the records alone, for a replacement. ZERMUITA_ZONE_DONE; or
+ * Writes the lines that a journal begins with, made of a master file: that of the zone, whose name is the owner of the SOA record, and
+ * those of its records; or without words of a chain those of the records alone, for a replacement. ZERMUITA_ZONE_DONE; or
  * ZERMUITA_ZONE_REFUSED, at the report's line unless that is 0, with what is wrong there in `out`, whether there is room for it or not.
  * docs/use/SERVER.md says what is read. Whether a zone is accepted with these records is said once the journal is opened.
  */

@@ -1,7 +1,7 @@
 /*
  * A resolver's loop: reads names and numbers of types, and prints what zones say of them, for how many seconds that may be kept,
  * and an extended error. It asks the zones' own servers, from the root down by referrals, and goes from alias to alias. The arguments
- * are the address of a server of the root, and a file with the root's DS records, each's data behind its length in two octets.
+ * are the address of a server of the root, and a file with the root's DS records, the data of each behind its length in two octets.
  * To build it: cc resolver.c $(pkg-config --cflags --libs zermuita) -lcrypto -lresolv
  */
 #include "server.h"
