@@ -5,8 +5,8 @@ use Rattle.definitions.specs.Name.{low}
 use Rattle.messages.specs.Message.{Message, Spelled, message, rrsig_at}
 use Rattle.answer_shared.specs.Alike.{IsLike}
 use Rattle.answer_scheme.specs.Answers.{Answers}
-use Rattle.answer_judge_keys.specs.Judging.{JudgeInput}
-use Rattle.answer_judge_facts.specs.Judged.{judged}
+use Rattle.answer_judge.specs.Judging.{JudgeInput}
+use Rattle.answer_judge.specs.Judged.{judged}
 
 -- types of records that a judge uses of a message that is to tell it of a type: signatures, records of chains, and that type
 abbrev pub is_used_type : ℕ → ℕ → Bool

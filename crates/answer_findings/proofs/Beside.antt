@@ -8,7 +8,7 @@ use Rattle.definitions.specs.Name.{Name, at_or_above, strictly_above}
 use Rattle.denial_laws.proofs.NameFacts.{strictly_at}
 use Rattle.definitions.proofs.ZoneNames.{above_itself}
 use Rattle.messages.specs.Message.{Asked, Spelled}
-use Rattle.answer_judge_keys.specs.Judging.{JudgeInput}
+use Rattle.answer_judge.specs.Judging.{JudgeInput}
 use Rattle.answer_findings.specs.declared.hints.Hint.TheVariants as hint
 use Rattle.answer_findings.specs.Found.{IsBeside}
 use Rattle.answer_findings.specs.Hints.{answer_records, has_cname_hint, hints_at, owner_hint, stands_at}

@@ -5,9 +5,9 @@ use Rattle.std.specs.Option.{is_some, option_map}
 use Rattle.std.specs.declared.alloc.AllocError.{AllocError}
 use Rattle.definitions.specs.Limits.{pointer_limit}
 use Rattle.messages.specs.Message.{Asked}
-use Rattle.answer_judge_keys.specs.Judging.{JudgeInput, answer_of}
-use Rattle.answer_judge_keys.specs.declared.verdict.Judgement.{Judgement}
-use Rattle.answer_judge_keys.specs.declared.verdict.Refused.{Refused}
+use Rattle.answer_judge.specs.Judging.{JudgeInput, answer_of}
+use Rattle.answer_judge.specs.declared.verdict.Judgement.{Judgement}
+use Rattle.answer_judge.specs.declared.verdict.Refused.{Refused}
 use Rattle.answer_judge_table.specs.Asking.{AreAsked}
 use Rattle.answer_judge_table.specs.Outcomes.{IsJudgedBy, IsOutcome}
 use Rattle.answer_judge_table.specs.Table.{Checked, Tried}

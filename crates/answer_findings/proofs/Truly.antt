@@ -11,13 +11,13 @@ use Rattle.definitions.proofs.ZoneNames.{low-low}
 use Rattle.denial_laws.specs.Leading.{exchanged}
 use Rattle.denial_laws.proofs.NameFacts.{names_same, same_names, strictly_unlike}
 use Rattle.messages.specs.Message.{Asked}
-use Rattle.answer_judge_facts.specs.Honest.{IsSaidByOne, SaysOneOf}
-use Rattle.answer_judge_facts.specs.Versions.{Version, zone_in}
+use Rattle.answer_judge.specs.Honest.{IsSaidByOne, SaysOneOf}
+use Rattle.answer_judge.specs.Versions.{Version, zone_in}
 use Rattle.answer_judge_table.proofs.GivenLists.{has_contained}
-use Rattle.answer_judge_keys.specs.Judging.{Answer, Says, Refuses, JudgeInput, answer_of}
-use Rattle.answer_judge_keys.specs.declared.verdict.Judgement.{Judgement}
-use Rattle.answer_judge_keys.specs.declared.verdict.Refused.{Refused}
-use Rattle.answer_judge_keys.specs.declared.verdict.Refusal.{Refusal}
+use Rattle.answer_judge.specs.Judging.{Answer, Says, Refuses, JudgeInput, answer_of}
+use Rattle.answer_judge.specs.declared.verdict.Judgement.{Judgement}
+use Rattle.answer_judge.specs.declared.verdict.Refused.{Refused}
+use Rattle.answer_judge.specs.declared.verdict.Refusal.{Refusal}
 use Rattle.answer_judge_table.specs.Outcomes.{IsJudgedBy}
 use Rattle.answer_judge_table.specs.Table.{AreTrue, Checked, Tried, answers_with, passes_in}
 use Rattle.answer_findings.specs.declared.made.Made.{Made}

@@ -7,9 +7,9 @@ use Rattle.definitions.specs.Limits.{pointer_limit}
 use Rattle.definitions.specs.Name.{at_or_above, strictly_above}
 use Rattle.definitions.proofs.ZoneNames.{above_longer}
 use Rattle.messages.specs.Message.{Asked}
-use Rattle.answer_judge_keys.specs.Judging.{Answer, JudgeInput, answer_of, hash_bound, hashes_of, verification_bound, verifications_of}
-use Rattle.answer_judge_keys.specs.declared.verdict.Judgement.{Judgement}
-use Rattle.answer_judge_keys.specs.declared.verdict.Refused.{Refused}
+use Rattle.answer_judge.specs.Judging.{Answer, JudgeInput, answer_of, hash_bound, hashes_of, verification_bound, verifications_of}
+use Rattle.answer_judge.specs.declared.verdict.Judgement.{Judgement}
+use Rattle.answer_judge.specs.declared.verdict.Refused.{Refused}
 use Rattle.answer_judge_table.specs.Outcomes.{IsJudgedBy}
 use Rattle.answer_judge_table.specs.Table.{Checked, passes_in}
 use Rattle.answer_findings.specs.declared.finding.Found.{Found}

@@ -4,11 +4,11 @@ use Rattle.std.specs.Option.{is_some}
 use Rattle.definitions.specs.Limits.{pointer_limit}
 use Rattle.definitions.specs.Name.{at_or_above}
 use Rattle.messages.specs.Message.{Asked}
-use Rattle.answer_judge_keys.specs.Judging.{JudgeInput, answer_of, hash_bound, verification_bound}
-use Rattle.answer_judge_keys.specs.declared.verdict.Judgement.{Judgement}
-use Rattle.answer_judge_keys.specs.declared.verdict.Lasting.{Lasting}
-use Rattle.answer_judge_keys.specs.declared.verdict.Refusal.{Refusal}
-use Rattle.answer_judge_keys.specs.declared.verdict.Refused.{Refused}
+use Rattle.answer_judge.specs.Judging.{JudgeInput, answer_of, hash_bound, verification_bound}
+use Rattle.answer_judge.specs.declared.verdict.Judgement.{Judgement}
+use Rattle.answer_judge_facts.specs.declared.lasting.Lasting.{Lasting}
+use Rattle.answer_judge.specs.declared.verdict.Refusal.{Refusal}
+use Rattle.answer_judge.specs.declared.verdict.Refused.{Refused}
 use Rattle.answer_judge_table.specs.Asking.{AreAsked}
 use Rattle.answer_judge_table.specs.Outcomes.{IsJudgedBy}
 use Rattle.answer_judge_table.specs.Table.{Checked, Tried}

@@ -4,7 +4,7 @@ use Rattle.std.specs.List.{find, list_any}
 use Rattle.std.specs.Option.{option_map}
 use Rattle.definitions.specs.Name.{Name, same, at_or_above, strictly_above}
 use Rattle.messages.specs.Message.{Spelled, message}
-use Rattle.answer_judge_keys.specs.Judging.{JudgeInput}
+use Rattle.answer_judge.specs.Judging.{JudgeInput}
 use Rattle.answer_findings.specs.declared.hints.Hint.{Hint}
 use Rattle.answer_findings.specs.declared.hints.Hint.TheVariants as hint
 

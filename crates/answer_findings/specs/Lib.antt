@@ -6,6 +6,6 @@ pub mod Lasts
 pub mod Found
 pub mod Truth
 pub use Rattle.answer_judge_table.specs.Table
-pub use Rattle.answer_judge_facts.specs.Honest
-pub use Rattle.answer_judge_facts.specs.Versions
+pub use Rattle.answer_judge.specs.Honest
+pub use Rattle.answer_judge.specs.Versions
 pub use Rattle.answer_judge_table.specs.Asking

@@ -8,10 +8,10 @@ use Rattle.messages.specs.Message.{Asked}
 use Rattle.messages.specs.NameOctets.{name_of_octets}
 use Rattle.answer_shared.specs.Redirection.{lead_seen}
 use Rattle.answer_judge_rules.specs.Rules.{verdict_of}
-use Rattle.answer_judge_keys.specs.Judging.{Answer, Says, Refuses, JudgeInput, answer_of, hashes_of, verifications_of}
-use Rattle.answer_judge_keys.specs.declared.verdict.Judgement.{Judgement}
-use Rattle.answer_judge_keys.specs.declared.verdict.Refusal.{Refusal}
-use Rattle.answer_judge_keys.specs.declared.verdict.Refused.{Refused}
+use Rattle.answer_judge.specs.Judging.{Answer, Says, Refuses, JudgeInput, answer_of, hashes_of, verifications_of}
+use Rattle.answer_judge.specs.declared.verdict.Judgement.{Judgement}
+use Rattle.answer_judge.specs.declared.verdict.Refusal.{Refusal}
+use Rattle.answer_judge.specs.declared.verdict.Refused.{Refused}
 use Rattle.answer_findings.specs.declared.finding.Finding.{Finding}
 use Rattle.answer_findings.specs.declared.finding.Finding.TheVariants as f
 use Rattle.answer_findings.specs.declared.made.Made.{Made}

@@ -7,9 +7,9 @@ use Rattle.definitions.specs.ZoneChain.{optout_of}
 use Rattle.denial_laws.specs.Leading.{Lead, To, LeadsTo, exchanged}
 use Rattle.messages.specs.Message.{Asked}
 use Rattle.answer_scheme.specs.Answers.{Answers}
-use Rattle.answer_judge_facts.specs.Honest.{AreHonest, IsSaidByOne}
-use Rattle.answer_judge_facts.specs.Versions.{Version, zone_in}
-use Rattle.answer_judge_keys.specs.Judging.{JudgeInput}
+use Rattle.answer_judge.specs.Honest.{AreHonest, IsSaidByOne}
+use Rattle.answer_judge.specs.Versions.{Version, zone_in}
+use Rattle.answer_judge.specs.Judging.{JudgeInput}
 use Rattle.answer_judge_table.specs.Table.{AreTrue, Checked, Tried, answers_with, passes_in}
 use Rattle.answer_findings.specs.declared.finding.Found.{Found}
 use Rattle.answer_findings.specs.declared.finding.Found.TheVariants as f

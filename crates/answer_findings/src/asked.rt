@@ -4,7 +4,7 @@ ghost use Rattle.std.specs.Option.{option_map};
 ghost use Rattle.definitions.specs.Limits.{pointer_limit};
 ghost use Rattle.messages.specs.Questions.{asked_of};
 ghost use Rattle.messages.specs.Record.{spelled};
-ghost use Rattle.answer_judge_keys.specs.Judging.{answer_of};
+ghost use Rattle.answer_judge.specs.Judging.{answer_of};
 ghost use Rattle.answer_judge_rules.specs.Rules.{verdict_of};
 ghost use Rattle.answer_findings.specs.Hints.{answer_records};
 ghost use Rattle.answer_findings.specs.Judgements.{alias_hint, alias_question, asking};

@@ -2,7 +2,7 @@
 ghost use Rattle.std.specs.Prelude.{◌≡◌, IfOk, MatchResult};
 ghost use Rattle.std.specs.Option.{option_map};
 ghost use Rattle.messages.specs.Questions.{asked_of};
-ghost use Rattle.answer_judge_keys.specs.Judging.{answer_of};
+ghost use Rattle.answer_judge.specs.Judging.{answer_of};
 ghost use Rattle.answer_judge_table.specs.Asking.{AreWanted};
 ghost use Rattle.answer_judge_table.specs.Decided.{is_out_of_memory};
 ghost use Rattle.answer_judge_table.specs.Outcomes.{IsOutcome};

@@ -1,7 +1,7 @@
 //! The judgements for other questions that a search comes to.
 ghost use Rattle.std.specs.Prelude.{IfOk, MatchResult};
 ghost use Rattle.definitions.specs.Limits.{pointer_limit};
-ghost use Rattle.answer_judge_keys.specs.Judging.{answer_of};
+ghost use Rattle.answer_judge.specs.Judging.{answer_of};
 ghost use Rattle.answer_findings.specs.Judgements.{AreAskedAside, AreWantedAside, IsMadeOf};
 ghost use Rattle.answer_findings.specs.Judgements.{alias_question};
 ghost use Rattle.answer_findings.specs.Judgements.{ds_question, first_question, ns_question};

@@ -1,7 +1,7 @@
 //! What judgements come to.
 ghost use Rattle.std.specs.Prelude.{◌≡◌, IfOk, MatchResult};
 ghost use Rattle.std.specs.Option.{option_map};
-ghost use Rattle.answer_judge_keys.specs.Judging.{answer_of, hashes_of, verifications_of};
+ghost use Rattle.answer_judge.specs.Judging.{answer_of, hashes_of, verifications_of};
 ghost use Rattle.answer_judge_rules.specs.Rules.{verdict_of};
 ghost use Rattle.answer_findings.specs.Found.{AsksBehind, ComesTo};
 ghost use Rattle.answer_findings.specs.Seen.{answers_ds, cut_found, delegates_found};

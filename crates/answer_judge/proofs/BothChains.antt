@@ -7,8 +7,8 @@ use Rattle.messages.specs.HandedRr.{HandedRr}
 use Rattle.messages.specs.Message.{Asked}
 use Rattle.answer_shared.specs.Accepting.{zone_of}
 use Rattle.answer_judge.specs.BothChains.{ChainsSayTheSame}
-use Rattle.answer_judge_facts.specs.Judged.{AnswersAs}
-use Rattle.answer_judge_keys.specs.Judging.{Says}
+use Rattle.answer_judge.specs.Judged.{AnswersAs}
+use Rattle.answer_judge.specs.Judging.{Says}
 
 abbrev verdict_of : List HandedRr → Name → Asked → Verdict
 verdict_of rs apex asked = verdict (zone_of apex rs) false asked.name asked.rtype

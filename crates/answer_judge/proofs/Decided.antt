@@ -11,11 +11,11 @@ use Rattle.denial_laws.proofs.FewHashes.{few_hashes}
 use Rattle.answer_scheme.specs.Answers.{Answers, EachAgreeing, SignatureTest}
 use Rattle.answer_judge_rules.specs.Hashes.{fails_among, hash_among, up_to}
 use Rattle.answer_judge_rules.proofs.InTurn.{no_more}
-use Rattle.answer_judge_facts.specs.Counted.{hashes_of_facts, hashes_of_proof}
-use Rattle.answer_judge_facts.specs.Judged.{are_mixed, are_over, by_facts, decided_by, is_unhashed, judged_facts, judged_proof}
-use Rattle.answer_judge_keys.specs.Judging.{Answer, AnswersFirst, JudgeInput, Judges, Refuses, Says, first_refusal, hash_bound, is_judged, message_refusal, verification_bound}
-use Rattle.answer_judge_keys.specs.declared.verdict.Refusal.{Refusal}
-use Rattle.answer_judge_keys.specs.declared.verdict.Refusal.TheVariants as r
+use Rattle.answer_judge.specs.Due.{hashes_of_facts, hashes_of_proof}
+use Rattle.answer_judge.specs.Judged.{are_mixed, are_over, by_facts, decided_by, is_unhashed, judged_facts, judged_proof}
+use Rattle.answer_judge.specs.Judging.{Answer, AnswersFirst, JudgeInput, Judges, Refuses, Says, first_refusal, hash_bound, is_judged, message_refusal, verification_bound}
+use Rattle.answer_judge.specs.declared.verdict.Refusal.{Refusal}
+use Rattle.answer_judge.specs.declared.verdict.Refusal.TheVariants as r
 use Rattle.answer_judge.specs.Decided.{HashesDecided, HashesDecidedBeyond, IsDecidedBeyond, is_out_of_memory}
 use Rattle.answer_judge.proofs.JudgedWholly.{each_wholly}
 

@@ -7,10 +7,11 @@ use Rattle.definitions.specs.Signing.{Fields, ascending, signed_octets}
 use Rattle.messages.specs.Message.{AreOctets, Message, Spelled}
 use Rattle.messages.proofs.Lists.{all_at}
 use Rattle.answer_scheme.specs.Answers.{Answers}
-use Rattle.answer_judge_keys.specs.Judging.{JudgeInput, keys_in}
+use Rattle.answer_judge.specs.Judging.{JudgeInput}
+use Rattle.answer_judge_keys.specs.DnskeyAnswer.{keys_in}
 use Rattle.answer_judge_facts.specs.Sought.{Sought}
 use Rattle.answer_judge_facts.specs.Verified.{datum_of}
-use Rattle.answer_judge_facts.specs.Honest.{NothingForged, WasSigned, sought_of_answer, sought_of_keys}
+use Rattle.answer_judge.specs.Honest.{NothingForged, WasSigned, sought_of_answer, sought_of_keys}
 use Rattle.answer_judge.specs.ForgedAtAll.{AtAllIsEnough, NothingForgedAtAll}
 use Rattle.answer_judge.proofs.GivenLists.{has_contained}
 use Rattle.answer_judge.proofs.HonestKeys.{keys_read}

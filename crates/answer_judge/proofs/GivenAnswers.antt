@@ -17,11 +17,11 @@ use Rattle.answer_shared.specs.Served.{by_tag}
 use Rattle.answer_shared.proofs.FactsCase.{links_lowered}
 use Rattle.answer_shared.proofs.Servable.{allowed_answers_decide, asked_inside}
 use Rattle.answer_scheme.specs.Answers.{Answers}
-use Rattle.answer_judge_facts.specs.Judged.{AnswersAs, are_mixed, are_over, by_facts, decided_by, facts_in, is_unhashed, judged, judged_facts, judged_proof, trusting}
-use Rattle.answer_judge_keys.specs.Judging.{Answer, JudgeInput, Refuses, Says}
+use Rattle.answer_judge.specs.Judged.{AnswersAs, are_mixed, are_over, by_facts, decided_by, facts_in, is_unhashed, judged, judged_facts, judged_proof, trusting}
+use Rattle.answer_judge.specs.Judging.{Answer, JudgeInput, Refuses, Says}
 use Rattle.answer_judge.specs.Meeting.{AnswersGiven, WasGiven}
 use Rattle.answer_judge.specs.OwnFacts.{TellsZone}
-use Rattle.answer_judge_keys.specs.declared.verdict.Refusal.TheVariants as r
+use Rattle.answer_judge.specs.declared.verdict.Refusal.TheVariants as r
 use Rattle.answer_judge.proofs.GivenFacts.{rrset_inside, told_facts_are_own}
 use Rattle.answer_judge.proofs.GivenHashing.{AreHashedBy, ExpandsInside, SaysHashing, hashes_agree, none_fails, not_mixed, not_over}
 use Rattle.answer_judge.proofs.GivenJudged.{judged_given, signer_found, signer_signs, usable_keys}

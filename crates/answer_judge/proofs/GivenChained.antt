@@ -15,8 +15,9 @@ use Rattle.messages.specs.HandedRr.{HandedRr}
 use Rattle.answer_scheme.specs.Answers.{Answers}
 use Rattle.answer_judge_keys.specs.Trusted.{digests_to, is_trusted, is_usable, matches_key}
 use Rattle.answer_shared.specs.Told.{TellsGroups, AreRecords, AreSignatures, TellsKeys, IsRecord, IsSignature, fields_for}
-use Rattle.answer_judge_facts.specs.Judged.{ds_authenticates_keys, keys_of, trusting}
-use Rattle.answer_judge_keys.specs.Judging.{JudgeInput, key_at, keys_in}
+use Rattle.answer_judge.specs.Judged.{ds_authenticates_keys, keys_of, trusting}
+use Rattle.answer_judge.specs.Judging.{JudgeInput}
+use Rattle.answer_judge_keys.specs.DnskeyAnswer.{key_at, keys_in}
 use Rattle.answer_shared.specs.EqualTags.{has_equal_tags}
 use Rattle.answer_judge.specs.Meeting.{HasDs, WasGiven}
 use Rattle.messages.specs.Message.{Spelled, data_of}

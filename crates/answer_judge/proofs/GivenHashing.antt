@@ -21,7 +21,7 @@ use Rattle.denial_laws.proofs.Nsec3Wildcard.{last_labels_are}
 use Rattle.answer_judge_rules.specs.Hashes.{answered_among, fails_among, hash_among, up_to}
 use Rattle.answer_shared.specs.Accepting.{over_limit}
 use Rattle.answer_shared.specs.Hashing.{HaveHashes, Hasher, hash_in}
-use Rattle.answer_judge_facts.specs.Judged.{are_alike, are_mixed, are_over}
+use Rattle.answer_judge.specs.Judged.{are_alike, are_mixed, are_over}
 
 -- facts by their parts
 abbrev pub facts : Option Rrset → List Link → List HashLink → Facts

@@ -12,11 +12,11 @@ use Rattle.answer_scheme.specs.Answers.{Answers}
 use Rattle.answer_shared.specs.Asking.{asks_alias}
 use Rattle.answer_judge_keys.specs.Trusted.{is_usable}
 use Rattle.answer_judge.specs.OwnFacts.{passes_for}
-use Rattle.answer_judge_keys.specs.declared.verdict.Refusal.{Refusal}
-use Rattle.answer_judge_keys.specs.declared.verdict.Refusal.TheVariants as r
+use Rattle.answer_judge.specs.declared.verdict.Refusal.{Refusal}
+use Rattle.answer_judge.specs.declared.verdict.Refusal.TheVariants as r
 use Rattle.messages.specs.declared.error.MessageError.{MessageError}
-use Rattle.answer_judge_facts.specs.Judged.{judged, judged_answer, judged_messages, keys_of}
-use Rattle.answer_judge_keys.specs.Judging.{Answer, JudgeInput, Refuses, Says, first_refusal, is_judged, may_ask, message_refusal, same_question}
+use Rattle.answer_judge.specs.Judged.{judged, judged_answer, judged_messages, keys_of}
+use Rattle.answer_judge.specs.Judging.{Answer, JudgeInput, Refuses, Says, first_refusal, is_judged, may_ask, message_refusal, same_question}
 use Rattle.answer_shared.specs.EqualTags.{has_equal_tags}
 use Rattle.answer_judge.specs.Meeting.{HasDs, WasGiven}
 use Rattle.messages.specs.Message.{Asked, Message}

@@ -21,7 +21,7 @@ use Rattle.messages.proofs.ReadNames.{labelled}
 use Rattle.answer_shared.specs.Accepting.{sorted_records}
 use Rattle.answer_shared.proofs.ZoneNaming.{chain_named, lower_name, next_name}
 use Rattle.answer_shared.specs.HashOwner.{hash_spelled}
-use Rattle.answer_judge_facts.specs.Versions.{IsNsecOf, IsNsec3Of, Version, zone_in}
+use Rattle.answer_judge.specs.Versions.{IsNsecOf, IsNsec3Of, Version, zone_in}
 use Rattle.answer_judge.proofs.GivenGroups.{SaysHashLink, said_of}
 use Rattle.answer_judge.proofs.GivenHashes.{owner_spells}
 use Rattle.answer_judge.proofs.GivenLists.{has_contained}

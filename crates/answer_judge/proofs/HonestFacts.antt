@@ -22,11 +22,11 @@ use Rattle.messages.proofs.ZoneNames.{labels_eq-same}
 use Rattle.answer_shared.specs.Accepting.{sorted_records}
 use Rattle.answer_shared.specs.Hashing.{hash_in}
 use Rattle.answer_scheme.specs.Answers.{Answers}
-use Rattle.answer_judge_facts.specs.Honest.{IsHonest, Signing, WasSigned, sought_of_answer}
-use Rattle.answer_judge_facts.specs.Versions.{IsOfChain, IsRrsetOf, OfZone, OfChain, OfParameters, SignedRrset, Version, zone_in}
+use Rattle.answer_judge.specs.Honest.{IsHonest, Signing, WasSigned, sought_of_answer}
+use Rattle.answer_judge.specs.Versions.{IsOfChain, IsRrsetOf, OfZone, OfChain, OfParameters, SignedRrset, Version, zone_in}
 use Rattle.answer_judge_keys.specs.Trusted.{labels_fit, may_expand}
-use Rattle.answer_judge_facts.specs.Judged.{trusting}
-use Rattle.answer_judge_keys.specs.Judging.{JudgeInput}
+use Rattle.answer_judge.specs.Judged.{trusting}
+use Rattle.answer_judge.specs.Judging.{JudgeInput}
 use Rattle.answer_judge_facts.specs.Sought.{answer_sought}
 use Rattle.answer_judge_facts.specs.Verified.{Trusting, datum_of, hash_link_at, hash_link_with, is_hash_alone, is_hash_link, is_link, is_verified, link_at, link_of, rrset_in, verified_by, verified_rrset}
 use Rattle.answer_judge.proofs.GivenNext.{canonical_nsec, canonical_nsec3}

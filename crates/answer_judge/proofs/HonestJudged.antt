@@ -15,12 +15,12 @@ use Rattle.answer_scheme.specs.Answers.{Answers}
 use Rattle.answer_shared.specs.Accepting.{record_cmp}
 use Rattle.answer_shared.specs.Chainable.{HasChain}
 use Rattle.answer_shared.specs.Hashing.{Hasher, hash_in}
-use Rattle.answer_judge_facts.specs.Honest.{AnswersHonest, AreHonest, FewIterations, HasOneRrset, IsSaidByOne, IsVersion, OneAtATime, SaysOneOf, Settled, Signing}
-use Rattle.answer_judge_facts.specs.Versions.{Version, zone_in}
+use Rattle.answer_judge.specs.Honest.{AnswersHonest, AreHonest, FewIterations, HasOneRrset, IsSaidByOne, IsVersion, OneAtATime, SaysOneOf, Settled, Signing}
+use Rattle.answer_judge.specs.Versions.{Version, zone_in}
 use Rattle.answer_judge_keys.specs.Trusted.{is_usable}
-use Rattle.answer_judge_facts.specs.Judged.{AnswersAs, judged, keys_of}
-use Rattle.answer_judge_keys.specs.Judging.{Answer, JudgeInput, Refuses, Says}
-use Rattle.answer_judge_keys.specs.declared.verdict.Refusal.TheVariants as r
+use Rattle.answer_judge.specs.Judged.{AnswersAs, judged, keys_of}
+use Rattle.answer_judge.specs.Judging.{Answer, JudgeInput, Refuses, Says}
+use Rattle.answer_judge.specs.declared.verdict.Refusal.TheVariants as r
 use Rattle.answer_judge.proofs.GivenFacts.{FitsRecords}
 use Rattle.answer_judge.proofs.GivenHashing.{hashes_agree}
 use Rattle.answer_judge.proofs.GivenLists.{contained_has, has_contained}

@@ -17,11 +17,12 @@ use Rattle.messages.proofs.Lists.{Has, all_at, all_more, all_sorted, some_is}
 use Rattle.answer_shared.specs.Hashing.{hash_in}
 use Rattle.answer_shared.proofs.KeyData.{key_read_back}
 use Rattle.answer_scheme.specs.Answers.{Answers}
-use Rattle.answer_judge_facts.specs.Honest.{IsHonest, NoStranger, Signing, WasSigned, sought_of_keys}
-use Rattle.answer_judge_facts.specs.Versions.{IsOfChain, IsRrsetOf, OfZone, OfChain, OfParameters, SignedRrset, Version, zone_in}
+use Rattle.answer_judge.specs.Honest.{IsHonest, NoStranger, Signing, WasSigned, sought_of_keys}
+use Rattle.answer_judge.specs.Versions.{IsOfChain, IsRrsetOf, OfZone, OfChain, OfParameters, SignedRrset, Version, zone_in}
 use Rattle.answer_judge_keys.specs.Trusted.{is_trusted, is_usable, matches_key}
-use Rattle.answer_judge_facts.specs.Judged.{ds_authenticates_keys, keys_of, trusting}
-use Rattle.answer_judge_keys.specs.Judging.{JudgeInput, key_at, keys_in}
+use Rattle.answer_judge.specs.Judged.{ds_authenticates_keys, keys_of, trusting}
+use Rattle.answer_judge.specs.Judging.{JudgeInput}
+use Rattle.answer_judge_keys.specs.DnskeyAnswer.{key_at, keys_in}
 use Rattle.answer_judge_keys.proofs.GivenKeys.{IsKeyData, data_of_key, key_data}
 use Rattle.answer_judge.proofs.GivenLists.{contained_has, has_contained}
 use Rattle.answer_judge_keys.proofs.GivenSorted.{data_has, sorted_from}

@@ -27,8 +27,8 @@ use Rattle.answer_shared.specs.Served.{Group, Served, chain_record, key_group, s
 use Rattle.answer_shared.specs.Told.{fields_for, octets_for}
 use Rattle.answer_shared.proofs.ZoneData.{label_count-low}
 use Rattle.answer_shared.proofs.ZoneNaming.{lower_name}
-use Rattle.answer_judge_facts.specs.Honest.{IsMadeOver, Signing, SignedOfKeys, SignedOfVersion, WasSigned}
-use Rattle.answer_judge_facts.specs.Versions.{IsRrsetOf, OfChain, OfZone, Version, zone_in}
+use Rattle.answer_judge.specs.Honest.{IsMadeOver, Signing, SignedOfKeys, SignedOfVersion, WasSigned}
+use Rattle.answer_judge.specs.Versions.{IsRrsetOf, OfChain, OfZone, Version, zone_in}
 use Rattle.answer_judge_facts.specs.Times.{times_of}
 use Rattle.answer_judge.specs.OwnMessages.{signing_of}
 use Rattle.answer_judge.proofs.GivenLists.{contained_has}

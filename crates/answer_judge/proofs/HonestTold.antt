@@ -12,8 +12,8 @@ use Rattle.denial_laws.proofs.SignedNames.{whole_owner}
 use Rattle.messages.proofs.Lists.{Has}
 use Rattle.answer_scheme.specs.Answers.{Answers}
 use Rattle.answer_shared.specs.Hashing.{hash_in}
-use Rattle.answer_judge_facts.specs.Honest.{IsMadeOver, IsSignedOfKeys, IsSignedOfVersion, Signing, SignedOfKeys, SignedOfVersion, WasSigned, rrset_of_keys}
-use Rattle.answer_judge_facts.specs.Versions.{IsRrsetOf, SignedRrset, Version}
+use Rattle.answer_judge.specs.Honest.{IsMadeOver, IsSignedOfKeys, IsSignedOfVersion, Signing, SignedOfKeys, SignedOfVersion, WasSigned, rrset_of_keys}
+use Rattle.answer_judge.specs.Versions.{IsRrsetOf, SignedRrset, Version}
 use Rattle.answer_judge_facts.specs.Times.{times_of}
 use Rattle.answer_judge.proofs.GivenLists.{has_contained}
 use Rattle.answer_judge.proofs.HonestVerified.{IsOver}

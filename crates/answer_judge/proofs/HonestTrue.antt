@@ -11,9 +11,9 @@ use Rattle.messages.specs.Message.{AreOctets, Message, Spelled}
 use Rattle.messages.proofs.Lists.{Has}
 use Rattle.answer_scheme.specs.Answers.{Answers}
 use Rattle.answer_shared.specs.Hashing.{hash_in}
-use Rattle.answer_judge_facts.specs.Versions.{Version, zone_in}
-use Rattle.answer_judge_facts.specs.Judged.{trusting}
-use Rattle.answer_judge_keys.specs.Judging.{JudgeInput}
+use Rattle.answer_judge.specs.Versions.{Version, zone_in}
+use Rattle.answer_judge.specs.Judged.{trusting}
+use Rattle.answer_judge.specs.Judging.{JudgeInput}
 use Rattle.answer_judge_facts.specs.Verified.{Trusting, hash_link_at, link_at, verified_facts}
 use Rattle.answer_judge_facts.proofs.KeptItems.{all_kept_of, none_kept_of}
 use Rattle.answer_judge.proofs.GivenFacts.{FitsRecords}

@@ -10,10 +10,10 @@ use Rattle.messages.specs.Message.{Message, Spelled, message}
 use Rattle.messages.proofs.Lists.{Has, some_is}
 use Rattle.answer_scheme.specs.Answers.{Answers}
 use Rattle.answer_shared.specs.Hashing.{hash_in}
-use Rattle.answer_judge_facts.specs.Honest.{HasOneRrset, HasSignature, IsHonest, Signing, WasSigned, over, sought_of_answer}
-use Rattle.answer_judge_facts.specs.Versions.{Version}
-use Rattle.answer_judge_facts.specs.Judged.{trusting}
-use Rattle.answer_judge_keys.specs.Judging.{JudgeInput}
+use Rattle.answer_judge.specs.Honest.{HasOneRrset, HasSignature, IsHonest, Signing, WasSigned, over, sought_of_answer}
+use Rattle.answer_judge.specs.Versions.{Version}
+use Rattle.answer_judge.specs.Judged.{trusting}
+use Rattle.answer_judge.specs.Judging.{JudgeInput}
 use Rattle.answer_judge_facts.specs.Times.{Times, are_unlike, proof_times, times_at, times_of}
 use Rattle.answer_judge_facts.specs.Verified.{Trusting, rrset_in, verified_by}
 use Rattle.answer_judge_facts.proofs.JudgeCase.{rrset_in-owner, signed_octets-owner, signed_owner-owner}

@@ -6,11 +6,13 @@ use Rattle.definitions.specs.Limits.{pointer_limit}
 use Rattle.messages.specs.Message.{Message, Spelled, message}
 use Rattle.answer_scheme.specs.Answers.{Answers, EachAgreeing, SignatureTest, with_test}
 use Rattle.answer_judge.specs.Stages.{trusting_named}
-use Rattle.answer_judge_keys.specs.Judging.{JudgeInput, keys_in}
+use Rattle.answer_judge.specs.Judging.{JudgeInput}
+use Rattle.answer_judge_keys.specs.DnskeyAnswer.{keys_in}
 use Rattle.answer_judge_keys.specs.Trusted.{is_trusted, is_usable}
-use Rattle.answer_judge_keys.specs.declared.verdict.Lasting.{Lasting}
-use Rattle.answer_judge_facts.specs.Judged.{keys_of, trusting}
-use Rattle.answer_judge_facts.specs.Lasting.{answer_lasting, answer_seconds, answer_ttls, key_seconds, lasting_in_bytes, lasting_in_messages, lasting_of, least_of}
+use Rattle.answer_judge_facts.specs.declared.lasting.Lasting.{Lasting}
+use Rattle.answer_judge.specs.Judged.{keys_of, trusting}
+use Rattle.answer_judge_facts.specs.Lasting.{answer_lasting, answer_seconds, answer_ttls, key_seconds, least_of}
+use Rattle.answer_judge.specs.Lasts.{lasting_in_bytes, lasting_in_messages, lasting_of}
 use Rattle.answer_judge_facts.proofs.JudgeAsked.{agreed_by}
 use Rattle.answer_judge_facts.proofs.LeastOf.{least_twice}
 use Rattle.answer_judge.proofs.JudgeWhole.{BothRead}

@@ -9,15 +9,16 @@ use Rattle.answer_judge.specs.Stages.{are_signed}
 use Rattle.answer_judge_keys.specs.Trusted.{is_usable}
 use Rattle.denial_laws.specs.Facts.{Facts}
 use Rattle.answer_judge_rules.specs.declared.verdict.Verdict.{Verdict as CodeVerdict}
-use Rattle.answer_judge_keys.specs.declared.verdict.Refusal.{Refusal}
-use Rattle.answer_judge_keys.specs.declared.verdict.Refusal.TheVariants as r
-use Rattle.answer_judge_keys.specs.Judging.{Answer, Refuses, RefusesFirst, JudgeInput, first_refusal, is_judged, may_ask, message_refusal, keys_in, same_question, AnswersFirst}
+use Rattle.answer_judge.specs.declared.verdict.Refusal.{Refusal}
+use Rattle.answer_judge.specs.declared.verdict.Refusal.TheVariants as r
+use Rattle.answer_judge.specs.Judging.{Answer, Refuses, RefusesFirst, JudgeInput, first_refusal, is_judged, may_ask, message_refusal, same_question, AnswersFirst}
+use Rattle.answer_judge_keys.specs.DnskeyAnswer.{keys_in}
 use Rattle.answer_shared.specs.EqualTags.{has_equal_tags}
 use Rattle.answer_judge_rules.specs.Rules.{verdict_of}
 use Rattle.messages.specs.Message.{Asked, Message, Spelled, message}
 use Rattle.answer_judge_facts.specs.Verified.{verified_facts}
 use Rattle.answer_judge_facts.specs.Times.{are_unlike, proof_times}
-use Rattle.answer_judge_facts.specs.Judged.{trusting, keys_of, ds_authenticates_keys, by_facts, judged_answer, judged_proof, judged_messages, judged_bytes, judged_beyond, said, AnswersAs}
+use Rattle.answer_judge.specs.Judged.{trusting, keys_of, ds_authenticates_keys, by_facts, judged_answer, judged_proof, judged_messages, judged_bytes, judged_beyond, said, AnswersAs}
 
 -- both messages were read, and they bring no refusal
 pub beyond : (a : Answers) (k : ℕ) (h : JudgeInput) (keys answer : Message) → message k h.dnskey_bytes ≡ Ok keys → message k h.answer_bytes ≡ Ok answer → message_refusal k h ≡ None → judged_beyond a k h ≡ judged_messages a k h keys answer

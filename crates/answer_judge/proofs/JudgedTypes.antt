@@ -4,7 +4,7 @@ use Rattle.std.proofs.lemmas.Bool.{and_parts, or_cases}
 use Rattle.denial_laws.specs.Truth.{is_added_type}
 use Rattle.answer_shared.specs.Asking.{asks_alias, is_allowed}
 use Rattle.answer_shared.proofs.AllowedTypes.{Unsigned, alias_unsigned, unadded, unsigned_from}
-use Rattle.answer_judge_keys.specs.Judging.{JudgeInput, is_judged}
+use Rattle.answer_judge.specs.Judging.{JudgeInput, is_judged}
 
 judged_unsigned : (h : JudgeInput) → is_judged h ≡ true → Unsigned h.asked.rtype
 judged_unsigned h e = elim (or_cases (h.other_question && asks_alias h.apex h.asked) (is_allowed h.apex h.asked) e) [

@@ -4,11 +4,11 @@ use Rattle.std.specs.Prelude.{Option, Some, None, nat_eq, if◌then◌else◌}
 use Rattle.definitions.specs.Limits.{pointer_limit}
 use Rattle.definitions.specs.Zone.{Unsigned}
 use Rattle.answer_scheme.specs.Answers.{Answers, EachAgreeing, SignatureTest, with_test}
-use Rattle.answer_judge_facts.specs.Counted.{Counts, hashes_in_bytes, tries_in_bytes}
-use Rattle.answer_judge_facts.specs.Judged.{AnswersAs, judged, judged_bytes}
-use Rattle.answer_judge_keys.specs.Judging.{Answer, JudgeInput, Judges, Refuses, Says, is_judged, message_refusal}
-use Rattle.answer_judge_keys.specs.declared.verdict.Refusal.{Refusal}
-use Rattle.answer_judge_keys.specs.declared.verdict.Refusal.TheVariants as r
+use Rattle.answer_judge.specs.Due.{Counts, hashes_in_bytes, tries_in_bytes}
+use Rattle.answer_judge.specs.Judged.{AnswersAs, judged, judged_bytes}
+use Rattle.answer_judge.specs.Judging.{Answer, JudgeInput, Judges, Refuses, Says, is_judged, message_refusal}
+use Rattle.answer_judge.specs.declared.verdict.Refusal.{Refusal}
+use Rattle.answer_judge.specs.declared.verdict.Refusal.TheVariants as r
 use Rattle.answer_judge_facts.proofs.JudgeAsked.{agreed_by}
 use Rattle.answer_judge.specs.Beyond.{SaysBeyond}
 use Rattle.answer_judge.specs.Meeting.{IsJudgement}

@@ -44,3 +44,5 @@ pub mod Spliced
 pub mod ForgedAtAll
 pub mod HonestOwn
 pub mod OwnMessages
+pub mod StayAlike
+pub mod OneZone

@@ -24,8 +24,9 @@ use Rattle.denial_laws.specs.Truth.{IsServable}
 use Rattle.answer_judge_facts.specs.Verified.{Trusting, rrset_in}
 use Rattle.answer_judge_keys.proofs.GivenSorted.{sorted_twice}
 use Rattle.answer_judge_facts.proofs.JudgeCase.{rrset_in-owner, signed_octets-owner}
-use Rattle.answer_judge_facts.specs.Honest.{IsHonest, NothingForged, Signing, WasSigned, sought_of_answer}
-use Rattle.answer_judge_keys.specs.Judging.{JudgeInput, keys_in}
+use Rattle.answer_judge.specs.Honest.{IsHonest, NothingForged, Signing, WasSigned, sought_of_answer}
+use Rattle.answer_judge.specs.Judging.{JudgeInput}
+use Rattle.answer_judge_keys.specs.DnskeyAnswer.{keys_in}
 use Rattle.answer_judge.specs.OwnFacts.{TellsZone}
 use Rattle.answer_judge.specs.OwnMessages.{OwnAnswersAreHonest, OwnKeysAreHonest, signing_of}
 use Rattle.answer_judge.proofs.GivenChained.{keys_data}

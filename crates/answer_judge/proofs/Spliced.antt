@@ -17,9 +17,9 @@ use Rattle.answer_shared.specs.Told.{AreRecords, AreSignatures, IsRecord, IsSign
 use Rattle.answer_judge.proofs.GivenFacts.{from_joined}
 use Rattle.answer_judge.proofs.GivenLists.{contained_has, has_contained}
 use Rattle.answer_judge.proofs.HonestMade.{signed_only}
-use Rattle.answer_judge_facts.specs.Honest.{IsHonest, WasSigned, over}
+use Rattle.answer_judge.specs.Honest.{IsHonest, WasSigned, over}
 use Rattle.answer_scheme.specs.Answers.{Answers}
-use Rattle.answer_judge_keys.specs.Judging.{JudgeInput}
+use Rattle.answer_judge.specs.Judging.{JudgeInput}
 use Rattle.answer_judge_facts.specs.Sought.{Sought}
 use Rattle.answer_judge.specs.Splices.{AreSigned, Binds, IsSpliced, PassesNowhere, PlainSchemeBinds, ToldIsSpliced, SplicesAreHonest, WasCarried}
 

@@ -16,10 +16,10 @@ use Rattle.answer_judge_rules.specs.Hashes.{hash_among}
 use Rattle.answer_scheme.specs.Answers.{Answers}
 use Rattle.answer_judge_keys.specs.Trusted.{is_signature, is_trusted, is_usable}
 use Rattle.answer_judge.specs.Timely.{RefusesUntimely, has_timely, holds_now}
-use Rattle.answer_judge_facts.specs.Judged.{AnswersAs, decided_by, judged, keys_of, trusting}
-use Rattle.answer_judge_keys.specs.Judging.{Answer, JudgeInput, Refuses, Says}
+use Rattle.answer_judge.specs.Judged.{AnswersAs, decided_by, judged, keys_of, trusting}
+use Rattle.answer_judge.specs.Judging.{Answer, JudgeInput, Refuses, Says}
 use Rattle.answer_judge_facts.specs.Verified.{Trusting, hash_link_at, is_hash_alone, is_hash_link, is_link, is_verified, link_at, rrset_in, verified_by, verified_facts, verified_hash_links, verified_links, verified_rrset}
-use Rattle.answer_judge_keys.specs.declared.verdict.Refusal.TheVariants as r
+use Rattle.answer_judge.specs.declared.verdict.Refusal.TheVariants as r
 use Rattle.answer_judge_facts.proofs.KeptItems.{none_kept_of, when}
 use Rattle.answer_judge.proofs.HonestVerified.{Found, first_verifying, found_verifying, timely}
 use Rattle.answer_judge.proofs.JudgedSays.{IsSaid, judged_says}

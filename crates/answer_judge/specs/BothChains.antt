@@ -4,8 +4,8 @@ use Rattle.definitions.specs.Zone.{Verdict}
 use Rattle.definitions.specs.ZoneChain.{Nsec, Nsec3}
 use Rattle.messages.specs.HandedRr.{HandedRr}
 use Rattle.answer_scheme.specs.Answers.{Answers}
-use Rattle.answer_judge_facts.specs.Judged.{AnswersAs}
-use Rattle.answer_judge_keys.specs.Judging.{Answer, JudgeInput, Says}
+use Rattle.answer_judge.specs.Judged.{AnswersAs}
+use Rattle.answer_judge.specs.Judging.{Answer, JudgeInput, Says}
 use Rattle.answer_judge.specs.Meeting.{IsJudgement, WasGiven}
 
 -- A judgement, and the counts of its verifications and hashes.

@@ -2,8 +2,8 @@
 use Rattle.std.specs.Prelude.{◌≡◌, ◌⊎◌, ℕ, ◌≤◌, Bool, true, false, None}
 use Rattle.definitions.specs.Limits.{pointer_limit}
 use Rattle.answer_scheme.specs.Answers.{Answers, EachAgreeing, SignatureTest}
-use Rattle.answer_judge_keys.specs.Judging.{Answer, AnswersFirst, JudgeInput, Refuses, hash_bound, message_refusal}
-use Rattle.answer_judge_keys.specs.declared.verdict.Refusal.TheVariants as r
+use Rattle.answer_judge.specs.Judging.{Answer, AnswersFirst, JudgeInput, Refuses, hash_bound, message_refusal}
+use Rattle.answer_judge.specs.declared.verdict.Refusal.TheVariants as r
 use Rattle.answer_judge.specs.Beyond.{SaysBeyond}
 use Rattle.answer_judge.specs.Meeting.{IsJudgement}
 

@@ -6,8 +6,8 @@ use Rattle.definitions.specs.Dnskey.{Dnskey}
 use Rattle.definitions.specs.Signing.{Fields, ascending, in_time, signed_octets}
 use Rattle.messages.specs.Message.{AreOctets, Message, Spelled, message, rrsig_at}
 use Rattle.answer_scheme.specs.Answers.{Answers}
-use Rattle.answer_judge_facts.specs.Honest.{NothingForged, Signing, WasSigned, sought_of_answer, sought_of_keys}
-use Rattle.answer_judge_keys.specs.Judging.{JudgeInput}
+use Rattle.answer_judge.specs.Honest.{NothingForged, Signing, WasSigned, sought_of_answer, sought_of_keys}
+use Rattle.answer_judge.specs.Judging.{JudgeInput}
 
 -- An RRset that may be signed, of at least one record, each once and ascending, whether or not it stands in the message
 -- (RFC 4034, 3.1.8.1 and 6.3), and the octets that its signature is made over.

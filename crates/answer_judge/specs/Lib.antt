@@ -10,3 +10,12 @@ pub mod Timely
 pub mod ForgedAtAll
 pub mod Splices
 pub mod OwnMessages
+pub mod Judging
+pub mod HashRefusal
+pub mod Judged
+pub mod Tried
+pub mod Due
+pub mod Lasts
+pub mod Versions
+pub mod Honest
+pub mod OneZone

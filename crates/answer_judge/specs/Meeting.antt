@@ -12,16 +12,16 @@ use Rattle.answer_scheme.specs.Answers.{Answers}
 use Rattle.answer_judge_keys.specs.Trusted.{is_usable}
 use Rattle.answer_shared.specs.Told.{TellsKeys, TellsAnswer}
 use Rattle.messages.specs.Handed.{IsHanded}
-use Rattle.answer_judge_keys.specs.Judging.{Answer, Says, JudgeInput, Judges, answer_of, verifications_of, hashes_of}
+use Rattle.answer_judge.specs.Judging.{Answer, Says, JudgeInput, Judges, answer_of, verifications_of, hashes_of}
 use Rattle.answer_shared.specs.Accepted.{IsAccepted}
 use Rattle.answer_shared.specs.Asking.{is_allowed}
 use Rattle.answer_shared.specs.EqualTags.{has_equal_tags}
-use Rattle.answer_judge_keys.specs.declared.verdict.Judgement.{Judgement}
-use Rattle.answer_judge_keys.specs.declared.verdict.Refused.{Refused}
-use Rattle.answer_judge_facts.specs.Honest.{AnswersHonest}
+use Rattle.answer_judge.specs.declared.verdict.Judgement.{Judgement}
+use Rattle.answer_judge.specs.declared.verdict.Refused.{Refused}
+use Rattle.answer_judge.specs.Honest.{AnswersHonest}
 use Rattle.answer_judge.specs.Timely.{RefusesUntimely}
-use Rattle.answer_judge_facts.specs.Judged.{AnswersAs, judged}
-use Rattle.answer_judge_facts.specs.Counted.{Counts, hashes_due, verifications_due}
+use Rattle.answer_judge.specs.Judged.{AnswersAs, judged}
+use Rattle.answer_judge.specs.Due.{Counts, hashes_due, verifications_due}
 use Rattle.answer_shared.specs.Hashing.{HashesHold, served}
 use Rattle.answer_shared.specs.Served.{Served}
 use Rattle.messages.specs.WrittenLaws.{IsQuestion}

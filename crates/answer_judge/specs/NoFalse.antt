@@ -1,9 +1,9 @@
 -- A judge says no false verdict of honest messages.
 use Rattle.std.specs.Prelude.{ℕ}
 use Rattle.answer_scheme.specs.Answers.{Answers}
-use Rattle.answer_judge_facts.specs.Honest.{AnswersHonest}
-use Rattle.answer_judge_keys.specs.Judging.{Answer, JudgeInput}
-use Rattle.answer_judge_facts.specs.Judged.{AnswersAs, judged}
+use Rattle.answer_judge.specs.Honest.{AnswersHonest}
+use Rattle.answer_judge.specs.Judging.{Answer, JudgeInput}
+use Rattle.answer_judge.specs.Judged.{AnswersAs, judged}
 
 -- Whatever is exact, memory aside, is this.
 abbrev pub NoFalseVerdict : Type 0

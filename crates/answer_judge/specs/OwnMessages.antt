@@ -9,9 +9,9 @@ use Rattle.messages.specs.Message.{AreOctets}
 use Rattle.messages.specs.WrittenLaws.{IsQuestion}
 use Rattle.answer_scheme.specs.Answers.{Answers}
 use Rattle.answer_shared.specs.Told.{TellsKeys}
-use Rattle.answer_judge_keys.specs.Judging.{JudgeInput}
+use Rattle.answer_judge.specs.Judging.{JudgeInput}
 use Rattle.answer_judge_facts.specs.Verified.{Trusting}
-use Rattle.answer_judge_facts.specs.Honest.{IsHonest, Signing, WasSigned, sought_of_answer, sought_of_keys}
+use Rattle.answer_judge.specs.Honest.{IsHonest, Signing, WasSigned, sought_of_answer, sought_of_keys}
 use Rattle.answer_judge.specs.OwnFacts.{TellsZone}
 
 -- records that are served with a chain, signed from a second on for so many seconds

@@ -10,9 +10,9 @@ use Rattle.messages.specs.Message.{AreOctets, Asked, Message, Spelled, message, 
 use Rattle.answer_shared.specs.Served.{Group}
 use Rattle.answer_shared.specs.Told.{Tells, octets_for}
 use Rattle.answer_scheme.specs.Answers.{Answers}
-use Rattle.answer_judge_facts.specs.Honest.{IsHonest, Signing, WasSigned}
+use Rattle.answer_judge.specs.Honest.{IsHonest, Signing, WasSigned}
 use Rattle.answer_judge_facts.specs.Sought.{Sought}
-use Rattle.answer_judge_keys.specs.Judging.{JudgeInput}
+use Rattle.answer_judge.specs.Judging.{JudgeInput}
 
 -- a signature passes over one string of octets alone, whatever the key
 abbrev pub Binds : Answers → Type 0

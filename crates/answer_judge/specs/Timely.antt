@@ -5,8 +5,8 @@ use Rattle.definitions.specs.Signing.{in_time}
 use Rattle.messages.specs.Message.{Spelled, message, rrsig_at}
 use Rattle.answer_scheme.specs.Answers.{Answers}
 use Rattle.answer_judge_keys.specs.Trusted.{is_signature}
-use Rattle.answer_judge_keys.specs.Judging.{Answer, Says, Refuses, JudgeInput}
-use Rattle.answer_judge_facts.specs.Judged.{AnswersAs, judged}
+use Rattle.answer_judge.specs.Judging.{Answer, Says, Refuses, JudgeInput}
+use Rattle.answer_judge.specs.Judged.{AnswersAs, judged}
 
 -- a signature that holds at a moment
 abbrev pub holds_now : ℕ → ℕ → List ℕ → Spelled → Bool

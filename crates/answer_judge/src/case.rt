@@ -46,7 +46,7 @@ pub struct Case<'a> {
 
 impl<'a> Model for Case<'a> {
     ghost use Rattle.messages.specs.Questions.{asked_of};
-    ghost use Rattle.answer_judge_keys.specs.Judging.{JudgeInput, handed_for};
+    ghost use Rattle.answer_judge.specs.Judging.{JudgeInput, handed_for};
 
     ghost Value = { JudgeInput };
 

@@ -3,20 +3,21 @@ ghost use Rattle.std.specs.Prelude.{◌≡◌, ◌==◌, ◌+◌, ◌++◌, ◌<
 ghost use Rattle.definitions.specs.Limits.{pointer_limit};
 ghost use Rattle.messages.specs.Questions.{asked_of};
 ghost use Rattle.messages.specs.Record.{spelled};
-ghost use Rattle.answer_judge_facts.specs.Counted.{Counts, hashes_due, verifications_due};
+ghost use Rattle.answer_judge.specs.Due.{Counts, hashes_due, verifications_due};
 ghost use Rattle.messages.specs.Message.{Asked, message};
 ghost use Rattle.messages.specs.View.{Gives};
 ghost use Rattle.answer_judge.specs.Beyond.{SaysBeyond};
 ghost use Rattle.answer_judge.specs.Decided.{HashesDecided, HashesDecidedBeyond};
-ghost use Rattle.answer_judge_facts.specs.Honest.{AnswersHonest};
+ghost use Rattle.answer_judge.specs.Honest.{AnswersHonest};
 ghost use Rattle.answer_judge.specs.Timely.{RefusesUntimely};
-ghost use Rattle.answer_judge_facts.specs.Judged.{judged, said, AnswersAs};
-ghost use Rattle.answer_judge_facts.specs.Lasting.{LastsSo, lasting_in_bytes};
-ghost use Rattle.answer_judge_keys.specs.declared.verdict.Lasting.{Lasting};
+ghost use Rattle.answer_judge.specs.Judged.{judged, said, AnswersAs};
+ghost use Rattle.answer_judge.specs.Lasts.{LastsSo, lasting_in_bytes};
+ghost use Rattle.answer_judge_facts.specs.declared.lasting.Lasting.{Lasting};
 ghost use Rattle.answer_judge.specs.Meeting.{AnswersGiven, JudgesSo};
-ghost use Rattle.answer_judge_keys.specs.Judging.{Judges, RefusesFirst, answer_of, handed, verifications_of, hashes_of, is_first, is_judged, may_ask, message_refusal, same_question, hash_bound, verification_bound};
+ghost use Rattle.answer_judge.specs.Judging.{Judges, RefusesFirst, answer_of, handed, verifications_of, hashes_of, is_first, is_judged, may_ask, message_refusal, same_question, hash_bound, verification_bound};
 ghost use Rattle.answer_scheme.specs.Answers.{EachAgreeing, SignatureTest, with_test};
-ghost use Rattle.answer_judge_facts.specs.Asked.{Implies, is_tried_beyond, is_tried_signature};
+ghost use Rattle.answer_judge_facts.specs.Asked.{Implies};
+ghost use Rattle.answer_judge.specs.Tried.{is_tried_beyond, is_tried_signature};
 
 pub mod by_scheme;
 mod deciding;
@@ -25,8 +26,8 @@ mod trusting;
 use crate::case::Case;
 use crate::judging::deciding::judge_proof;
 use crate::judging::trusting::{keys_that_may_sign, read_proof, read_unlike_keys};
+use crate::verdict::{Judgement, Lasting, Refusal, Refused, Verdict};
 use answer_judge_keys::check_run::CheckRun;
-use answer_judge_keys::verdict::{Judgement, Lasting, Refusal, Refused, Verdict};
 use answer_scheme::checks::Checks;
 use answer_shared::question::asks_alias;
 pub use answer_shared::question::is_allowed;
@@ -104,7 +105,7 @@ impl<'a> Case<'a> {
     /// pass of those that `verify` was not asked about.
     ///
     /// A verdict lasts up to a second that is said beside it: at each moment up to there the same
-    /// messages get the same verdict (`answer_judge_facts::laws::verdicts_last`).
+    /// messages get the same verdict (`answer_judge::laws::verdicts_last`).
     pub fn judge<C: Checks>(&self, alloc: Global, checks: &mut C) -> Result<Judgement, Refused>
         ensures judges { let answer = answer_of result in
             Judges pointer_limit self.now answer (verifications_of result) (hashes_of result) }

@@ -1,5 +1,7 @@
 //! Laws of what a judge verifies.
 
+ghost use Rattle.answer_judge.specs.Lasts.{VerdictsLast};
+ghost use Rattle.answer_judge.specs.OneZone.{HonestOfOneZone};
 ghost use Rattle.answer_judge.specs.BothChains.{ChainsSayTheSame};
 ghost use Rattle.answer_judge.specs.FirstSignature.{SaysFirst};
 ghost use Rattle.answer_judge.specs.ForgedAtAll.{AtAllIsEnough};
@@ -87,4 +89,19 @@ pub fn what_is_told_is_spliced()
 pub fn what_a_zone_gave_is_honest()
     ensures keys { OwnKeysAreHonest }
     ensures answers { OwnAnswersAreHonest }
+{}
+
+/// The judge says the verdict of a zone that does not change, or refuses, whether or not signatures
+/// must be of one moment.
+pub fn of_one_zone_its_verdict()
+    ensures { HonestOfOneZone }
+{}
+
+/// Octets that are judged at a moment are judged alike at each moment from there up to the last
+/// second of what they are said to last, under the same answers of a scheme.
+///
+/// Up to there each signature holds by which an RRset is verified, and none of an RRset that is
+/// sought begins to hold.
+pub fn verdicts_last()
+    ensures { VerdictsLast }
 {}

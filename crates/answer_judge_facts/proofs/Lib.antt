@@ -14,9 +14,7 @@ pub mod JudgeTimes
 pub mod JudgeTried
 pub mod KeptItems
 pub mod LeastOf
-pub mod OneZone
 pub mod Places
 pub mod Seconds
 pub mod ShortData
-pub mod StayAlike
 pub mod Waits

@@ -1,19 +1,17 @@
--- Which signatures a judge verifies, with which keys and octets (RFC 4035, 5.2 and 5.3).
-use Rattle.std.specs.Prelude.{◌≡◌, ℕ, Bool, true, false, ◌&&◌, ◌||◌, ◌==◌, List, [], ◌∷◌, ◌++◌, filter, length, map, Some, None, Ok, Err, ⊤, nat_eq, if◌then◌else◌}
+-- Which signatures of a message are verified, with which keys and octets (RFC 4035, 5.2 and 5.3).
+use Rattle.std.specs.Prelude.{◌≡◌, ℕ, Bool, true, false, ◌&&◌, ◌||◌, ◌==◌, List, [], ◌∷◌, ◌++◌, map, Some, None, ⊤}
 use Rattle.std.specs.List.{AllByRecursion, find}
 use Rattle.std.specs.Str.{bytes_eq}
 use Rattle.definitions.specs.Name.{Name}
 use Rattle.definitions.specs.Dnskey.{Dnskey, same_key}
 use Rattle.definitions.specs.Limits.{pointer_limit}
 use Rattle.definitions.specs.Signing.{Fields, signed_octets}
-use Rattle.messages.specs.Message.{Message, Spelled, message, rrsig_at}
-use Rattle.answer_scheme.specs.Answers.{Answers, SignatureTest}
-use Rattle.answer_judge_keys.specs.Trusted.{fits_key, is_signature, is_trusted, is_usable}
+use Rattle.messages.specs.Message.{Spelled, rrsig_at}
+use Rattle.answer_scheme.specs.Answers.{SignatureTest}
+use Rattle.answer_judge_keys.specs.Trusted.{fits_key, is_signature}
 use Rattle.answer_judge_facts.specs.Counted.{is_tried}
-use Rattle.answer_judge_facts.specs.Judged.{ds_authenticates_keys, keys_of, trusting}
-use Rattle.answer_judge_keys.specs.Judging.{JudgeInput, first_refusal, message_refusal}
 use Rattle.answer_judge_facts.specs.Marked.{data_in, marked, tries_group}
-use Rattle.answer_judge_facts.specs.Sought.{Sought, answer_sought, keys_sought}
+use Rattle.answer_judge_facts.specs.Sought.{Sought}
 use Rattle.answer_judge_facts.specs.Verified.{Trusting}
 use Rattle.answer_judge_facts.specs.declared.groups.Group.{Group}
 
@@ -38,7 +36,7 @@ abbrev pub PassesGroups : SignatureTest → Trusting → List ℕ → List Group
 PassesGroups test w m gs [] = ⊤
 PassesGroups test w m gs (r ∷ rs) = PassesRecord test w m gs r × PassesGroups test w m (map (marked w m (r ∷ [])) gs) rs
 
--- ---- the signatures that a judge verifies
+-- ---- the signatures that are verified
 
 -- the first key of a signature's tag and algorithm
 abbrev pub is_found : Trusting → Fields → Dnskey → Bool
@@ -56,40 +54,6 @@ abbrev pub is_tried_among : Trusting → ℕ → List ℕ → Sought → List Sp
 is_tried_among w k m s earlier [] key octets signature = false
 is_tried_among w k m s earlier (r ∷ rs) key octets signature =
     (is_tried w k m s earlier r && is_carried w k m s r key octets signature) || is_tried_among w k m s (earlier ++ r ∷ []) rs key octets signature
-
--- of the DNSKEY answer, under the keys that DS records name
-abbrev pub is_tried_of_keys : Answers → ℕ → JudgeInput → Message → SignatureTest
-is_tried_of_keys a k h keys =
-    let ks = keys_of h keys in
-    is_tried_among (trusting a h (filter (is_trusted a h.apex h.ds) ks)) k h.dnskey_bytes (keys_sought h.apex ks) [] keys.records
-
--- of the zone answer, under the usable keys
-abbrev pub is_tried_of_answer : Answers → ℕ → JudgeInput → Message → Message → SignatureTest
-is_tried_of_answer a k h keys answer =
-    is_tried_among (trusting a h (filter is_usable (keys_of h keys))) k h.answer_bytes
-    (answer_sought k h.answer_bytes h.apex answer.records h.asked.name h.asked.rtype) [] answer.records
-
--- the zone answer is looked at only where the keys are verified
-abbrev pub is_tried_in_messages : Answers → ℕ → JudgeInput → Message → Message → SignatureTest
-is_tried_in_messages a k h keys answer key octets signature =
-    is_tried_of_keys a k h keys key octets signature || (ds_authenticates_keys a k h keys && is_tried_of_answer a k h keys answer key octets signature)
-
-abbrev pub is_tried_in_bytes : Answers → ℕ → JudgeInput → SignatureTest
-is_tried_in_bytes a k h key octets signature = elim (message k h.dnskey_bytes) [
-  | Err e ↦ false
-  | Ok keys ↦ elim (message k h.answer_bytes) [ Err e ↦ false | Ok answer ↦ is_tried_in_messages a k h keys answer key octets signature ]
-]
-
--- beside a DS set that isn't empty
-abbrev pub is_tried_beyond : Answers → ℕ → JudgeInput → SignatureTest
-is_tried_beyond a k h key octets signature = elim (message_refusal k h) [ Some e ↦ false | None ↦ is_tried_in_bytes a k h key octets signature ]
-
--- A signature that a judgement verifies, memory aside: of those that `verifications_due` counts.
-abbrev pub is_tried_signature : Answers → ℕ → JudgeInput → SignatureTest
-is_tried_signature a k h key octets signature = elim (first_refusal k h) [
-  | Some e ↦ false
-  | None ↦ if nat_eq (length h.ds) 0 then false else is_tried_in_bytes a k h key octets signature
-]
 
 -- what passes one test passes another
 abbrev pub Implies : SignatureTest → SignatureTest → Type 0

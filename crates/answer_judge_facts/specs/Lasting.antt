@@ -1,6 +1,6 @@
--- How long a verdict lasts: how long what it rests on may be kept (RFC 4035, 5.3.3), and for how many seconds more the signatures
--- hold by which it is verified (RFC 4034, 3.1.5).
-use Rattle.std.specs.Prelude.{◌≡◌, ℕ, ◌+◌, ◌-◌, ◌/◌, ◌%◌, ◌≤◌, min, Bool, true, false, ◌&&◌, ◌==◌, List, [], ◌∷◌, ◌++◌, map, filter, length, Option, Some, None, Result, Ok, Err, nat_eq, if◌then◌else◌}
+-- How long what is verified of an answer lasts: how long it may be kept (RFC 4035, 5.3.3), and for how many seconds more the
+-- signatures hold by which it is verified (RFC 4034, 3.1.5).
+use Rattle.std.specs.Prelude.{ℕ, ◌+◌, ◌-◌, ◌%◌, min, true, false, ◌&&◌, ◌==◌, List, [], ◌∷◌, ◌++◌, map, Option, Some, None, if◌then◌else◌}
 use Rattle.std.specs.List.{cons_option, filter_map, list_any}
 use Rattle.std.specs.Option.{option_map}
 use Rattle.definitions.specs.Dnskey.{Dnskey, dnskey_data}
@@ -9,15 +9,9 @@ use Rattle.definitions.specs.Name.{Name}
 use Rattle.definitions.specs.Serial.{serial_le}
 use Rattle.definitions.specs.Signing.{Fields}
 use Rattle.definitions.specs.Zone.{sorted_data}
-use Rattle.messages.specs.Message.{AreOctets, Message, Spelled, message, rrsig_at}
-use Rattle.answer_scheme.specs.Answers.{Answers}
-use Rattle.answer_scheme.specs.Moments.{second_of}
-use Rattle.answer_judge_keys.specs.Trusted.{is_signature, is_trusted, is_usable}
-use Rattle.answer_judge_keys.specs.Judging.{JudgeInput}
-use Rattle.answer_judge_keys.specs.declared.verdict.Judgement.{Judgement}
-use Rattle.answer_judge_keys.specs.declared.verdict.Lasting.{Lasting}
-use Rattle.answer_judge_keys.specs.declared.verdict.Refused.{Refused}
-use Rattle.answer_judge_facts.specs.Judged.{judged, keys_of, trusting}
+use Rattle.messages.specs.Message.{Spelled, rrsig_at}
+use Rattle.answer_judge_keys.specs.Trusted.{is_signature}
+use Rattle.answer_judge_facts.specs.declared.lasting.Lasting.{Lasting}
 use Rattle.answer_judge_facts.specs.Marked.{is_of, is_proved, times_by}
 use Rattle.answer_judge_facts.specs.Sought.{Sought, answer_sought, keys_sought}
 use Rattle.answer_judge_facts.specs.Times.{Times, proof_times, times_of}
@@ -98,49 +92,11 @@ key_seconds w k m rs ks =
 abbrev pub answer_seconds : Trusting → ℕ → List ℕ → List Spelled → Name → ℕ → List ℕ
 answer_seconds w k m rs q t = seconds_of w.now k m (answer_sought k m w.apex rs q t) rs (proof_times w k m rs q t)
 
--- ---- of a verdict
+-- ---- of an answer
 
 -- what is verified of an answer
 abbrev pub answer_lasting : Trusting → ℕ → List ℕ → List Spelled → Name → ℕ → Lasting
 answer_lasting w k m rs q t = record { ttl = least_of (answer_ttls w k m rs q t); seconds = least_of (answer_seconds w k m rs q t) }
-
--- and of the keys that may sign it
-abbrev pub lasting_in_messages : Answers → ℕ → JudgeInput → Message → Message → Lasting
-lasting_in_messages a k h keys answer =
-    let ks = keys_of h keys in
-    let usable = trusting a h (filter is_usable ks) in
-    record {
-      ttl = least_of (answer_ttls usable k h.answer_bytes answer.records h.asked.name h.asked.rtype);
-      seconds = least_of (key_seconds (trusting a h (filter (is_trusted a h.apex h.ds) ks)) k h.dnskey_bytes keys.records ks
-          ++ answer_seconds usable k h.answer_bytes answer.records h.asked.name h.asked.rtype);
-    }
-
-abbrev pub lasting_in_bytes : Answers → ℕ → JudgeInput → Option Lasting
-lasting_in_bytes a k h = elim (message k h.dnskey_bytes) [
-  | Err e ↦ None
-  | Ok keys ↦ elim (message k h.answer_bytes) [ Err e ↦ None | Ok answer ↦ Some (lasting_in_messages a k h keys answer) ]
-]
-
--- beside an empty DS set nothing is verified, so nothing says how long that lasts
-abbrev pub lasting_of : Answers → ℕ → JudgeInput → Option Lasting
-lasting_of a k h = if nat_eq (length h.ds) 0 then None else lasting_in_bytes a k h
-
--- what is said of a judgement
-abbrev pub LastsSo : ℕ → Answers → JudgeInput → Result Judgement Refused → Type 0
-LastsSo k a h (Ok j) = j.lasting ≡ lasting_of a k h
-LastsSo k a h (Err e) = Unit {0}
-
--- what is handed in, at a moment in nanoseconds
-abbrev pub at_moment : ℕ → JudgeInput → JudgeInput
-at_moment at h = record h { now = second_of at }
-
--- At each moment from a judgement's up to the last second of its lasting, the same octets are judged alike, under the same answers
--- of a scheme.
-abbrev pub VerdictsLast : Type 0
-VerdictsLast =
-    (a : Answers) (k : ℕ) (h : JudgeInput) (at later : ℕ) (l : Lasting) → AreOctets h.dnskey_bytes → AreOctets h.answer_bytes
-    → lasting_of a k (at_moment at h) ≡ Some l → at ≤ later → later / 1000000000 ≤ at / 1000000000 + l.seconds
-    → judged a k (at_moment later h) ≡ judged a k (at_moment at h)
 
 -- ---- by groups
 

@@ -1,13 +1,9 @@
 pub mod Asked
 pub mod Counted
-pub mod Honest
-pub mod Judged
 pub mod Lasting
 pub mod Marked
-pub mod OneZone
 pub mod Ranked
 pub mod Sought
 pub mod Times
 pub mod Verified
 pub mod VerifiedProof
-pub mod Versions

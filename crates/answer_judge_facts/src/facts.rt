@@ -14,17 +14,17 @@ ghost use Rattle.answer_judge_facts.specs.Verified.{is_known_datum};
 ghost use Rattle.std.specs.List.Sorted.{IsPermutation, IsSortedBy};
 ghost use Rattle.std.specs.Ordering.{is_lt};
 ghost use Rattle.answer_judge_facts.specs.Marked.{held_by, data_in, facts_by, is_proved, is_chain_type, is_chain, is_record_of, has_place, holds_one, AreShort, AreGathered, link_by, hash_link_by, hash_link_of, rrset_verified};
-ghost use Rattle.answer_judge_keys.specs.KeyOrder.{Ranks};
 ghost use Rattle.answer_judge_facts.specs.declared.groups.Group.{Group};
 ghost use Rattle.answer_judge_facts.specs.Ranked.{AreRanked, AskedLast, IsRun, alike_len, are_alike, chain_cmp, run_data};
 
 use crate::groups::{Group, is_chain_type, place_of, read_group, verify_groups};
-use crate::lasting::lasting_of;
+use crate::lasting::{Lasting, lasting_of};
 use crate::times::are_unlike;
 use answer_judge_keys::check_run::CheckRun;
 use answer_judge_keys::trust::Trust;
-use answer_judge_keys::verdict::{DataList, Lasting};
+use answer_judge_rules::asked::Asked;
 use answer_judge_rules::decide::{Facts, HashLink, NsecLink, Rrset};
+use answer_judge_rules::verdict::DataList;
 use answer_scheme::checks::Checks;
 use answer_shared::owner::{hash_spelled, spells_hash};
 use messages::names::{Name, ToName, cow_name, is_at_or_above};
@@ -55,7 +55,6 @@ pub fn read_facts<'a, C: Checks>(
     rtype: Rtype,
     check_run: &mut CheckRun<C>,
 ) -> Result<Proof<'a>, AllocError>
-    requires index { Ranks trust.now.keys.now trust.now.ranked.now }
     requires room { check_run.old.count + length records.now < 2 ^ 32 }
     requires other { is_chain_type rtype ≡ false }
     ensures proves { EachAgreeing (C.answers check_run.old.checks.now)
@@ -84,7 +83,12 @@ pub fn read_facts<'a, C: Checks>(
 {
     let alloc = check_run.alloc;
     let chained = sorted_chain(alloc, records)?;
-    let mut groups = sought_groups(alloc, trust.apex, message, records, &chained, name, rtype)?;
+    let asked = Asked {
+        apex: trust.apex,
+        name,
+        rtype,
+    };
+    let mut groups = sought_groups(alloc, &asked, message, records, &chained)?;
     verify_groups(message, records, trust, &mut groups, check_run)?;
     let has_unlike_times = are_unlike(&groups);
     let lasting = lasting_of(message, records, &groups, trust.moment);
@@ -98,25 +102,23 @@ pub fn read_facts<'a, C: Checks>(
 
 /// The RRsets that a judge seeks: those of chains' records in their order, behind them the one that
 /// was asked for.
-fn sought_groups<'r>(
+pub fn sought_groups<'r>(
     alloc: Global,
-    apex: &Name<Vec<u8>>,
+    asked: &Asked<'r>,
     message: &'r [u8],
     records: &[ViewRecord],
     chained: &'r [ViewRecord],
-    name: &'r Name<Vec<u8>>,
-    rtype: Rtype,
 ) -> Result<Vec<Group<'r>>, AllocError>
     requires moved { let rs = filter is_chain (map spelled records.now) in
         IsPermutation rs (map spelled chained.now) }
     requires sorted { IsSortedBy (λ a b. is_lt (chain_cmp a b)) (map spelled chained.now) }
-    requires other { is_chain_type rtype ≡ false }
-    ensures { let rs = map spelled records.now in
-        IfOk result (λ gs. AskedLast message.now apex.now rs name.now rtype gs.items) }
+    requires other { is_chain_type asked.now.rtype ≡ false }
+    ensures { let rs = map spelled records.now in let q = asked.now in
+        IfOk result (λ gs. AskedLast message.now q.apex.now rs q.name.now q.rtype gs.items) }
 {
-    let mut groups = read_chain_groups(alloc, apex, message, chained)?;
-    let owner = cow_name(alloc, name)?;
-    groups.push(read_group(alloc, message, records, owner, rtype)?)?;
+    let mut groups = read_chain_groups(alloc, asked.apex, message, chained)?;
+    let owner = cow_name(alloc, asked.name)?;
+    groups.push(read_group(alloc, message, records, owner, asked.rtype)?)?;
     Ok(groups)
 }
 
@@ -373,7 +375,7 @@ fn is_record_of(view: &ViewRecord, rtype: Rtype) -> bool
 }
 
 /// Whether an owner has one of the groups of a type, and that is verified.
-pub(crate) fn is_verified(groups: &[Group], owner: &Owner, rtype: Rtype) -> bool
+pub fn is_verified(groups: &[Group], owner: &Owner, rtype: Rtype) -> bool
     requires ranked { AreRanked groups.now }
     ensures { result ≡ list_any (is_proved owner.now rtype) groups.now }
 {

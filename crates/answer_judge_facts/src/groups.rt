@@ -8,7 +8,6 @@ ghost use Rattle.answer_judge_facts.specs.Verified.{datum_of, rrset_in};
 ghost use Rattle.answer_judge_facts.specs.declared.groups.Group.{Group};
 ghost use Rattle.answer_judge_facts.specs.Marked.{held_by, is_of, data_in, marked, signed_of, signs_group, is_chain_type, is_tried_in, tries_in};
 ghost use Rattle.answer_judge_facts.specs.Ranked.{AreRanked, place_of, sought_cmp, type_rank};
-ghost use Rattle.answer_judge_keys.specs.KeyOrder.{Ranks};
 ghost use Rattle.messages.specs.Message.{if_true};
 ghost use Rattle.answer_judge_facts.specs.Counted.{can_try, one_if};
 ghost use Rattle.answer_judge_facts.specs.Asked.{PassesGroups, PassesOver, PassesRecord};
@@ -20,6 +19,7 @@ ghost use Rattle.definitions.specs.Zone.{sorted_data};
 ghost use Rattle.definitions.specs.Signing.{signed_octets};
 
 use answer_judge_keys::check_run::CheckRun;
+use answer_judge_keys::key_index::LINEAR_SEARCH_LIMIT;
 use answer_judge_keys::order::sort_data;
 use answer_judge_keys::trust::{GroupOwner, Signature, Trust};
 use answer_scheme::checks::Checks;
@@ -33,10 +33,6 @@ use numbers::ttl::Ttl;
 use std::alloc::{AllocError, Global};
 use std::borrow::CowSlice;
 use std::cmp::Ordering;
-
-/// The largest number of groups that are looked through one by one. Among more, a group is found by
-/// binary search.
-const FEW: usize = 8;
 
 /// What a signature says beside the RRset that it covers and the name that signs it (RFC 4034,
 /// 3.1).
@@ -170,7 +166,6 @@ pub fn verify_groups<C: Checks>(
     groups: &mut [Group],
     check_run: &mut CheckRun<C>,
 ) -> Result<(), AllocError>
-    requires index { Ranks trust.now.keys.now trust.now.ranked.now }
     requires room { check_run.old.count + length records.now < 2 ^ 32 }
     requires ranked { AreRanked groups.old }
     ensures marked { EachAgreeing (C.answers check_run.old.checks.now)
@@ -213,7 +208,6 @@ fn verify_record<C: Checks>(
     groups: &mut [Group],
     check_run: &mut CheckRun<C>,
 ) -> Result<(), AllocError>
-    requires index { Ranks trust.now.keys.now trust.now.ranked.now }
     requires room { check_run.old.count + 1 < 2 ^ 32 }
     requires signature { is_signature (spelled view.now) ≡ true }
     requires ranked { AreRanked groups.old }
@@ -265,7 +259,7 @@ pub fn place_of(groups: &[Group], owner: &Owner, rtype: Rtype) -> Option<usize>
         MatchOption result (list_any is groups.now ≡ false)
         (λ i. (g : Group) → g ≡ get_or groups.now i g → is g ≡ true) }
 {
-    if groups.len() <= FEW {
+    if groups.len() <= LINEAR_SEARCH_LIMIT {
         return first_place(groups, owner, rtype);
     }
     groups
@@ -295,7 +289,6 @@ fn verifies<C: Checks>(
     group: &Group,
     check_run: &mut CheckRun<C>,
 ) -> Result<Option<Signed>, AllocError>
-    requires index { Ranks trust.now.keys.now trust.now.ranked.now }
     requires room { check_run.old.count + 1 < 2 ^ 32 }
     ensures signs { EachAgreeing (C.answers check_run.old.checks.now)
         (C.agrees check_run.new.checks.now) (λ a. let w = held_by a trust.now in

@@ -9,7 +9,6 @@ ghost use Rattle.answer_judge_facts.specs.Asked.{Implies, is_tried_among};
 ghost use Rattle.answer_judge_facts.specs.Counted.{tries};
 ghost use Rattle.answer_scheme.specs.Answers.{EachAgreeing, SignatureTest};
 ghost use Rattle.answer_judge_keys.specs.Trusted.{is_signature};
-ghost use Rattle.answer_judge_keys.specs.KeyOrder.{Ranks};
 ghost use Rattle.answer_judge_facts.specs.Lasting.{key_seconds, least_of};
 ghost use Rattle.answer_judge_facts.specs.Marked.{held_by};
 ghost use Rattle.answer_judge_facts.specs.Sought.{keys_sought};
@@ -36,7 +35,6 @@ pub fn are_verified<C: Checks>(
     check_run: &mut CheckRun<C>,
     seconds: &mut u32,
 ) -> Result<bool, AllocError>
-    requires index { Ranks trust.now.keys.now trust.now.ranked.now }
     requires room { check_run.old.count + length records.now < 2 ^ 32 }
     ensures exact { EachAgreeing (C.answers check_run.old.checks.now)
         (C.agrees check_run.new.checks.now) (λ a. let w = held_by a trust.now in

@@ -1,6 +1,6 @@
 //! How long what signatures verify lasts: how long records may be kept (RFC 4035, 5.3.3), and for
 //! how many seconds signatures hold (RFC 4034, 3.1.5).
-ghost use Rattle.std.specs.Prelude.{◌≡◌, ◌<◌, ◌+◌, ◌&&◌, MatchOption, false, length, map};
+ghost use Rattle.std.specs.Prelude.{◌≡◌, ◌<◌, ◌+◌, ◌&&◌, MatchOption, false, length, map, ◌-◌, ◌/◌, ◌^◌, min};
 ghost use Rattle.std.specs.List.{filter_map};
 ghost use Rattle.answer_judge_facts.specs.Lasting.{held_for, idle_for, least, least_of, original_in, own_in, seconds_in, ttls_in, wait_in};
 ghost use Rattle.answer_judge_facts.specs.Marked.{times_by, times_in};
@@ -12,12 +12,37 @@ ghost use Rattle.messages.specs.Record.{spelled};
 
 use crate::facts::is_verified;
 use crate::groups::{Group, Signed, place_of};
-use answer_judge_keys::verdict::Lasting;
 use denial_data::Timestamp;
+use denial_fields::unix_time::UnixTime;
 use messages::ViewRecord;
 use names_rdata::rtype::Rtype;
 use numbers::class::Class;
 use numbers::ttl::Ttl;
+use std::time::Duration;
+
+/// How long a verdict lasts.
+#[derive(Clone, Copy, Debug, PartialEq, Eq)]
+pub struct Lasting {
+    /// The least of the TTLs of the records that the verdict rests on and of the original TTLs of
+    /// their signatures (RFC 4035, 5.3.3).
+    pub ttl: Ttl,
+    /// For how many seconds more the same messages have the same verdict: up to the end of the
+    /// signatures by which they are verified, or to the second before another one of their RRsets
+    /// begins to hold.
+    pub seconds: u32,
+}
+
+impl Lasting {
+    /// The last second since the beginning of 1970 in which the verdict stands that was given at a
+    /// moment.
+    pub fn until(&self, moment: UnixTime) -> u64
+        ensures { result ≡ min (moment / 1_000_000_000 + self.now.seconds) (2 ^ 64 - 1) }
+    {
+        Duration::from(moment)
+            .as_secs()
+            .saturating_add(u64::from(self.seconds))
+    }
+}
 
 /// Half the circle of serial numbers, in seconds.
 const HALF: u32 = 0x8000_0000;

@@ -4,8 +4,6 @@
 
 pub mod facts;
 pub mod groups;
-pub mod honest;
 pub mod key_rrset;
 pub mod lasting;
-pub mod laws;
 pub mod times;

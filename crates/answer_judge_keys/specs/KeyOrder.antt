@@ -1,5 +1,5 @@
 -- The order in which a judge searches keys.
-use Rattle.std.specs.Prelude.{◌≡◌, ◌<◌, Bool, ◌&&◌, ◌||◌, ◌==◌, List, length, nat_lt}
+use Rattle.std.specs.Prelude.{◌≡◌, Bool, ◌&&◌, ◌||◌, ◌==◌, List, nat_lt}
 use Rattle.std.specs.List.{find}
 use Rattle.std.specs.List.Sorted.{IsPermutation, IsSortedBy}
 use Rattle.std.specs.Ordering.{is_lt, nat_cmp, ordering_then}
@@ -21,7 +21,3 @@ pub record IsRanking (ks vs : List Dnskey) : Type 0 where
   pub sorted : IsSortedBy (λ a b. is_lt (key_cmp a b)) vs
   pub moved : IsPermutation ks vs
   pub found : (f : Fields) → find (fits_key f) vs ≡ find (fits_key f) ks
-
--- where there are many
-abbrev pub Ranks : List Dnskey → List Dnskey → Type 0
-Ranks ks vs = 8 < length ks → IsRanking ks vs

@@ -1,5 +1,4 @@
 pub mod Digests
-pub mod HashRefusal
-pub mod Judging
+pub mod DnskeyAnswer
 pub mod KeyOrder
 pub mod Trusted

@@ -4,16 +4,15 @@ ghost use Rattle.std.specs.List.{find, list_any};
 ghost use Rattle.std.specs.Option.{IfSome, option_map};
 ghost use Rattle.definitions.specs.Dnskey.{Dnskey as Key, dnskey_data, key_tag, same_key};
 ghost use Rattle.answer_judge_keys.specs.Trusted.{fits_key, is_usable, is_trusted};
-ghost use Rattle.answer_shared.specs.EqualTags.{clashes, has_equal_tags};
-ghost use Rattle.answer_judge_keys.specs.Judging.{key_at, keys_in};
+ghost use Rattle.answer_shared.specs.EqualTags.{clashes};
+ghost use Rattle.answer_judge_keys.specs.DnskeyAnswer.{key_at, keys_in};
 ghost use Rattle.messages.specs.Message.{data_of};
 ghost use Rattle.messages.specs.Record.{fields_read, spelled};
-ghost use Rattle.answer_judge_keys.specs.KeyOrder.{Ranks, is_before, key_cmp};
-ghost use Rattle.std.specs.List.Sorted.{IsSortedBy};
-ghost use Rattle.std.specs.Ordering.{is_lt};
+ghost use Rattle.answer_judge_keys.specs.KeyOrder.{is_before, key_cmp};
 
 use crate::check_run::CheckRun;
 use crate::digests::has_matching_ds;
+use crate::key_index::ranked_keys;
 use crate::trust::Signature;
 use answer_scheme::checks::Checks;
 use answer_shared::dnskey::{Dnskey, key_of_data};
@@ -27,10 +26,6 @@ use numbers::class::Class;
 use std::alloc::{AllocError, Global};
 use std::cmp::Ordering;
 use std::marker::Model;
-
-/// The largest number of keys that are looked through one by one. Among more, a key is found by
-/// binary search.
-const FEW: usize = 8;
 
 /// A key with the data that spell it, and its tag, which is summed once. A contract sees the key.
 #[derive(Debug, Drop)]
@@ -83,7 +78,7 @@ impl<'a> TaggedKey<'a> {
     }
 
     /// A copy of the key, over the octets of the original.
-    fn copied(&self) -> TaggedKey<'a>
+    pub(crate) fn copied(&self) -> TaggedKey<'a>
         ensures { result ≡ self.now }
     {
         let _len = self.dnskey.rdlen(false);
@@ -109,7 +104,7 @@ impl<'a> TaggedKey<'a> {
     }
 
     /// The order of keys: by tag, and then by algorithm.
-    fn key_cmp(&self, other: &TaggedKey) -> Ordering
+    pub(crate) fn key_cmp(&self, other: &TaggedKey) -> Ordering
         ensures { result ≡ key_cmp self.now other.now }
     {
         let order = self.tag.cmp(&other.tag);
@@ -121,7 +116,7 @@ impl<'a> TaggedKey<'a> {
     }
 
     /// Whether the key stands before those of a signature's tag and algorithm.
-    fn is_before(&self, signature: &Signature) -> bool
+    pub(crate) fn is_before(&self, signature: &Signature) -> bool
         ensures { result ≡ is_before (fields_read signature.now) self.now }
     {
         let tag = signature.key_tag();
@@ -130,7 +125,7 @@ impl<'a> TaggedKey<'a> {
     }
 
     /// Whether the key has a signature's tag and algorithm.
-    fn fits(&self, signature: &Signature) -> bool
+    pub(crate) fn fits(&self, signature: &Signature) -> bool
         ensures { result ≡ fits_key (fields_read signature.now) self.now }
     {
         self.tag == signature.key_tag() && self.dnskey.algorithm() == signature.algorithm()
@@ -154,7 +149,7 @@ impl<'a> TaggedKey<'a> {
     }
 
     /// Whether another key is unlike this one and has its tag.
-    fn clashes(&self, other: &TaggedKey) -> bool
+    pub(crate) fn clashes(&self, other: &TaggedKey) -> bool
         ensures { result ≡ clashes self.now other.now }
     {
         self.tag == other.tag && self.dnskey != other.dnskey
@@ -192,133 +187,6 @@ fn read_key<'a>(apex: &Name<Vec<u8>>, message: &'a [u8], view: &ViewRecord) -> O
     Some(TaggedKey::new(dnskey, data))
 }
 
-/// The keys again, by tag and algorithm; none where they are few, since these are looked through.
-pub fn ranked_keys<'a>(
-    alloc: Global,
-    keys: &[TaggedKey<'a>],
-) -> Result<Vec<TaggedKey<'a>>, AllocError>
-    ensures { IfOk result (λ v. Ranks keys.now v.items) }
-{
-    if keys.len() <= FEW {
-        return Ok(Vec::new(alloc));
-    }
-    let mut ranked = copied_keys(alloc, keys)?;
-    ranked.sort_by(|a, b| a.key_cmp(b))?;
-    Ok(ranked)
-}
-
-/// Copies of keys, over the octets of the originals.
-fn copied_keys<'a>(alloc: Global, keys: &[TaggedKey<'a>]) -> Result<Vec<TaggedKey<'a>>, AllocError>
-    ensures { IfOk result (λ v. v.items ≡ keys.now) }
-{
-    let mut copies = Vec::with_capacity(alloc, keys.len())?;
-    for key in keys {
-        copies.push(key.copied())?;
-    }
-    Ok(copies)
-}
-
-/// The first key of a signature's tag and algorithm, of keys that stand by these too where they are
-/// many.
-pub fn key_of<'k, 'a>(
-    keys: &'k [TaggedKey<'a>],
-    ranked: &'k [TaggedKey<'a>],
-    signature: &Signature,
-) -> Option<&'k TaggedKey<'a>>
-    requires { Ranks keys.now ranked.now }
-    ensures { let fits = fits_key (fields_read signature.now) in
-        option_map (λ k. k.now) result ≡ find fits keys.now }
-{
-    if keys.len() <= FEW {
-        return first_key(keys, signature);
-    }
-    searched_key(ranked, signature)
-}
-
-/// The first key that a signature names by tag and algorithm, found by looking through all.
-fn first_key<'k, 'a>(keys: &'k [TaggedKey<'a>], signature: &Signature) -> Option<&'k TaggedKey<'a>>
-    ensures { let fits = fits_key (fields_read signature.now) in
-        option_map (λ k. k.now) result ≡ find fits keys.now }
-{
-    for key in keys {
-        if key.fits(signature) {
-            return Some(key);
-        }
-    }
-    None
-}
-
-/// The key that a signature names, found by binary search among keys in order of tag and algorithm.
-fn searched_key<'k, 'a>(
-    ranked: &'k [TaggedKey<'a>],
-    signature: &Signature,
-) -> Option<&'k TaggedKey<'a>>
-    requires { IsSortedBy (λ a b. is_lt (key_cmp a b)) ranked.now }
-    ensures { let fits = fits_key (fields_read signature.now) in
-        option_map (λ k. k.now) result ≡ find fits ranked.now }
-{
-    let place = ranked.partition_point(|key| key.is_before(signature));
-    if place == ranked.len() {
-        return None;
-    }
-    let key = &ranked[place];
-    if key.fits(signature) {
-        return Some(key);
-    }
-    None
-}
-
-/// Whether two unlike keys have one tag, of keys that stand by tag too where they are many.
-pub fn has_equal_tags(keys: &[TaggedKey], ranked: &[TaggedKey]) -> bool
-    requires { Ranks keys.now ranked.now }
-    ensures { result ≡ has_equal_tags keys.now }
-{
-    if keys.len() <= FEW {
-        return are_clashing(keys);
-    }
-    has_clashing_neighbors(ranked)
-}
-
-/// Whether two unlike keys side by side have one tag: among keys by tag these are all that do.
-fn has_clashing_neighbors(ranked: &[TaggedKey]) -> bool
-    requires { IsSortedBy (λ a b. is_lt (key_cmp a b)) ranked.now }
-    ensures { result ≡ has_equal_tags ranked.now }
-{
-    let mut place = 1;
-    while place < ranked.len() {
-        let before = place - 1;
-        if ranked[before].clashes(&ranked[place]) {
-            return true;
-        }
-        place += 1;
-    }
-    false
-}
-
-/// Whether two unlike keys have one tag, each beside each.
-fn are_clashing(keys: &[TaggedKey]) -> bool
-    ensures { result ≡ has_equal_tags keys.now }
-{
-    for key in keys {
-        if clashes_with_any(key, keys) {
-            return true;
-        }
-    }
-    false
-}
-
-/// Whether a key clashes with one of a list.
-fn clashes_with_any(key: &TaggedKey, keys: &[TaggedKey]) -> bool
-    ensures { result ≡ list_any (clashes key.now) keys.now }
-{
-    for other in keys {
-        if key.clashes(other) {
-            return true;
-        }
-    }
-    false
-}
-
 /// The keys that may sign what is in the zone.
 pub fn usable_keys<'a>(keys: Vec<TaggedKey<'a>>) -> Vec<TaggedKey<'a>>
     ensures { result.items ≡ filter is_usable keys.entry.items }
@@ -339,7 +207,7 @@ pub fn trusted_keys<'a, C: Checks>(
         IfOk result (λ ks. ks.items ≡ filter (is_trusted a apex.now ds.now) keys.now) }
     ensures rest { check_run.new ≡ record check_run.old { octets = check_run.new.octets } }
 {
-    let ranked = ranked_keys(check_run.alloc, keys)?;
+    let ranked = ranked_keys(check_run.alloc, keys)?.unwrap_or(Vec::new(check_run.alloc));
     let named = are_named(apex, ds, &ranked, check_run)?;
     let mut trusted = Vec::new(check_run.alloc);
     for key in keys {

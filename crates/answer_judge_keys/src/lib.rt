@@ -1,9 +1,9 @@
-//! The keys that a DS set trusts, the signatures that count, and what a judge says.
+//! The keys that a DS set trusts, and the signatures that count.
 #![tactic(auto)]
 
 pub mod check_run;
 mod digests;
+pub mod key_index;
 pub mod keys;
 pub mod order;
 pub mod trust;
-pub mod verdict;

@@ -5,9 +5,9 @@ ghost use Rattle.std.specs.Option.{option_map};
 ghost use Rattle.definitions.specs.Signing.{in_time};
 ghost use Rattle.messages.specs.Record.{fields_read};
 ghost use Rattle.answer_judge_keys.specs.Trusted.{fits_key, is_due, labels_fit, may_expand};
-ghost use Rattle.answer_judge_keys.specs.KeyOrder.{Ranks};
 
-use crate::keys::{TaggedKey, key_of};
+use crate::key_index::KeyIndex;
+use crate::keys::TaggedKey;
 use denial_data::{Rrsig, Timestamp};
 use messages::names::{Name, ParsedName, ToName, ZoneName};
 use names_rdata::rtype::Rtype;
@@ -20,18 +20,17 @@ pub type GroupOwner<'a> = Name<CowSlice<'a, u8>>;
 pub type Signature<'a> = Rrsig<&'a [u8], ParsedName<'a>>;
 
 /// What signatures are held against: the apex and how many labels it has, the keys that may sign,
-/// as they stand and where they are many by tag too, and the moment.
+/// and the moment.
 #[derive(Drop)]
-pub struct Trust<'a> {
+pub struct Trust<'a, 'k> {
     pub apex: &'a Name<Vec<u8>>,
     pub depth: usize,
-    pub keys: &'a [TaggedKey<'a>],
-    pub ranked: &'a [TaggedKey<'a>],
+    pub keys: &'a KeyIndex<'k>,
     pub moment: u32,
     ghost counted: { depth ≡ length apex.now },
 }
 
-impl<'a> Trust<'a> {
+impl<'a, 'k> Trust<'a, 'k> {
     /// Whether a signature is the apex's, holds at the moment, and has a label count that fits an
     /// owner (RFC 4035, 5.3.1).
     ///
@@ -63,12 +62,11 @@ impl<'a> Trust<'a> {
     }
 
     /// The key of a signature's tag and algorithm.
-    pub fn key(&self, signature: &Signature) -> Option<&TaggedKey<'a>>
-        requires { Ranks self.now.keys.now self.now.ranked.now }
+    pub fn key(&self, signature: &Signature) -> Option<&TaggedKey<'k>>
         ensures { let fits = fits_key (fields_read signature.now) in
             option_map (λ k. k.now) result ≡ find fits self.now.keys.now }
     {
-        key_of(self.keys, self.ranked, signature)
+        self.keys.key(signature)
     }
 }
 

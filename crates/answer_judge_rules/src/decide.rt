@@ -8,6 +8,7 @@ ghost use Rattle.answer_judge_rules.specs.Hashing.{by_hashes, by_names, fails_as
 ghost use Rattle.answer_judge_rules.specs.Rules.{verdict_of};
 ghost use Rattle.answer_scheme.specs.Answers.{NoneVerified};
 
+use crate::asked::Asked;
 use crate::expanded::expanded;
 pub use crate::facts::{Facts, HashLink, NsecLink, Rrset};
 use crate::hashed::{HashChain, hash_denied, hash_expanded};
@@ -16,7 +17,6 @@ use crate::verdict::Verdict;
 use answer_scheme::checks::Checks;
 use denial_nsec3_hash::hasher::HashError;
 use messages::names::{Name, ZoneName, is_at_or_above};
-use names_rdata::rtype::Rtype;
 use std::alloc::{AllocError, Global};
 
 /// The verdict on a name and a type that verified facts prove; None where they prove none.
@@ -28,58 +28,55 @@ use std::alloc::{AllocError, Global};
 /// `hashes` becomes how many were hashed, whatever comes of it.
 pub fn decide<C: Checks>(
     alloc: Global,
-    apex: &Name<Vec<u8>>,
+    asked: &Asked,
     facts: Facts,
-    name: &Name<Vec<u8>>,
-    rtype: Rtype,
     checks: &mut C,
     hashes: &mut u32,
 ) -> Result<Option<Verdict>, HashError>
     ensures verdict { let hash = (C.answers checks.old).hash in let f = facts.entry in
-        IfOk result (λ v. option_map verdict_of v
-        ≡ decided apex.now (hash_among hash f.hash_links) f name.now rtype) }
+        let q = asked.now in let hashes = hash_among hash f.hash_links in IfOk result
+        (λ v. option_map verdict_of v ≡ decided q.apex.now hashes f q.name.now q.rtype) }
     ensures hashed { let hash = (C.answers checks.old).hash in let f = facts.entry in
-        let fails = fails_among hash f.hash_links in
-        OnOk result (list_any fails (hashed_for hash apex.now f name.now) ≡ false) }
+        let names = hashed_for hash asked.now.apex.now f asked.now.name.now in
+        OnOk result (list_any (fails_among hash f.hash_links) names ≡ false) }
     ensures failed { let hash = (C.answers checks.old).hash in let f = facts.entry in
-        let fails = fails_among hash f.hash_links in
+        let names = hashed_for hash asked.now.apex.now f asked.now.name.now in
         IsErrOf result HashError.Failed
-        → list_any fails (hashed_for hash apex.now f name.now) ≡ true }
-    ensures counted { let hash = (C.answers checks.old).hash in let f = facts.entry in
-        let names = hashed_for hash apex.now f name.now in
+        → list_any (fails_among hash f.hash_links) names ≡ true }
+    ensures counted { let hash = (C.answers checks.old).hash in
+        let names = hashed_for hash asked.now.apex.now facts.entry asked.now.name.now in
         IsErrOf result HashError.Memory
         ⊎ (C.hashed checks.new ≡ C.hashed checks.old + length names) }
-    ensures most { let hash = (C.answers checks.old).hash in let f = facts.entry in
-        let names = hashed_for hash apex.now f name.now in
+    ensures most { let hash = (C.answers checks.old).hash in
+        let names = hashed_for hash asked.now.apex.now facts.entry asked.now.name.now in
         C.hashed checks.new ≤ C.hashed checks.old + length names }
     ensures least { C.hashed checks.old ≤ C.hashed checks.new }
-    ensures few { C.hashed checks.new ≤ C.hashed checks.old + length name.now + 2 }
+    ensures few { C.hashed checks.new ≤ C.hashed checks.old + length asked.now.name.now + 2 }
     ensures told { C.hashed checks.new ≡ C.hashed checks.old + hashes.new }
     ensures others { C.verified checks.new ≡ C.verified checks.old }
     ensures none { NoneVerified C.agrees C.asked_only checks.old checks.new }
     ensures same { C.answers checks.new ≡ C.answers checks.old }
 {
-    name.keeps();
+    asked.name.keeps();
     *hashes = 0;
-    by_rules(alloc, apex, facts, name, rtype, checks, hashes)
+    by_rules(alloc, asked, facts, checks, hashes)
 }
 
 /// The verdict by the rules alone, which say nothing of names outside the zone.
 fn by_rules<C: Checks>(
     alloc: Global,
-    apex: &Name<Vec<u8>>,
+    asked: &Asked,
     facts: Facts,
-    name: &Name<Vec<u8>>,
-    rtype: Rtype,
     checks: &mut C,
     count: &mut u32,
 ) -> Result<Option<Verdict>, HashError>
-    requires room { count.old + length name.now + 2 < 2 ^ 32 }
-    ensures verdict { let f = facts.entry in
-        let hash = hash_among (C.answers checks.old).hash f.hash_links in
-        IfOk result (λ v. option_map verdict_of v ≡ decided apex.now hash f name.now rtype) }
+    requires room { count.old + length asked.now.name.now + 2 < 2 ^ 32 }
+    ensures verdict { let f = facts.entry in let q = asked.now in
+        let hash = hash_among (C.answers checks.old).hash f.hash_links in IfOk result
+        (λ v. option_map verdict_of v ≡ decided q.apex.now hash f q.name.now q.rtype) }
     ensures hashes { let f = facts.entry in let answers = (C.answers checks.old).hash in
-        let names = hashed apex.now (hash_among answers f.hash_links) f name.now in
+        let q = asked.now in let hash = hash_among answers f.hash_links in
+        let names = hashed q.apex.now hash f q.name.now in
         let fails = fails_among answers f.hash_links in
         HashesInTurn fails names (C.hashed checks.old) (C.hashed checks.new) result }
     ensures alike { C.hashed checks.new + count.old ≡ C.hashed checks.old + count.new }
@@ -87,7 +84,7 @@ fn by_rules<C: Checks>(
     ensures none { NoneVerified C.agrees C.asked_only checks.old checks.new }
     ensures same { C.answers checks.new ≡ C.answers checks.old }
 {
-    if !is_at_or_above(apex, name) {
+    if !is_at_or_above(asked.apex, asked.name) {
         return Ok(None);
     }
     let Facts {
@@ -96,35 +93,33 @@ fn by_rules<C: Checks>(
         hash_links,
     } = facts;
     let Some((first, _)) = hash_links.split_first() else {
-        return Ok(by_links(alloc, apex, rrset, &links, name, rtype)?);
+        return Ok(by_links(alloc, asked, rrset, &links)?);
     };
     let chain = HashChain {
         alloc,
-        apex,
+        apex: asked.apex,
         first,
         links: &hash_links,
-        rtype,
+        rtype: asked.rtype,
     };
-    by_hash_links(&chain, checks, count, rrset, name)
+    by_hash_links(&chain, checks, count, rrset, asked.name)
 }
 
 /// The verdict by links of names alone.
 fn by_links(
     alloc: Global,
-    apex: &Name<Vec<u8>>,
+    asked: &Asked,
     rrset: Option<Rrset>,
     links: &[NsecLink],
-    name: &Name<Vec<u8>>,
-    rtype: Rtype,
 ) -> Result<Option<Verdict>, AllocError>
-    ensures { IfOk result (λ v. option_map verdict_of v
-        ≡ by_names apex.now rrset links.now name.now rtype) }
+    ensures { let q = asked.now in IfOk result (λ v. option_map verdict_of v
+        ≡ by_names q.apex.now rrset links.now q.name.now q.rtype) }
 {
     match rrset {
-        None => denied(alloc, apex, links, name, rtype),
+        None => denied(alloc, asked, links),
         Some(rrset) => {
-            if rrset.is_expanded(name) {
-                Ok(expanded(apex, links, rrset, name))
+            if rrset.is_expanded(asked.name) {
+                Ok(expanded(asked.apex, links, rrset, asked.name))
             } else {
                 Ok(Some(Verdict::Records(rrset.items)))
             }

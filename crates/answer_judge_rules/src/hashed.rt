@@ -56,7 +56,7 @@ fn at_wildcard<C: Checks>(
     ensures none { NoneVerified C.agrees C.asked_only checks.old checks.new }
     ensures same { C.answers checks.new ≡ C.answers checks.old }
 {
-    let star = hash_wildcard(chain.alloc, chain.first, checks, count, octets, encloser)?;
+    let star = hash_wildcard(chain, checks, count, octets, encloser)?;
     Ok(first_star_at(chain.links, &star, chain.rtype))
 }
 
@@ -173,7 +173,7 @@ fn climbed<C: Checks>(
     let Some(parent) = below.name.parent() else {
         return Ok(None);
     };
-    let parent = hash_name(chain.alloc, chain.first, checks, count, octets, parent)?;
+    let parent = hash_name(chain, checks, count, octets, parent)?;
     if is_matched(chain.links, &parent.hash) {
         return from_encloser(chain, checks, count, octets, below, &parent);
     }
@@ -205,14 +205,7 @@ pub(crate) fn hash_denied<C: Checks>(
     ensures none { NoneVerified C.agrees C.asked_only checks.old checks.new }
     ensures same { C.answers checks.new ≡ C.answers checks.old }
 {
-    let name = hash_name(
-        chain.alloc,
-        chain.first,
-        checks,
-        count,
-        octets,
-        name.for_ref(),
-    )?;
+    let name = hash_name(chain, checks, count, octets, name.for_ref())?;
     if is_matched(chain.links, &name.hash) {
         let verdict = first_at_hash(chain.apex, chain.links, &name.name, &name.hash, chain.rtype);
         return Ok(verdict);
@@ -257,14 +250,6 @@ pub(crate) fn hash_expanded<C: Checks>(
     ensures same { C.answers checks.new ≡ C.answers checks.old }
 {
     let skipped = name.depth().saturating_sub(usize::from(rrset.labels) + 1);
-    let hash = hash_behind(
-        chain.alloc,
-        chain.first,
-        checks,
-        count,
-        octets,
-        name,
-        skipped,
-    )?;
+    let hash = hash_behind(chain, checks, count, octets, name, skipped)?;
     Ok(expanded_at(chain.links, rrset, &hash))
 }

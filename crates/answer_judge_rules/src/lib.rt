@@ -2,6 +2,7 @@
 //! alone (RFC 4035, 5.3.4 and 5.4; RFC 5155, 8). No message, no signature and no key is seen here.
 #![tactic(auto)]
 
+pub mod asked;
 pub mod decide;
 mod expanded;
 pub mod facts;

@@ -6,6 +6,7 @@ ghost use Rattle.denial_laws.specs.NsecRules.{first_some, at_owner, below_cut, r
 ghost use Rattle.answer_judge_rules.specs.Enclosers.{told_of_star, IsUntold};
 ghost use Rattle.answer_judge_rules.specs.Rules.{verdict_of};
 
+use crate::asked::Asked;
 use crate::facts::NsecLink;
 use crate::shared::shared_labels;
 use crate::types::{at_name, is_cut, star_lacks};
@@ -42,11 +43,12 @@ impl<'a> NsecLink<'a> {
     ///
     /// A record at another name says nothing of this one: replayed, it would deny what that name
     /// lacks (RFC 4035, 5.4).
-    fn at_owner(&self, apex: &Name<Vec<u8>>, name: &Name<Vec<u8>>, rtype: Rtype) -> Option<Verdict>
-        ensures { option_map verdict_of result ≡ at_owner apex.now name.now rtype self.now }
+    fn at_owner(&self, asked: &Asked) -> Option<Verdict>
+        ensures { let q = asked.now in
+            option_map verdict_of result ≡ at_owner q.apex.now q.name.now q.rtype self.now }
     {
-        if self.owner.name_eq(name) {
-            at_name(self.types(), apex, name, rtype)
+        if self.owner.name_eq(asked.name) {
+            at_name(self.types(), asked.apex, asked.name, asked.rtype)
         } else {
             None
         }
@@ -133,17 +135,15 @@ impl<'a> NsecLink<'a> {
     fn told_of_wildcard(
         &self,
         alloc: Global,
-        apex: &Name<Vec<u8>>,
+        asked: &Asked,
         links: &[NsecLink],
-        name: &Name<Vec<u8>>,
-        rtype: Rtype,
     ) -> Result<Option<Verdict>, AllocError>
-        ensures { IfOk result (λ v. option_map verdict_of v
-            ≡ told_of_star apex.now rtype links.now (closest self.now name.now)) }
+        ensures { let q = asked.now in IfOk result (λ v. option_map verdict_of v
+            ≡ told_of_star q.apex.now q.rtype links.now (closest self.now q.name.now)) }
     {
-        match self.wildcard(alloc, name)? {
+        match self.wildcard(alloc, asked.name)? {
             None => Ok(None),
-            Some(star) => Ok(first_at_star(apex, links, &star, rtype)),
+            Some(star) => Ok(first_at_star(asked.apex, links, &star, asked.rtype)),
         }
     }
 
@@ -157,29 +157,29 @@ impl<'a> NsecLink<'a> {
     fn covered(
         &self,
         alloc: Global,
-        apex: &Name<Vec<u8>>,
+        asked: &Asked,
         links: &[NsecLink],
-        name: &Name<Vec<u8>>,
-        rtype: Rtype,
         sought: &mut Option<usize>,
     ) -> Result<Option<Verdict>, AllocError>
-        requires { IfSome sought.old (IsUntold apex.now name.now rtype links.now) }
-        ensures verdict { IfOk result
-            (λ v. option_map verdict_of v ≡ covered apex.now name.now rtype links.now self.now) }
-        ensures sought { IfSome sought.new (IsUntold apex.now name.now rtype links.now) }
+        requires { let q = asked.now in
+            IfSome sought.old (IsUntold q.apex.now q.name.now q.rtype links.now) }
+        ensures verdict { let q = asked.now in IfOk result (λ v. option_map verdict_of v
+            ≡ covered q.apex.now q.name.now q.rtype links.now self.now) }
+        ensures sought { let q = asked.now in
+            IfSome sought.new (IsUntold q.apex.now q.name.now q.rtype links.now) }
     {
-        if !self.covers(apex, name) {
+        if !self.covers(asked.apex, asked.name) {
             return Ok(None);
         }
-        if is_above(name, self.next()) {
+        if is_above(asked.name, self.next()) {
             return Ok(Some(Verdict::NoType));
         }
-        let encloser = self.encloser_labels(name);
+        let encloser = self.encloser_labels(asked.name);
         let was_sought = encloser == *sought;
         if was_sought {
             return Ok(None);
         }
-        let told = self.told_of_wildcard(alloc, apex, links, name, rtype)?;
+        let told = self.told_of_wildcard(alloc, asked, links)?;
         if told.is_none() {
             *sought = encloser;
         }
@@ -206,17 +206,12 @@ fn first_at_star(
 }
 
 /// What the first link that tells of its own name says of it.
-fn first_at_owner(
-    apex: &Name<Vec<u8>>,
-    links: &[NsecLink],
-    name: &Name<Vec<u8>>,
-    rtype: Rtype,
-) -> Option<Verdict>
-    ensures { option_map verdict_of result
-        ≡ first_some (at_owner apex.now name.now rtype) links.now }
+fn first_at_owner(asked: &Asked, links: &[NsecLink]) -> Option<Verdict>
+    ensures { let q = asked.now in option_map verdict_of result
+        ≡ first_some (at_owner q.apex.now q.name.now q.rtype) links.now }
 {
     for link in links {
-        if let Some(verdict) = link.at_owner(apex, name, rtype) {
+        if let Some(verdict) = link.at_owner(asked) {
             return Some(verdict);
         }
     }
@@ -245,17 +240,15 @@ fn first_below_cut(
 /// covers the wildcard under each ancestor with more.
 fn first_covered(
     alloc: Global,
-    apex: &Name<Vec<u8>>,
+    asked: &Asked,
     links: &[NsecLink],
-    name: &Name<Vec<u8>>,
-    rtype: Rtype,
 ) -> Result<Option<Verdict>, AllocError>
-    ensures { IfOk result (λ v. option_map verdict_of v
-        ≡ first_some (covered apex.now name.now rtype links.now) links.now) }
+    ensures { let q = asked.now in IfOk result (λ v. option_map verdict_of v
+        ≡ first_some (covered q.apex.now q.name.now q.rtype links.now) links.now) }
 {
     let mut sought = None;
     for link in links {
-        if let Some(verdict) = link.covered(alloc, apex, links, name, rtype, &mut sought)? {
+        if let Some(verdict) = link.covered(alloc, asked, links, &mut sought)? {
             return Ok(Some(verdict));
         }
     }
@@ -266,19 +259,17 @@ fn first_covered(
 /// rule is.
 pub(crate) fn denied(
     alloc: Global,
-    apex: &Name<Vec<u8>>,
+    asked: &Asked,
     links: &[NsecLink],
-    name: &Name<Vec<u8>>,
-    rtype: Rtype,
 ) -> Result<Option<Verdict>, AllocError>
-    ensures { IfOk result
-        (λ v. option_map verdict_of v ≡ denied apex.now name.now rtype links.now) }
+    ensures { let q = asked.now in IfOk result
+        (λ v. option_map verdict_of v ≡ denied q.apex.now q.name.now q.rtype links.now) }
 {
-    if let Some(verdict) = first_at_owner(apex, links, name, rtype) {
+    if let Some(verdict) = first_at_owner(asked, links) {
         return Ok(Some(verdict));
     }
-    if let Some(verdict) = first_below_cut(apex, links, name) {
+    if let Some(verdict) = first_below_cut(asked.apex, links, asked.name) {
         return Ok(Some(verdict));
     }
-    first_covered(alloc, apex, links, name, rtype)
+    first_covered(alloc, asked, links)
 }

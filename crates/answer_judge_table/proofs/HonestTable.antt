@@ -4,10 +4,10 @@ use Rattle.std.specs.List.{AllByRecursion}
 use Rattle.definitions.specs.Dnskey.{Dnskey}
 use Rattle.definitions.specs.Name.{Name}
 use Rattle.messages.specs.Message.{Message, Spelled}
-use Rattle.answer_judge_facts.specs.Honest.{AnswersHonest, HasSignature, IsHonest, IsSignedOfVersion, IsVersion, SignedOfKeys, Settled, SignedOfVersion, Signing, WasSigned, over, sought_of_answer}
-use Rattle.answer_judge_facts.specs.Versions.{Version}
+use Rattle.answer_judge.specs.Honest.{AnswersHonest, HasSignature, IsHonest, IsSignedOfVersion, IsVersion, SignedOfKeys, Settled, SignedOfVersion, Signing, WasSigned, over, sought_of_answer}
+use Rattle.answer_judge.specs.Versions.{Version}
 use Rattle.answer_judge_facts.specs.Sought.{Sought}
-use Rattle.answer_judge_keys.specs.Judging.{Answer, JudgeInput}
+use Rattle.answer_judge.specs.Judging.{Answer, JudgeInput}
 use Rattle.answer_judge_table.specs.Table.{AreTrue, Tried, answers_with, tried}
 
 module _ (fewer passes : Tried → Bool) (true_are : AreTrue fewer passes) (k : ℕ) (h : JudgeInput) where

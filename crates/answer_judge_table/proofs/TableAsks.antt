@@ -5,12 +5,12 @@ use Rattle.std.specs.List.{AllByRecursion}
 use Rattle.std.proofs.lemmas.Bool.{false≢true}
 use Rattle.definitions.specs.Limits.{pointer_limit}
 use Rattle.answer_scheme.specs.Answers.{Answers, SignatureTest, with_test}
-use Rattle.answer_judge_facts.specs.Asked.{is_tried_signature}
-use Rattle.answer_judge_facts.specs.Counted.{Counts}
-use Rattle.answer_judge_facts.specs.Lasting.{LastsSo}
-use Rattle.answer_judge_keys.specs.Judging.{Answer, JudgeInput, answer_of, verification_bound}
-use Rattle.answer_judge_keys.specs.declared.verdict.Judgement.{Judgement}
-use Rattle.answer_judge_keys.specs.declared.verdict.Refused.{Refused}
+use Rattle.answer_judge.specs.Tried.{is_tried_signature}
+use Rattle.answer_judge.specs.Due.{Counts}
+use Rattle.answer_judge.specs.Lasts.{LastsSo}
+use Rattle.answer_judge.specs.Judging.{Answer, JudgeInput, answer_of, verification_bound}
+use Rattle.answer_judge.specs.declared.verdict.Judgement.{Judgement}
+use Rattle.answer_judge.specs.declared.verdict.Refused.{Refused}
 use Rattle.answer_judge.specs.Decided.{HashesDecided, IsDecided, is_out_of_memory}
 use Rattle.answer_judge.specs.Meeting.{IsJudgement, JudgesSo}
 use Rattle.answer_judge_table.specs.Asking.{AgreesAsking, AreAll, AreAsked, AreWanted, PassesEach, are_new, due_by, is_cut_short}

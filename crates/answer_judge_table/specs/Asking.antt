@@ -3,9 +3,9 @@ use Rattle.std.specs.Prelude.{◌≡◌, ℕ, ◌<◌, ◌≤◌, ◌==◌, Bool
 use Rattle.std.specs.List.{AllByRecursion}
 use Rattle.definitions.specs.Limits.{pointer_limit}
 use Rattle.answer_scheme.specs.Answers.{SignatureTest}
-use Rattle.answer_judge_facts.specs.Asked.{is_tried_signature}
-use Rattle.answer_judge_facts.specs.Counted.{verifications_due}
-use Rattle.answer_judge_keys.specs.Judging.{Answer, JudgeInput, verification_bound}
+use Rattle.answer_judge.specs.Tried.{is_tried_signature}
+use Rattle.answer_judge.specs.Due.{verifications_due}
+use Rattle.answer_judge.specs.Judging.{Answer, JudgeInput, verification_bound}
 use Rattle.answer_judge.specs.Decided.{is_out_of_memory}
 use Rattle.answer_judge.specs.Meeting.{IsJudgement}
 use Rattle.answer_judge_table.specs.Table.{AgreesWith, Checked, Tried, answers_with, checked, may_pass_in, passes_by, told}

@@ -1,12 +1,12 @@
 -- What an outcome is.
 use Rattle.std.specs.Prelude.{◌≡◌, ◌≤◌, ◌+◌, ℕ, Bool, List, Result}
 use Rattle.definitions.specs.Limits.{pointer_limit}
-use Rattle.answer_judge_keys.specs.Judging.{JudgeInput, answer_of, hashes_of}
-use Rattle.answer_judge_keys.specs.declared.verdict.Judgement.{Judgement}
-use Rattle.answer_judge_keys.specs.declared.verdict.Refused.{Refused}
-use Rattle.answer_judge_facts.specs.Honest.{AnswersHonest}
+use Rattle.answer_judge.specs.Judging.{JudgeInput, answer_of, hashes_of}
+use Rattle.answer_judge.specs.declared.verdict.Judgement.{Judgement}
+use Rattle.answer_judge.specs.declared.verdict.Refused.{Refused}
+use Rattle.answer_judge.specs.Honest.{AnswersHonest}
 use Rattle.answer_judge.specs.Meeting.{JudgesSo}
-use Rattle.answer_judge_facts.specs.Lasting.{LastsSo}
+use Rattle.answer_judge.specs.Lasts.{LastsSo}
 use Rattle.answer_judge_table.specs.declared.outcome.Outcome.{Outcome}
 use Rattle.answer_judge_table.specs.declared.outcome.Outcome.TheVariants as o
 use Rattle.answer_judge_table.specs.Asking.{AreAsked}

@@ -1,6 +1,6 @@
 //! Judging by a table.
 ghost use Rattle.std.specs.Prelude.{◌≡◌, ◌<◌, IfOk, true, false};
-ghost use Rattle.answer_judge_keys.specs.Judging.{answer_of, hashes_of};
+ghost use Rattle.answer_judge.specs.Judging.{answer_of, hashes_of};
 ghost use Rattle.answer_judge.specs.Decided.{is_out_of_memory};
 ghost use Rattle.answer_judge_table.specs.Asking.{AreWanted, is_cut_short};
 ghost use Rattle.answer_judge_table.specs.Outcomes.{CountsHashes, IsOutcome};

@@ -22,13 +22,13 @@ use Rattle.answer_events.specs.declared.event.Act.{Act}
 use Rattle.answer_events.specs.declared.event.Act.TheVariants as act
 use Rattle.answer_events.specs.Calls.{call_of}
 use Rattle.answer_scheme.specs.Moments.{second_of}
-use Rattle.answer_judge_facts.specs.Versions.{Version}
-use Rattle.answer_judge_facts.specs.Honest.{FewIterations, IsVersion, Settled, Signing}
+use Rattle.answer_judge.specs.Versions.{Version}
+use Rattle.answer_judge.specs.Honest.{FewIterations, IsVersion, Settled, Signing}
 use Rattle.answer_judge.specs.Meeting.{IsJudgement}
 use Rattle.answer_judge.specs.OwnMessages.{signing_of}
-use Rattle.answer_judge_keys.specs.Judging.{JudgeInput, answer_of, hashes_of, verifications_of}
-use Rattle.answer_judge_keys.specs.declared.verdict.Judgement.{Judgement}
-use Rattle.answer_judge_keys.specs.declared.verdict.Refused.{Refused}
+use Rattle.answer_judge.specs.Judging.{JudgeInput, answer_of, hashes_of, verifications_of}
+use Rattle.answer_judge.specs.declared.verdict.Judgement.{Judgement}
+use Rattle.answer_judge.specs.declared.verdict.Refused.{Refused}
 use Rattle.answer_judge.proofs.GivenFacts.{fitting}
 use Rattle.answer_judge.proofs.GivenLists.{contained_has, has_contained, has_left, has_right}
 use Rattle.answer_judge.proofs.GivenRrset.{all_joined}

@@ -11,8 +11,8 @@ use Rattle.answer_events.specs.declared.event.Act.{Act}
 use Rattle.answer_events.specs.declared.event.Act.TheVariants as act
 use Rattle.answer_outcomes.specs.declared.outcome.Outcome.{Outcome}
 use Rattle.answer_outcomes.specs.declared.outcome.Outcome.TheVariants as outcome
-use Rattle.answer_judge_keys.specs.declared.verdict.Judgement.{Judgement}
-use Rattle.answer_judge_keys.specs.declared.verdict.Refused.{Refused}
+use Rattle.answer_judge.specs.declared.verdict.Judgement.{Judgement}
+use Rattle.answer_judge.specs.declared.verdict.Refused.{Refused}
 use Rattle.keyset_rolls.specs.declared.rolls.Action.{Action}
 use Rattle.std.specs.List.{AllByRecursion}
 use Rattle.definitions.specs.Name.{IsName, Name}
@@ -27,9 +27,9 @@ use Rattle.answer_shared.specs.Served.{keys_ttl}
 use Rattle.answer_shared.specs.ZoneView.{AcceptedZone}
 use Rattle.answer_publisher_keys.specs.Bindings as bindings
 use Rattle.answer_publisher_keys.specs.Bindings.{ZoneKeys, apply, ds_set, set_call}
-use Rattle.answer_judge_keys.specs.Judging.{Says, answer_of, hashes_of, verifications_of}
+use Rattle.answer_judge.specs.Judging.{Says, answer_of, hashes_of, verifications_of}
 use Rattle.answer_shared.specs.Asking.{is_allowed}
-use Rattle.answer_judge_facts.specs.Judged.{AnswersAs}
+use Rattle.answer_judge.specs.Judged.{AnswersAs}
 use Rattle.answer_judge.specs.Meeting.{IsJudgement, holds}
 use Rattle.messages.specs.Message.{Asked}
 use Rattle.answer_laws.specs.OneState.{Moment, VerdictAt, moment, moments_with}

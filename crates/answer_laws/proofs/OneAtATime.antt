@@ -8,7 +8,7 @@ use Rattle.messages.proofs.Lists.{Has, all_at, all_more}
 use Rattle.answer_events.specs.declared.event.Act.{Act}
 use Rattle.answer_events.specs.declared.event.Act.TheVariants as act
 use Rattle.answer_scheme.specs.Moments.{second_of}
-use Rattle.answer_judge_facts.specs.Honest.{OneAtATime, Signing}
+use Rattle.answer_judge.specs.Honest.{OneAtATime, Signing}
 use Rattle.answer_judge.specs.OwnMessages.{signing_of}
 use Rattle.answer_judge_facts.specs.Times.{Times}
 use Rattle.answer_judge.proofs.GivenLists.{contained_has, has_contained, has_left, has_right}

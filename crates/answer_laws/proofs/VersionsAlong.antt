@@ -9,10 +9,10 @@ use Rattle.answer_shared.specs.ZoneView.{AcceptedZone}
 use Rattle.answer_events.specs.declared.event.Act.{Act}
 use Rattle.answer_events.specs.declared.event.Act.TheVariants as act
 use Rattle.answer_events.specs.declared.event.Event.{Event}
-use Rattle.answer_judge_facts.specs.Honest.{SaysOneOf, Signing}
-use Rattle.answer_judge_facts.proofs.OneZone.{at_most}
+use Rattle.answer_judge.specs.Honest.{SaysOneOf, Signing}
+use Rattle.answer_judge.proofs.OneZone.{at_most}
 use Rattle.answer_judge.proofs.GivenLists.{contained_has}
-use Rattle.answer_judge_keys.specs.Judging.{Answer}
+use Rattle.answer_judge.specs.Judging.{Answer}
 use Rattle.answer_publisher.specs.World.{World}
 use Rattle.answer_publisher_keys.specs.Bindings.{ZoneKeys}
 use Rattle.answer_outcomes.specs.declared.outcome.Outcome.{Outcome}

@@ -13,11 +13,11 @@ use Rattle.answer_events.specs.declared.event.Event.{Event}
 use Rattle.answer_events.specs.declared.event.Act.{Act}
 use Rattle.answer_events.specs.declared.event.Act.TheVariants as act
 use Rattle.answer_scheme.specs.Moments.{second_of}
-use Rattle.answer_judge_facts.specs.Honest.{IsHonest, NoStranger, SaysAtMost, Signing, WasSigned, sought_of_answer, sought_of_keys}
-use Rattle.answer_judge_facts.specs.Versions.{Version}
+use Rattle.answer_judge.specs.Honest.{IsHonest, NoStranger, SaysAtMost, Signing, WasSigned, sought_of_answer, sought_of_keys}
+use Rattle.answer_judge.specs.Versions.{Version}
 use Rattle.answer_judge.specs.OwnMessages.{signing_of}
 use Rattle.answer_judge_facts.specs.Sought.{Sought}
-use Rattle.answer_judge_keys.specs.Judging.{Answer, JudgeInput, answer_of}
+use Rattle.answer_judge.specs.Judging.{Answer, JudgeInput, answer_of}
 use Rattle.answer_publisher_keys.specs.Bindings.{ZoneKeys, dnskeys, published}
 use Rattle.answer_publisher_keys.specs.declared.keys.Publication.TheVariants as publication
 use Rattle.answer_publisher.specs.World.{World, present_keys}

@@ -12,8 +12,8 @@ use Rattle.messages.specs.HandedRr.{HandedRr}
 use Rattle.answer_shared.specs.Accepting.{zone_of}
 use Rattle.answer_shared.specs.Hashing.{HashesHold}
 use Rattle.answer_publisher_keys.specs.Bindings.{ZoneKeys, dnskeys, published}
-use Rattle.answer_judge_facts.specs.Judged.{AnswersAs}
-use Rattle.answer_judge_keys.specs.Judging.{Says, answer_of}
+use Rattle.answer_judge.specs.Judged.{AnswersAs}
+use Rattle.answer_judge.specs.Judging.{Says, answer_of}
 use Rattle.answer_judge.specs.Meeting.{Meet, holds}
 use Rattle.messages.specs.Message.{Asked}
 use Rattle.messages.specs.Questions.{asked_of}

@@ -24,7 +24,7 @@ use Rattle.answer_publisher.specs.Replacing.{RefusesReplacement, is_too_soon, no
 use Rattle.answer_publisher.specs.World.{World, AnswersKeysQuestion, AnswersQuestion, HashesNames, RefusesKeysQuestion, RefusesQuestion, SpellsAnswer, SpellsKeys}
 use Rattle.answer_judge.specs.Meeting.{IsJudgement}
 use Rattle.messages.specs.WrittenLaws.{IsQuestion}
-use Rattle.answer_judge_keys.specs.Judging.{JudgeInput, answer_of, handed, verifications_of, hashes_of}
+use Rattle.answer_judge.specs.Judging.{JudgeInput, answer_of, handed, verifications_of, hashes_of}
 use Rattle.answer_shared.specs.Accepted.{IsAccepted}
 use Rattle.answer_shared.specs.Accepting.{sorted_records}
 use Rattle.answer_shared.specs.Asking.{is_allowed}

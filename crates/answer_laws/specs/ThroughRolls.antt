@@ -22,8 +22,8 @@ use Rattle.keyset_laws.specs.Meeting.{algorithm_first, by_then}
 use Rattle.keyset_laws.specs.Sides.{is_empty}
 use Rattle.answer_shared.specs.Accepting.{zone_of}
 use Rattle.answer_shared.specs.Hashing.{HashesHold}
-use Rattle.answer_judge_facts.specs.Judged.{AnswersAs}
-use Rattle.answer_judge_keys.specs.Judging.{Says, answer_of}
+use Rattle.answer_judge.specs.Judged.{AnswersAs}
+use Rattle.answer_judge.specs.Judging.{Says, answer_of}
 use Rattle.answer_judge.specs.Meeting.{holds}
 use Rattle.answer_publisher_keys.specs.Bindings as bindings
 use Rattle.answer_publisher_keys.specs.Bindings.{ZoneKeys, set_call}

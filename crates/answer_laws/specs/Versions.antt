@@ -9,8 +9,8 @@ use Rattle.answer_shared.specs.Accepting.{sorted_records}
 use Rattle.answer_events.specs.declared.event.Act.{Act}
 use Rattle.answer_events.specs.declared.event.Act.TheVariants as act
 use Rattle.answer_events.specs.declared.event.Event.{Event}
-use Rattle.answer_judge_facts.specs.Honest.{HasOneRrset, SaysOneOf, Signing}
-use Rattle.answer_judge_keys.specs.Judging.{Answer, JudgeInput}
+use Rattle.answer_judge.specs.Honest.{HasOneRrset, SaysOneOf, Signing}
+use Rattle.answer_judge.specs.Judging.{Answer, JudgeInput}
 use Rattle.answer_publisher.specs.Replacing.{whole_second}
 use Rattle.answer_publisher.specs.World.{World}
 use Rattle.answer_publisher_keys.specs.Bindings.{ZoneKeys}

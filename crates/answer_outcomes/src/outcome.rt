@@ -1,5 +1,5 @@
 //! The outcomes of events.
-use answer_judge_keys::verdict::{Judgement, Refused};
+use answer_judge::verdict::{Judgement, Refused};
 use answer_publisher::fault::{AnswerFault, KeyFault, ReplaceFault};
 use answer_shared::dnskey::Dnskey;
 use denial_data::Ds;

@@ -6,8 +6,8 @@ use Rattle.messages.specs.Message.{Message, message}
 use Rattle.messages.specs.declared.error.MessageError.{MessageError}
 use Rattle.answer_scheme.specs.Answers.{Answers}
 use Rattle.answer_judge.specs.Stages.{are_signed}
-use Rattle.answer_judge_keys.specs.Judging.{JudgeInput, is_judged}
-use Rattle.answer_judge_facts.specs.Judged.{ds_authenticates_keys, keys_of}
+use Rattle.answer_judge.specs.Judging.{JudgeInput, is_judged}
+use Rattle.answer_judge.specs.Judged.{ds_authenticates_keys, keys_of}
 use Rattle.answer_judge.proofs.JudgedSays.{judged_says}
 use Rattle.answer_verified_records.specs.Records.{SaysVerdict, messages_in, unrefused}
 

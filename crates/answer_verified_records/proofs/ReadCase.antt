@@ -6,10 +6,11 @@ use Rattle.std.proofs.lemmas.Bool.{or_parts}
 use Rattle.messages.specs.Message.{Message, message}
 use Rattle.messages.specs.declared.error.MessageError.{MessageError}
 use Rattle.answer_shared.specs.EqualTags.{has_equal_tags}
-use Rattle.answer_judge_keys.specs.Judging.{JudgeInput, is_judged, keys_in, may_ask, same_question, signatures_in}
+use Rattle.answer_judge.specs.Judging.{JudgeInput, is_judged, may_ask, same_question, signatures_in}
+use Rattle.answer_judge_keys.specs.DnskeyAnswer.{keys_in}
 use Rattle.answer_judge_keys.specs.Trusted.{is_signature}
-use Rattle.answer_judge_keys.specs.declared.verdict.Refusal.{Refusal}
-use Rattle.answer_judge_keys.specs.declared.verdict.Refusal.TheVariants as r
+use Rattle.answer_judge.specs.declared.verdict.Refusal.{Refusal}
+use Rattle.answer_judge.specs.declared.verdict.Refusal.TheVariants as r
 use Rattle.answer_judge_facts.specs.Marked.{is_chain_type}
 use Rattle.answer_judge.proofs.JudgedTypes.{judged_type}
 use Rattle.answer_verified_records.specs.Records.{both_spelled, messages_in, unrefused}

@@ -4,8 +4,8 @@ use Rattle.std.specs.Prelude.{Option, Some, None}
 use Rattle.definitions.specs.Dnskey.{Dnskey}
 use Rattle.messages.specs.Message.{Message}
 use Rattle.answer_scheme.specs.Answers.{Answers}
-use Rattle.answer_judge_keys.specs.Judging.{JudgeInput}
-use Rattle.answer_judge_facts.specs.Judged.{keys_of, trusting}
+use Rattle.answer_judge.specs.Judging.{JudgeInput}
+use Rattle.answer_judge.specs.Judged.{keys_of, trusting}
 use Rattle.answer_verified_records.specs.Records.{messages_in, signing_keys, verified_in_answer, verified_in_messages, verified_records}
 
 module _ (a : Answers) (k : ℕ) (h : JudgeInput) where

@@ -11,12 +11,12 @@ use Rattle.messages.specs.Message.{Message, Spelled, canonical_data, message}
 use Rattle.messages.specs.declared.error.MessageError.{MessageError}
 use Rattle.messages.proofs.ZoneNames.{same_labels}
 use Rattle.answer_scheme.specs.Answers.{Answers}
-use Rattle.answer_judge_keys.specs.Judging.{Answer, JudgeInput, Refuses, Says, first_refusal, message_refusal}
+use Rattle.answer_judge.specs.Judging.{Answer, JudgeInput, Refuses, Says, first_refusal, message_refusal}
 use Rattle.answer_judge_keys.specs.Trusted.{is_usable}
-use Rattle.answer_judge_keys.specs.declared.verdict.Refusal.{Refusal}
-use Rattle.answer_judge_keys.specs.declared.verdict.Refusal.TheVariants as r
+use Rattle.answer_judge.specs.declared.verdict.Refusal.{Refusal}
+use Rattle.answer_judge.specs.declared.verdict.Refusal.TheVariants as r
 use Rattle.answer_judge_rules.specs.Hashes.{hash_among}
-use Rattle.answer_judge_facts.specs.Judged.{judged, judged_bytes, keys_of, trusting}
+use Rattle.answer_judge.specs.Judged.{judged, judged_bytes, keys_of, trusting}
 use Rattle.answer_judge_facts.specs.Sought.{answer_sought, is_alone}
 use Rattle.answer_judge_facts.specs.Verified.{Trusting, datum_of, is_hash_alone, is_verified, rrset_in, verified_by}
 use Rattle.answer_judge_facts.proofs.JudgeMarks.{by_is}

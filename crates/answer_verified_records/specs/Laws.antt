@@ -4,8 +4,8 @@ use Rattle.std.specs.List.{filter_map}
 use Rattle.definitions.specs.Zone.{Records, StarRecords, sorted_data}
 use Rattle.messages.specs.Message.{Message, Spelled, canonical_data, message}
 use Rattle.answer_scheme.specs.Answers.{Answers}
-use Rattle.answer_judge_keys.specs.Judging.{JudgeInput, Says}
-use Rattle.answer_judge_facts.specs.Judged.{judged}
+use Rattle.answer_judge.specs.Judging.{JudgeInput, Says}
+use Rattle.answer_judge.specs.Judged.{judged}
 use Rattle.answer_verified_records.specs.Records.{verified_records}
 
 -- the records of some numbers

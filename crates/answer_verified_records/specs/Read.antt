@@ -3,8 +3,8 @@ use Rattle.std.specs.Prelude.{◌≡◌, ◌≤◌, false, Ok, length, map}
 use Rattle.definitions.specs.Limits.{pointer_limit}
 use Rattle.messages.specs.Message.{message}
 use Rattle.messages.specs.Record.{spelled}
-use Rattle.answer_judge_keys.specs.Judging.{JudgeInput}
-use Rattle.answer_judge_facts.specs.Judged.{keys_of}
+use Rattle.answer_judge.specs.Judging.{JudgeInput}
+use Rattle.answer_judge.specs.Judged.{keys_of}
 use Rattle.answer_judge_facts.specs.Marked.{is_chain_type}
 use Rattle.answer_verified_records.specs.declared.listed.Listed.{Listed}
 use Rattle.answer_verified_records.specs.declared.listed.Messages.{Messages}

@@ -6,10 +6,10 @@ use Rattle.definitions.specs.Zone.{Verdict}
 use Rattle.messages.specs.Message.{Message, Spelled, canonical_data, message}
 use Rattle.messages.specs.declared.error.MessageError.{MessageError}
 use Rattle.answer_scheme.specs.Answers.{Answers}
-use Rattle.answer_judge_keys.specs.Judging.{JudgeInput, Says, is_judged, message_refusal}
+use Rattle.answer_judge.specs.Judging.{JudgeInput, Says, is_judged, message_refusal}
 use Rattle.answer_judge_keys.specs.Trusted.{is_usable}
 use Rattle.answer_judge.specs.Stages.{are_signed}
-use Rattle.answer_judge_facts.specs.Judged.{judged, keys_of, trusting}
+use Rattle.answer_judge.specs.Judged.{judged, keys_of, trusting}
 use Rattle.answer_judge_facts.specs.Sought.{answer_sought}
 use Rattle.answer_judge_facts.specs.Verified.{Trusting, is_verified, rrset_in}
 

@@ -1,29 +1,27 @@
 //! The records of an answer that some keys verify.
 ghost use Rattle.std.specs.Prelude.{◌≡◌, ◌+◌, ◌<◌, ◌≤◌, ◌^◌, false, IfOk, filter, length, map};
-ghost use Rattle.std.specs.List.{list_any};
-ghost use Rattle.std.specs.List.Sorted.{IsPermutation, IsSortedBy};
-ghost use Rattle.std.specs.Ordering.{is_lt};
 ghost use Rattle.definitions.specs.Limits.{pointer_limit};
 ghost use Rattle.messages.specs.Record.{spelled};
 ghost use Rattle.answer_scheme.specs.Answers.{EachAgreeing, SignatureTest};
-ghost use Rattle.answer_judge_keys.specs.KeyOrder.{Ranks};
 ghost use Rattle.answer_judge_keys.specs.Trusted.{is_signature};
-ghost use Rattle.answer_judge_facts.specs.Judged.{trusting};
-ghost use Rattle.answer_judge_facts.specs.Marked.{held_by, is_chain, is_chain_type, is_proved};
-ghost use Rattle.answer_judge_facts.specs.Ranked.{AreRanked, AskedLast, chain_cmp};
+ghost use Rattle.answer_judge.specs.Judged.{trusting};
+ghost use Rattle.answer_judge_facts.specs.Marked.{held_by, is_chain_type};
+ghost use Rattle.answer_judge_facts.specs.Ranked.{AreRanked};
 ghost use Rattle.answer_verified_records.specs.Groups.{is_of_verified};
 ghost use Rattle.answer_verified_records.specs.Records.{numbers_from, verified_in_answer};
 
 use crate::number::RecordNumber;
 use answer_judge::Case;
-use answer_judge_facts::facts::{read_chain_groups, sorted_chain};
-use answer_judge_facts::groups::{Group, place_of, read_group, verify_groups};
+use answer_judge_facts::facts::{is_verified, sorted_chain, sought_groups};
+use answer_judge_facts::groups::{Group, verify_groups};
 use answer_judge_keys::check_run::CheckRun;
-use answer_judge_keys::keys::{TaggedKey, ranked_keys};
+use answer_judge_keys::key_index::KeyIndex;
+use answer_judge_keys::keys::TaggedKey;
 use answer_judge_keys::trust::Trust;
+use answer_judge_rules::asked::Asked;
 use answer_scheme::checks::Checks;
-use messages::names::{Name, ZoneName, cow_name};
-use messages::{Owner, ViewRecord};
+use messages::ViewRecord;
+use messages::names::{Name, ZoneName};
 use names_rdata::rtype::Rtype;
 use numbers::class::Class;
 use std::alloc::{AllocError, Global};
@@ -52,12 +50,11 @@ pub(crate) fn verified_under<'a, C: Checks>(
     ensures same { C.answers check_run.new.checks.now ≡ C.answers check_run.old.checks.now }
     ensures same_checks { check_run.new.checks.ghost_name ≡ check_run.old.checks.ghost_name }
 {
-    let by_tag = ranked_keys(check_run.alloc, keys)?;
+    let index = KeyIndex::new(check_run.alloc, keys)?;
     let trust = Trust {
         apex: case.apex,
         depth: case.apex.depth(),
-        keys,
-        ranked: &by_tag,
+        keys: &index,
         moment: case.moment.timestamp(),
     };
     let question = case.question;
@@ -81,7 +78,6 @@ fn verified_in_answer<C: Checks>(
     rtype: Rtype,
     check_run: &mut CheckRun<C>,
 ) -> Result<Vec<RecordNumber>, AllocError>
-    requires index { Ranks trust.now.keys.now trust.now.ranked.now }
     requires room { check_run.old.count + length records.now < 2 ^ 32 }
     requires other { is_chain_type rtype ≡ false }
     ensures exact { EachAgreeing (C.answers check_run.old.checks.now)
@@ -100,33 +96,14 @@ fn verified_in_answer<C: Checks>(
 {
     let alloc = check_run.alloc;
     let chained = sorted_chain(alloc, records)?;
-    let mut groups = sought_groups(alloc, trust.apex, message, records, &chained, name, rtype)?;
+    let asked = Asked {
+        apex: trust.apex,
+        name,
+        rtype,
+    };
+    let mut groups = sought_groups(alloc, &asked, message, records, &chained)?;
     verify_groups(message, records, trust, &mut groups, check_run)?;
     numbers_of_verified(alloc, message, records, &groups)
-}
-
-/// The RRsets that are sought: those of chains' records in their order, behind them the one that
-/// was asked for.
-fn sought_groups<'r>(
-    alloc: Global,
-    apex: &Name<Vec<u8>>,
-    message: &'r [u8],
-    records: &[ViewRecord],
-    chained: &'r [ViewRecord],
-    name: &'r Name<Vec<u8>>,
-    rtype: Rtype,
-) -> Result<Vec<Group<'r>>, AllocError>
-    requires moved { let rs = filter is_chain (map spelled records.now) in
-        IsPermutation rs (map spelled chained.now) }
-    requires sorted { IsSortedBy (λ a b. is_lt (chain_cmp a b)) (map spelled chained.now) }
-    requires other { is_chain_type rtype ≡ false }
-    ensures { let rs = map spelled records.now in
-        IfOk result (λ gs. AskedLast message.now apex.now rs name.now rtype gs.items) }
-{
-    let mut groups = read_chain_groups(alloc, apex, message, chained)?;
-    let owner = cow_name(alloc, name)?;
-    groups.push(read_group(alloc, message, records, owner, rtype)?)?;
-    Ok(groups)
 }
 
 /// The numbers of the records of verified RRsets.
@@ -166,15 +143,4 @@ fn is_of_verified(
         return Ok(false);
     }
     Ok(view.canonical_cow(alloc, message)?.is_some())
-}
-
-/// Whether an owner has one of the groups of a type, and that is verified.
-fn is_verified(groups: &[Group], owner: &Owner, rtype: Rtype) -> bool
-    requires ranked { AreRanked groups.now }
-    ensures { result ≡ list_any (is_proved owner.now rtype) groups.now }
-{
-    match place_of(groups, owner, rtype) {
-        None => false,
-        Some(place) => groups[place].verified.is_some(),
-    }
 }

@@ -10,7 +10,8 @@ ghost use Rattle.answer_verified_records.specs.Records.{signing_keys};
 use answer_judge::Case;
 use answer_judge_facts::key_rrset::are_verified;
 use answer_judge_keys::check_run::CheckRun;
-use answer_judge_keys::keys::{TaggedKey, ranked_keys, trusted_keys, usable_keys};
+use answer_judge_keys::key_index::KeyIndex;
+use answer_judge_keys::keys::{TaggedKey, trusted_keys, usable_keys};
 use answer_judge_keys::trust::Trust;
 use answer_scheme::checks::Checks;
 use messages::ViewRecord;
@@ -43,12 +44,11 @@ pub(crate) fn signing_keys<'a, C: Checks>(
 {
     check_run.octets.reserve(512)?;
     let trusted = trusted_keys(case.apex, case.ds, &keys, check_run)?;
-    let by_tag = ranked_keys(check_run.alloc, &trusted)?;
+    let index = KeyIndex::new(check_run.alloc, &trusted)?;
     let trust = Trust {
         apex: case.apex,
         depth: case.apex.depth(),
-        keys: &trusted,
-        ranked: &by_tag,
+        keys: &index,
         moment: case.moment.timestamp(),
     };
     let mut seconds = 0;

@@ -5,12 +5,13 @@ ghost use Rattle.std.specs.Result.{result_ok};
 ghost use Rattle.definitions.specs.Limits.{pointer_limit};
 ghost use Rattle.messages.specs.Message.{Asked, message};
 ghost use Rattle.answer_judge_facts.specs.Marked.{is_chain_type};
-ghost use Rattle.answer_judge_keys.specs.Judging.{is_judged, may_ask, same_question};
+ghost use Rattle.answer_judge.specs.Judging.{is_judged, may_ask, same_question};
 ghost use Rattle.answer_verified_records.specs.Read.{IsListed, IsReadOf};
 ghost use Rattle.answer_verified_records.specs.Records.{messages_in, unrefused};
 
 use answer_judge::Case;
-use answer_judge_keys::keys::{TaggedKey, has_equal_tags, ranked_keys, read_keys};
+use answer_judge_keys::key_index::KeyIndex;
+use answer_judge_keys::keys::{TaggedKey, read_keys};
 use answer_shared::question::{asks_alias, is_allowed};
 use messages::names::{Name, ToName};
 use messages::{MessageView, ViewRecord, read_message_into};
@@ -74,8 +75,7 @@ fn read_messages<'a>(alloc: Global, case: &Case<'a>) -> Result<Option<Messages<'
         return Ok(None);
     }
     let tagged = read_keys(alloc, case.apex, case.dnskey, &keys.records)?;
-    let by_tag = ranked_keys(alloc, &tagged)?;
-    if has_equal_tags(&tagged, &by_tag) {
+    if KeyIndex::new(alloc, &tagged)?.has_equal_tags() {
         return Ok(None);
     }
     Ok(Some(Messages {

@@ -3,7 +3,7 @@ ghost use Rattle.std.specs.Prelude.{◌≡◌, ◌+◌, ◌≤◌, IfOk, true};
 ghost use Rattle.definitions.specs.Limits.{pointer_limit};
 ghost use Rattle.answer_scheme.specs.Answers.{EachAgreeing, SignatureTest};
 ghost use Rattle.answer_judge.specs.Stages.{are_signed};
-ghost use Rattle.answer_judge_keys.specs.Judging.{signatures_in, verification_bound};
+ghost use Rattle.answer_judge.specs.Judging.{signatures_in, verification_bound};
 ghost use Rattle.answer_verified_records.specs.Read.{IsReadOf};
 ghost use Rattle.answer_verified_records.specs.Records.{SaysVerdict, verified_in_messages};
 ghost use Rattle.answer_verified_records.specs.Records.{verified_records};

@@ -13,8 +13,8 @@ use Rattle.definitions.specs.Signing.{Fields, in_time}
 use Rattle.messages.specs.Message.{AreOctets, Message, Spelled, message, rrsig_at}
 use Rattle.messages.proofs.Lists.{Has, all_at, all_fail, all_more, some_is}
 use Rattle.answer_scheme.specs.Answers.{Answers}
-use Rattle.answer_judge_facts.specs.Honest.{NothingForged, over}
-use Rattle.answer_judge_keys.specs.Judging.{JudgeInput}
+use Rattle.answer_judge.specs.Honest.{NothingForged, over}
+use Rattle.answer_judge.specs.Judging.{JudgeInput}
 use Rattle.answer_judge_facts.specs.Sought.{Sought}
 use Rattle.answer_judge.proofs.GivenLists.{has_contained}
 use Rattle.answer_judge.proofs.Spliced.{ok_is}

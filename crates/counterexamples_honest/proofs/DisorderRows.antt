@@ -13,8 +13,8 @@ use Rattle.definitions.proofs.Members.{any_of}
 use Rattle.messages.specs.Message.{owner_at}
 use Rattle.messages.proofs.Lists.{Has}
 use Rattle.messages.proofs.ZoneNames.{same_labels}
-use Rattle.answer_judge_facts.specs.Honest.{sought_of_answer}
-use Rattle.answer_judge_facts.specs.Versions.{OfChain, OfZone, zone_in}
+use Rattle.answer_judge.specs.Honest.{sought_of_answer}
+use Rattle.answer_judge.specs.Versions.{OfChain, OfZone, zone_in}
 use Rattle.answer_judge_keys.proofs.GivenSorted.{in_has}
 use Rattle.answer_judge.proofs.GivenLists.{has_contained}
 use Rattle.counterexamples_honest.specs.Premises.{IsServableIn, SaysFalsely, without_alone, without_childless, without_ordinary, without_uncut}

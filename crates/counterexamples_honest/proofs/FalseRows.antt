@@ -13,8 +13,8 @@ use Rattle.definitions.specs.Zone.{NoType, Records, Unsigned}
 use Rattle.definitions.specs.ZoneChain.{hashed_names, nsec3_names}
 use Rattle.messages.specs.Message.{owner_at}
 use Rattle.answer_shared.specs.Chainable.{IsChainable}
-use Rattle.answer_judge_facts.specs.Honest.{NoStranger, NothingForged, SignedOfKeys, sought_of_answer, sought_of_keys}
-use Rattle.answer_judge_facts.specs.Versions.{OfChain, zone_in}
+use Rattle.answer_judge.specs.Honest.{NoStranger, NothingForged, SignedOfKeys, sought_of_answer, sought_of_keys}
+use Rattle.answer_judge.specs.Versions.{OfChain, zone_in}
 use Rattle.answer_judge.proofs.GivenLists.{has_contained}
 use Rattle.counterexamples_honest.specs.Premises.{SaysFalsely, without_answer_unforged, without_ds, without_hashes_apart, without_keys_known, without_keys_published, without_keys_unforged}
 use Rattle.counterexamples_honest.specs.Rows.{bare, forged_answer, forged_keys, hashed_answer, hashed_apex, mixed_keys, next_of_apex, no_ds, own_keys, shared_hash, small, stranger_keys, twin_keys}

@@ -9,10 +9,10 @@ use Rattle.definitions.specs.Signing.{Fields, signed_octets}
 use Rattle.definitions.specs.Zone.{Records}
 use Rattle.definitions.specs.ZoneChain.{nsec_names}
 use Rattle.messages.specs.Message.{owner_at}
-use Rattle.answer_judge_keys.specs.Judging.{Says, Refuses}
-use Rattle.answer_judge_keys.specs.declared.verdict.Refusal.TheVariants.{NoTrustedKey, NotProven}
-use Rattle.answer_judge_facts.specs.Honest.{NoStranger, sought_of_answer, sought_of_keys}
-use Rattle.answer_judge_facts.specs.Versions.{OfChain, OfZone, zone_in}
+use Rattle.answer_judge.specs.Judging.{Says, Refuses}
+use Rattle.answer_judge.specs.declared.verdict.Refusal.TheVariants.{NoTrustedKey, NotProven}
+use Rattle.answer_judge.specs.Honest.{NoStranger, sought_of_answer, sought_of_keys}
+use Rattle.answer_judge.specs.Versions.{OfChain, OfZone, zone_in}
 use Rattle.counterexamples_honest.specs.Premises.{IsHonestCase, Premises, all}
 use Rattle.counterexamples_honest.specs.Rows.{forged_late, next_of_b, of_strangers, own, own_keys, small, spliced, spliced_answer, starred, stranger_keys}
 use Rattle.counterexamples_honest.specs.World.{a, address, b, ds, example, false_address, fields, own_key, plain, star, stranger, x_b}

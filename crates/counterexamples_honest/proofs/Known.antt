@@ -7,10 +7,11 @@ use Rattle.definitions.specs.Dnskey.{Dnskey}
 use Rattle.definitions.specs.Limits.{pointer_limit}
 use Rattle.messages.specs.Message.{Message, message}
 use Rattle.messages.proofs.Lists.{all_at}
-use Rattle.answer_judge_facts.specs.Honest.{NoStranger}
+use Rattle.answer_judge.specs.Honest.{NoStranger}
 use Rattle.answer_judge.proofs.GivenLists.{has_contained}
 use Rattle.answer_judge.proofs.Spliced.{ok_is}
-use Rattle.answer_judge_keys.specs.Judging.{JudgeInput, keys_in}
+use Rattle.answer_judge.specs.Judging.{JudgeInput}
+use Rattle.answer_judge_keys.specs.DnskeyAnswer.{keys_in}
 use Rattle.answer_judge_keys.specs.Trusted.{is_trusted}
 use Rattle.counterexamples_honest.specs.World.{ds, example, own_key, plain}
 use Rattle.counterexamples_honest.proofs.Dealt.{at_place}

@@ -10,9 +10,9 @@ use Rattle.definitions.specs.Zone.{NoName}
 use Rattle.definitions.specs.ZoneChain.{nsec_names}
 use Rattle.messages.specs.Message.{owner_at}
 use Rattle.messages.proofs.Lists.{Has}
-use Rattle.answer_judge_facts.specs.Honest.{IsSaidByOne, OneAtATime, Signing, sought_of_answer, verdict_of}
-use Rattle.answer_judge_facts.specs.Versions.{OfChain, Version, zone_in}
-use Rattle.answer_judge_keys.specs.Judging.{JudgeInput}
+use Rattle.answer_judge.specs.Honest.{IsSaidByOne, OneAtATime, Signing, sought_of_answer, verdict_of}
+use Rattle.answer_judge.specs.Versions.{OfChain, Version, zone_in}
+use Rattle.answer_judge.specs.Judging.{JudgeInput}
 use Rattle.answer_judge.proofs.GivenLists.{has_contained}
 use Rattle.counterexamples_honest.specs.Premises.{IsMixture, Premises, SaysFalsely, all, without_settled}
 use Rattle.counterexamples_honest.specs.Rows.{first_version, mixed, mixed_answer, mixed_at_once, next_of_apex_later, next_of_b, own_keys, second_version}

@@ -19,9 +19,9 @@ use Rattle.messages.specs.Message.{Message, Spelled, message, owner_at}
 use Rattle.messages.proofs.Lists.{all_at, all_fail}
 use Rattle.answer_shared.specs.Accepting.{IsFaultless, has_unlike_ttls, soas, sorted_records, zone_of}
 use Rattle.answer_shared.proofs.Servable.{servable}
-use Rattle.answer_judge_facts.specs.Honest.{NoStranger, NothingForged, Signing, SignedOfKeys, WasSigned, sought_of_keys}
-use Rattle.answer_judge_facts.specs.Versions.{Version, zone_in}
-use Rattle.answer_judge_keys.specs.Judging.{JudgeInput}
+use Rattle.answer_judge.specs.Honest.{NoStranger, NothingForged, Signing, SignedOfKeys, WasSigned, sought_of_keys}
+use Rattle.answer_judge.specs.Versions.{Version, zone_in}
+use Rattle.answer_judge.specs.Judging.{JudgeInput}
 use Rattle.answer_judge_keys.proofs.GivenSorted.{in_has}
 use Rattle.counterexamples_honest.specs.Premises.{IsServableIn, Premises, Where}
 use Rattle.counterexamples_honest.specs.Rows.{bare, first_version, own_keys, second_version, judge_input, small, starred}

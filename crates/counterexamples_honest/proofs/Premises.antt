@@ -8,10 +8,10 @@ use Rattle.definitions.specs.Name.{Name}
 use Rattle.messages.specs.Message.{Spelled}
 use Rattle.messages.proofs.Lists.{all_at, all_more}
 use Rattle.answer_scheme.specs.Answers.{Answers}
-use Rattle.answer_judge_facts.specs.Honest.{IsVersion, NothingForged, Signing, SignedOfKeys, SignedOfVersion, WasSigned, sought_of_answer, sought_of_keys}
-use Rattle.answer_judge_facts.specs.Versions.{Version}
+use Rattle.answer_judge.specs.Honest.{IsVersion, NothingForged, Signing, SignedOfKeys, SignedOfVersion, WasSigned, sought_of_answer, sought_of_keys}
+use Rattle.answer_judge.specs.Versions.{Version}
 use Rattle.answer_judge_facts.specs.Sought.{Sought}
-use Rattle.answer_judge_keys.specs.Judging.{JudgeInput, Says}
+use Rattle.answer_judge.specs.Judging.{JudgeInput, Says}
 use Rattle.answer_judge.proofs.GivenLists.{has_contained}
 use Rattle.answer_judge.proofs.HonestJudged.{answers_honest}
 use Rattle.counterexamples_honest.specs.Premises.{AllAreHonest, IsVersionIn, NoneIsFalse, all}
@@ -43,7 +43,7 @@ published_signed a apex published signed signings are octets (SignedOfKeys s) = 
 unforged_too : (a : Answers) (h : JudgeInput) (published signed : List Dnskey) (signings : List Signing) (sought : List Spelled → Sought) (m : List ℕ) → AllByRecursion (Contains published) signed
     → NothingForged a pointer_limit h published (WasSigned a h.apex signed signings) sought m → NothingForged a pointer_limit h published (WasSigned a h.apex published signings) sought m
 unforged_too a h published signed signings sought m are unforged read r f signature key reads used inside usable some passes =
-    published_signed a h.apex published signed signings are (Rattle.answer_judge_facts.specs.Honest.over (sought read.records) r f) (unforged read r f signature key reads used inside usable some passes)
+    published_signed a h.apex published signed signings are (Rattle.answer_judge.specs.Honest.over (sought read.records) r f) (unforged read r f signature key reads used inside usable some passes)
 
 pub all_honest : AllAreHonest
 all_honest a h versions x = record {

@@ -1,7 +1,7 @@
 -- Messages that are put together from messages whose RRsets were signed are honest.
 use Rattle.std.proofs.Common.{inr, ⊎_elim}
 use Rattle.answer_judge.specs.Splices.{PassesNowhere}
-use Rattle.answer_judge_facts.specs.Honest.{WasSigned}
+use Rattle.answer_judge.specs.Honest.{WasSigned}
 use Rattle.answer_judge.proofs.Spliced.{spliced_honest, told_spliced}
 use Rattle.counterexamples_honest.specs.Quoted.{IsQuoted, QuotesAreHonest}
 

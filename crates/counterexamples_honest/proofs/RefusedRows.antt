@@ -16,12 +16,12 @@ use Rattle.denial_laws.specs.Truth.{IsServable}
 use Rattle.messages.specs.Message.{owner_at}
 use Rattle.messages.proofs.Lists.{Has}
 use Rattle.messages.proofs.ZoneNames.{same_labels}
-use Rattle.answer_judge_facts.specs.Honest.{NoStranger, NothingForged, OneAtATime, Signing, SignedOfKeys, WasSigned, sought_of_answer, sought_of_keys}
-use Rattle.answer_judge_facts.specs.Versions.{OfChain, Version, zone_in}
+use Rattle.answer_judge.specs.Honest.{NoStranger, NothingForged, OneAtATime, Signing, SignedOfKeys, WasSigned, sought_of_answer, sought_of_keys}
+use Rattle.answer_judge.specs.Versions.{OfChain, Version, zone_in}
 use Rattle.answer_judge_facts.specs.Times.{Times}
-use Rattle.answer_judge_keys.specs.Judging.{Refuses}
+use Rattle.answer_judge.specs.Judging.{Refuses}
 use Rattle.answer_judge_keys.specs.Trusted.{is_usable}
-use Rattle.answer_judge_keys.specs.declared.verdict.Refusal.TheVariants.{MixedVersions, NotProven}
+use Rattle.answer_judge.specs.declared.verdict.Refusal.TheVariants.{MixedVersions, NotProven}
 use Rattle.answer_judge_keys.proofs.GivenSorted.{in_has}
 use Rattle.answer_judge.proofs.GivenLists.{has_contained}
 use Rattle.counterexamples_honest.specs.Premises.{IsHonestCase, RefusesFalsehood, all}

@@ -12,9 +12,9 @@ use Rattle.denial_laws.specs.Truth.{NoSharedHash}
 use Rattle.messages.specs.Handed.{IsHanded}
 use Rattle.answer_shared.specs.Chainable.{HasChain}
 use Rattle.answer_shared.specs.Hashing.{hash_in}
-use Rattle.answer_judge_facts.specs.Honest.{FewIterations, IsSaidByOne, NoStranger, NothingForged, Settled, Signing, WasSigned, SignedOfVersion, is_alias_in, sought_of_answer, sought_of_keys, verdict_of}
-use Rattle.answer_judge_facts.specs.Versions.{IsRrsetOf, Version, zone_in}
-use Rattle.answer_judge_keys.specs.Judging.{JudgeInput}
+use Rattle.answer_judge.specs.Honest.{FewIterations, IsSaidByOne, NoStranger, NothingForged, Settled, Signing, WasSigned, SignedOfVersion, is_alias_in, sought_of_answer, sought_of_keys, verdict_of}
+use Rattle.answer_judge.specs.Versions.{IsRrsetOf, Version, zone_in}
+use Rattle.answer_judge.specs.Judging.{JudgeInput}
 use Rattle.answer_judge.proofs.GivenLists.{has_contained}
 use Rattle.counterexamples_honest.specs.Premises.{AreHonestIn, IsServableIn, IsVersionIn, Premises, Where}
 use Rattle.counterexamples_honest.specs.Rows.{judge_input}

@@ -12,11 +12,11 @@ use Rattle.messages.specs.WrittenLaws.{IsQuestion}
 use Rattle.answer_shared.specs.Chainable.{HasChain}
 use Rattle.answer_shared.specs.Hashing.{hash_in}
 use Rattle.answer_scheme.specs.Answers.{Answers}
-use Rattle.answer_judge_facts.specs.Honest.{AnswersHonest, AreHonest, FewIterations, IsSaidByOne, NoStranger, NothingForged, Settled, Signing, WasSigned, sought_of_answer, sought_of_keys}
-use Rattle.answer_judge_facts.specs.Versions.{Version, zone_in}
-use Rattle.answer_judge_facts.specs.Judged.{judged}
-use Rattle.answer_judge_keys.specs.Judging.{Answer, JudgeInput, Refuses, Says}
-use Rattle.answer_judge_keys.specs.declared.verdict.Refusal.TheVariants.{MixedVersions}
+use Rattle.answer_judge.specs.Honest.{AnswersHonest, AreHonest, FewIterations, IsSaidByOne, NoStranger, NothingForged, Settled, Signing, WasSigned, sought_of_answer, sought_of_keys}
+use Rattle.answer_judge.specs.Versions.{Version, zone_in}
+use Rattle.answer_judge.specs.Judged.{judged}
+use Rattle.answer_judge.specs.Judging.{Answer, JudgeInput, Refuses, Says}
+use Rattle.answer_judge.specs.declared.verdict.Refusal.TheVariants.{MixedVersions}
 
 -- Which of them are asked. Beside these a zone has its apex and a chain, and names, numbers and octets are such.
 pub record Premises : Type 0 where

@@ -8,8 +8,8 @@ use Rattle.messages.specs.Message.{AreOctets, Asked, Message, Spelled, message, 
 use Rattle.answer_shared.specs.Served.{Group}
 use Rattle.answer_shared.specs.Told.{Tells}
 use Rattle.answer_scheme.specs.Answers.{Answers}
-use Rattle.answer_judge_facts.specs.Honest.{IsHonest, Signing, WasSigned}
-use Rattle.answer_judge_keys.specs.Judging.{JudgeInput}
+use Rattle.answer_judge.specs.Honest.{IsHonest, Signing, WasSigned}
+use Rattle.answer_judge.specs.Judging.{JudgeInput}
 use Rattle.answer_judge_facts.specs.Sought.{Sought}
 use Rattle.answer_judge.specs.Splices.{AreSigned, Binds, PassesNowhere}
 

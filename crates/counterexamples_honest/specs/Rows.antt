@@ -7,8 +7,8 @@ use Rattle.definitions.specs.Name.{Name, wire}
 use Rattle.definitions.specs.Signing.{Fields}
 use Rattle.definitions.specs.ZoneChain.{Nsec, Nsec3}
 use Rattle.messages.specs.HandedRr.{HandedRr}
-use Rattle.answer_judge_keys.specs.Judging.{JudgeInput}
-use Rattle.answer_judge_facts.specs.Versions.{Version}
+use Rattle.answer_judge.specs.Judging.{JudgeInput}
+use Rattle.answer_judge.specs.Versions.{Version}
 use Rattle.counterexamples_honest.specs.World.{a, address, address_of, alias_of, b, delegation_of, ds, example, false_address, fields, handed, idle, message_of, other, own_key, redirect_of, rr, rrsig, soa, star, stranger, text_of, twin, x, x_b}
 
 -- ---- zones

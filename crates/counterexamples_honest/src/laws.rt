@@ -2,10 +2,10 @@
 //! law is the contract of a function that does nothing.
 ghost use Rattle.std.specs.Prelude.{[], ◌∷◌};
 ghost use Rattle.definitions.specs.Zone.{NoName, NoType, Records};
-ghost use Rattle.answer_judge_keys.specs.Judging.{Says, Refuses};
-ghost use Rattle.answer_judge_keys.specs.declared.verdict.Refusal.TheVariants.{MixedVersions};
-ghost use Rattle.answer_judge_keys.specs.declared.verdict.Refusal.TheVariants.{NoTrustedKey};
-ghost use Rattle.answer_judge_keys.specs.declared.verdict.Refusal.TheVariants.{NotProven};
+ghost use Rattle.answer_judge.specs.Judging.{Says, Refuses};
+ghost use Rattle.answer_judge.specs.declared.verdict.Refusal.TheVariants.{MixedVersions};
+ghost use Rattle.answer_judge.specs.declared.verdict.Refusal.TheVariants.{NoTrustedKey};
+ghost use Rattle.answer_judge.specs.declared.verdict.Refusal.TheVariants.{NotProven};
 ghost use Rattle.counterexamples_honest.specs.Premises.{AllAreHonest, IsHonestCase, IsMixture};
 ghost use Rattle.counterexamples_honest.specs.Premises.{NoneIsFalse, RefusesFalsehood};
 ghost use Rattle.counterexamples_honest.specs.Premises.{SaysFalsely, without_alone};

@@ -14,8 +14,8 @@ use Rattle.keyset_keys.specs.declared.errors.Error.{Error as KeyError}
 use Rattle.keyset_keys.specs.declared.errors.Error.TheVariants as KeyErrorCase
 use Rattle.answer_publisher_keys.specs.declared.fault.KeyFault.{KeyFault}
 use Rattle.answer_publisher_keys.specs.declared.fault.KeyFault.TheVariants as KeyFaultCase
-use Rattle.answer_judge_keys.specs.declared.verdict.Refusal.{Refusal}
-use Rattle.answer_judge_keys.specs.declared.verdict.Refusal.TheVariants as RefusalCase
+use Rattle.answer_judge.specs.declared.verdict.Refusal.{Refusal}
+use Rattle.answer_judge.specs.declared.verdict.Refusal.TheVariants as RefusalCase
 use Rattle.answer_judge_rules.specs.declared.verdict.Verdict.{Verdict}
 use Rattle.answer_judge_rules.specs.declared.verdict.Verdict.TheVariants as VerdictCase
 

@@ -6,8 +6,8 @@ use Rattle.hex.specs.Hex.{encode_lower}
 use Rattle.definitions.specs.Dnskey.{key_tag}
 use Rattle.answer_outcomes.specs.declared.outcome.Outcome.{Outcome}
 use Rattle.answer_outcomes.specs.declared.outcome.Outcome.TheVariants.{Key, Replaced, Ds, Cds, Cdnskey, Message, Refused, Judged, BadPlace}
-use Rattle.answer_judge_keys.specs.declared.verdict.Judgement.{Judgement}
-use Rattle.answer_judge_keys.specs.declared.verdict.Refused.{Refused as JudgeRefused}
+use Rattle.answer_judge.specs.declared.verdict.Judgement.{Judgement}
+use Rattle.answer_judge.specs.declared.verdict.Refused.{Refused as JudgeRefused}
 use Rattle.answer_judge_rules.specs.declared.verdict.Verdict.{Verdict}
 use Rattle.answer_judge_rules.specs.declared.verdict.Verdict.TheVariants.{Records, StarRecords}
 use Rattle.keyset_rolls.specs.declared.rolls.Action.{Action}

@@ -2,7 +2,7 @@
 ghost use Rattle.std.specs.Prelude.{◌≡◌, ℕ, List};
 ghost use Rattle.denialbench_print.specs.Names.{action_name, zone_fault_name, answer_fault_name, key_fault_name, refusal_name, replace_fault_name, verdict_name, signing_error_name, key_error_name};
 
-use answer_judge_keys::verdict::{Refusal, Verdict};
+use answer_judge::verdict::{Refusal, Verdict};
 use answer_publisher::fault::{AnswerFault, KeyFault, ReplaceFault, ZoneFault};
 use denial_chain_owners::error::SigningError;
 use keyset::Action;

@@ -7,7 +7,7 @@ ghost use Rattle.denialbench_print.specs.Names.{action_name};
 ghost use Rattle.denialbench_print.specs.Printed.{octets_text, list_text, actions_text, key_error_text, key_refusal, counts_text, data_text, judgement_text, judge_refusal, outcome_text};
 
 use crate::named::Named;
-use answer_judge_keys::verdict::{DataList, Judgement, Refused, Verdict};
+use answer_judge::verdict::{DataList, Judgement, Refused, Verdict};
 use answer_outcomes::outcome::Outcome;
 use answer_publisher::fault::KeyFault;
 use denial_keys::dnskey::Dnskey;

@@ -11,8 +11,8 @@ use Rattle.messages.specs.Message.{Asked}
 use Rattle.messages.specs.WrittenLaws.{IsQuestion}
 use Rattle.messages.proofs.Lists.{Has, all_at, some_is}
 use Rattle.messages.proofs.ZoneNames.{same_labels}
-use Rattle.answer_judge_keys.specs.Judging.{JudgeInput}
-use Rattle.answer_judge_facts.specs.Honest.{AreHonest, IsVersion, sought_of_answer, sought_of_keys}
+use Rattle.answer_judge.specs.Judging.{JudgeInput}
+use Rattle.answer_judge.specs.Honest.{AreHonest, IsVersion, sought_of_answer, sought_of_keys}
 use Rattle.resolution_step.specs.KnownDs.{knows}
 use Rattle.resolution_step.specs.Table.{AreTrue, Checked, Tried, answers_with, is_entry_of, is_same_try, passes_in}
 use Rattle.resolution_step.specs.Truth.{AreHonestBeside}

@@ -9,13 +9,15 @@ use Rattle.definitions.specs.Reading.{most_heads}
 use Rattle.definitions.specs.Zone.{Verdict, Records, sorted_data}
 use Rattle.messages.specs.Message.{owner_at}
 use Rattle.answer_judge_rules.specs.declared.verdict.Verdict.TheVariants as v
-use Rattle.answer_judge_keys.specs.Judging.{Answer, Says, Refuses, JudgeInput, first_refusal, verification_bound}
+use Rattle.answer_judge.specs.Judging.{Answer, Says, Refuses, JudgeInput, first_refusal, verification_bound}
 use Rattle.answer_judge_keys.specs.Trusted.{is_trusted, is_usable}
-use Rattle.answer_judge_keys.specs.declared.verdict.Judgement.{Judgement}
-use Rattle.answer_judge_keys.specs.declared.verdict.Refusal.TheVariants as r
-use Rattle.answer_judge_facts.specs.Counted.{answer_tries, hashes_due, hashes_of_answer, tries, verifications_due}
-use Rattle.answer_judge_facts.specs.Judged.{ds_authenticates_keys, judged, judged_answer, keys_of, trusting}
-use Rattle.answer_judge_facts.specs.Lasting.{answer_seconds, answer_ttls, key_seconds, lasting_of, least_of}
+use Rattle.answer_judge.specs.declared.verdict.Judgement.{Judgement}
+use Rattle.answer_judge.specs.declared.verdict.Refusal.TheVariants as r
+use Rattle.answer_judge_facts.specs.Counted.{tries}
+use Rattle.answer_judge.specs.Due.{answer_tries, hashes_due, hashes_of_answer, verifications_due}
+use Rattle.answer_judge.specs.Judged.{ds_authenticates_keys, judged, judged_answer, keys_of, trusting}
+use Rattle.answer_judge_facts.specs.Lasting.{answer_seconds, answer_ttls, key_seconds, least_of}
+use Rattle.answer_judge.specs.Lasts.{lasting_of}
 use Rattle.answer_judge_facts.specs.Sought.{keys_sought}
 use Rattle.answer_judge_facts.specs.Verified.{is_verified}
 use Rattle.answer_judge.specs.Meeting.{IsJudgement}

@@ -13,10 +13,11 @@ use Rattle.definitions.specs.Signing.{Fields}
 use Rattle.messages.specs.declared.error.MessageError.{MessageError}
 use Rattle.messages.specs.Message.{AreOctets, Message, Spelled, message, owner_at, rrsig_at}
 use Rattle.messages.proofs.Lists.{Has, all_at, all_fail, all_more, some_is}
-use Rattle.answer_judge_keys.specs.Judging.{JudgeInput, keys_in}
-use Rattle.answer_judge_facts.specs.Honest.{NoStranger, NothingForged, SignedOfKeys, SignedOfVersion, Signing, WasSigned}
+use Rattle.answer_judge.specs.Judging.{JudgeInput}
+use Rattle.answer_judge_keys.specs.DnskeyAnswer.{keys_in}
+use Rattle.answer_judge.specs.Honest.{NoStranger, NothingForged, SignedOfKeys, SignedOfVersion, Signing, WasSigned}
 use Rattle.answer_judge_facts.specs.Sought.{Sought}
-use Rattle.answer_judge_facts.specs.Versions.{OfZone}
+use Rattle.answer_judge.specs.Versions.{OfZone}
 use Rattle.resolution_step.specs.Table.{answers_with, tried}
 use Rattle.evidence_of_a_tree.specs.Evidence.{a, address, answer, example, fields, keys, own_key, passes, signed, version}
 use Rattle.evidence_of_a_tree.proofs.Zone.{a_is, at_place, example_is}
@@ -120,7 +121,7 @@ unforged : (m : List ℕ) (read : Message) → message pointer_limit m ≡ Ok re
 unforged m read reads dealt h sought other r f signature key is used inside usable some verifies =
     let alike : other ≡ read = ok_is other read (sym is ∙ reads) in
     let there : Has read.records r = subst (λ (x : Message). Has x.records r) alike (has_contained other.records r used.there) in
-    let octets : List ℕ = Rattle.answer_judge_facts.specs.Honest.over (sought other.records) r f in
+    let octets : List ℕ = Rattle.answer_judge.specs.Honest.over (sought other.records) r f in
     all_at (IsDealt m) read.records r dealt there f signature octets used.rtype_is used.reads
     (subst (λ (k : Dnskey). passes (tried k octets signature) ≡ true) (only_key key inside) verifies)
 

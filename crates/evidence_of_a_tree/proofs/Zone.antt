@@ -9,7 +9,7 @@ use Rattle.definitions.proofs.Members.{any_of}
 use Rattle.messages.specs.Handed.{IsHanded}
 use Rattle.messages.proofs.Lists.{all_at, all_fail}
 use Rattle.answer_judge_keys.proofs.GivenSorted.{in_has}
-use Rattle.answer_judge_facts.specs.Versions.{zone_in}
+use Rattle.answer_judge.specs.Versions.{zone_in}
 use Rattle.resolution_step.specs.KnownDs.{knows}
 use Rattle.resolution_tree.specs.Tree.{is_bound}
 use Rattle.resolution_tree.specs.Orderly.{IsOrderlyZone}

@@ -4,8 +4,8 @@ use Rattle.definitions.specs.Dnskey.{Ds}
 use Rattle.definitions.specs.Name.{Name, at_or_above}
 use Rattle.definitions.proofs.ZoneNames.{lowered_above}
 use Rattle.messages.specs.Message.{AreOctets, Asked}
-use Rattle.answer_judge_keys.specs.Judging.{JudgeInput}
-use Rattle.answer_judge_keys.specs.declared.verdict.Lasting.{Lasting}
+use Rattle.answer_judge.specs.Judging.{JudgeInput}
+use Rattle.answer_judge_facts.specs.declared.lasting.Lasting.{Lasting}
 use Rattle.resolution_step.specs.Told.{StepSeen, TellsVerdict, TellsLead, TellsDown, TellsUnsigned, TellsOpen, TellsNoCut, TellsNoneBelow, TellsNothing, AsksFor, IsCutTold, IsTold, at_cut}
 use Rattle.resolution_step.specs.declared.telling.Counts.{Counts}
 use Rattle.resolution_step.proofs.Downward.{cut_told_down, told_down}

@@ -9,8 +9,8 @@ use Rattle.definitions.specs.Name.{Name}
 use Rattle.definitions.proofs.Members.{In, contained}
 use Rattle.denial_laws.specs.Leading.{To}
 use Rattle.messages.specs.Message.{AreOctets, Asked}
-use Rattle.answer_judge_keys.specs.Judging.{JudgeInput}
-use Rattle.answer_judge_keys.specs.declared.verdict.Lasting.{Lasting}
+use Rattle.answer_judge.specs.Judging.{JudgeInput}
+use Rattle.answer_judge_facts.specs.declared.lasting.Lasting.{Lasting}
 use Rattle.resolution_tree.specs.Laws.{TreesResolveToOne}
 use Rattle.resolution_tree.specs.Orderly.{IsOrderlyTree, IsOrderlyZone}
 use Rattle.resolution_tree.specs.Tree.{Said, Leads, Resolves}

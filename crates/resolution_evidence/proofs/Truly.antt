@@ -9,8 +9,8 @@ use Rattle.definitions.proofs.ZoneNames.{lowered_above}
 use Rattle.denial_laws.specs.Leading.{To}
 use Rattle.denial_laws.proofs.NameFacts.{strictly_at}
 use Rattle.messages.specs.Message.{Asked}
-use Rattle.answer_judge_keys.specs.Judging.{JudgeInput}
-use Rattle.answer_judge_keys.specs.declared.verdict.Lasting.{Lasting}
+use Rattle.answer_judge.specs.Judging.{JudgeInput}
+use Rattle.answer_judge_facts.specs.declared.lasting.Lasting.{Lasting}
 use Rattle.resolution_tree.specs.Tree.{Said, Leads, Says, SaysItself, Itself, Below, Resolves, is_bound, is_within, refers_to, zone_at}
 use Rattle.resolution_tree.specs.Tree as tree
 use Rattle.resolution_tree.specs.Orderly.{IsOrderlyZone}

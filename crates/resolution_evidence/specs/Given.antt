@@ -5,7 +5,7 @@ use Rattle.std.specs.Option.{option_map}
 use Rattle.definitions.specs.Dnskey.{Ds}
 use Rattle.definitions.specs.Name.{Name, same}
 use Rattle.messages.specs.Message.{Asked}
-use Rattle.answer_judge_keys.specs.Judging.{JudgeInput, handed_for}
+use Rattle.answer_judge.specs.Judging.{JudgeInput, handed_for}
 use Rattle.resolution_step.specs.Table.{Checked}
 
 -- a message: the zone that it is of, and the question that it answers

@@ -5,8 +5,8 @@ use Rattle.definitions.specs.Dnskey.{Ds}
 use Rattle.definitions.specs.Name.{Name, same, at_or_above, strictly_above}
 use Rattle.denial_laws.specs.Leading.{To}
 use Rattle.messages.specs.Message.{AreOctets, Asked}
-use Rattle.answer_judge_keys.specs.Judging.{JudgeInput}
-use Rattle.answer_judge_keys.specs.declared.verdict.Lasting.{Lasting}
+use Rattle.answer_judge.specs.Judging.{JudgeInput}
+use Rattle.answer_judge_facts.specs.declared.lasting.Lasting.{Lasting}
 use Rattle.resolution_tree.specs.Laws.{AreAlike}
 use Rattle.resolution_tree.specs.Tree.{Said, Leads, leads_on}
 use Rattle.resolution_step.specs.Proved.{IsCutProved, IsProved}

@@ -6,8 +6,8 @@ use Rattle.definitions.specs.Name.{Name}
 use Rattle.definitions.specs.Zone.{cut, data_at}
 use Rattle.messages.specs.Message.{Asked}
 use Rattle.resolution_step.specs.Versions.{Version}
-use Rattle.answer_judge_keys.specs.Judging.{JudgeInput}
-use Rattle.answer_judge_keys.specs.declared.verdict.Lasting.{Lasting}
+use Rattle.answer_judge.specs.Judging.{JudgeInput}
+use Rattle.answer_judge_facts.specs.declared.lasting.Lasting.{Lasting}
 use Rattle.resolution_step.specs.Table.{AreTrue, Tried, answers_with, passes_in}
 use Rattle.resolution_step.specs.Truth.{AreHonestBeside}
 use Rattle.resolution_tree.specs.Tree.{Tree, TreeZone, Said, Resolves, is_bound, zone_at}

@@ -7,9 +7,9 @@ use Rattle.definitions.specs.Name.{Name, at_or_above, low, same}
 use Rattle.definitions.specs.Zone.{Verdict, Records, NoType, NoName, StarRecords, StarNoType, Delegated, Open, Unsigned}
 use Rattle.definitions.proofs.ZoneNames.{lowered_above}
 use Rattle.messages.specs.Message.{AreOctets, Asked}
-use Rattle.answer_judge_keys.specs.Judging.{JudgeInput}
-use Rattle.answer_judge_keys.specs.declared.verdict.Lasting.{Lasting}
-use Rattle.answer_judge_facts.specs.Lasting.{at_moment}
+use Rattle.answer_judge.specs.Judging.{JudgeInput}
+use Rattle.answer_judge_facts.specs.declared.lasting.Lasting.{Lasting}
+use Rattle.answer_judge.specs.Lasts.{at_moment}
 use Rattle.answer_findings.specs.Judgements.{aside, asking, cut_question}
 use Rattle.answer_findings.specs.Seen.{Seen, SeesVerdict, SeesDelegated, SeesNoDs, SeesAlias, SeesStarAlias, SeesOpen, SeesDname, SeesReferral}
 use Rattle.answer_findings.specs.Table.{Checked}

@@ -10,16 +10,16 @@ use Rattle.denial_laws.specs.Leading as leading
 use Rattle.messages.specs.Message.{AreOctets, Asked, Message, message}
 use Rattle.messages.specs.declared.error.MessageError.{MessageError}
 use Rattle.answer_scheme.specs.Answers.{Answers}
-use Rattle.answer_judge_keys.specs.Judging.{Answer, Says, Refuses, JudgeInput, answer_of, first_refusal}
-use Rattle.answer_judge_keys.specs.declared.verdict.Judgement.{Judgement}
-use Rattle.answer_judge_keys.specs.declared.verdict.Lasting.{Lasting}
-use Rattle.answer_judge_keys.specs.declared.verdict.Refusal.{Refusal}
-use Rattle.answer_judge_keys.specs.declared.verdict.Refusal.TheVariants as r
-use Rattle.answer_judge_keys.specs.declared.verdict.Refused.{Refused}
-use Rattle.answer_judge_facts.specs.Judged.{judged, judged_bytes, judged_messages}
-use Rattle.answer_judge_facts.specs.Lasting.{at_moment, lasting_in_messages}
-use Rattle.answer_judge_facts.specs.Lasting as facts
-use Rattle.answer_judge_facts.proofs.StayAlike.{verdicts_last}
+use Rattle.answer_judge.specs.Judging.{Answer, Says, Refuses, JudgeInput, answer_of, first_refusal}
+use Rattle.answer_judge.specs.declared.verdict.Judgement.{Judgement}
+use Rattle.answer_judge_facts.specs.declared.lasting.Lasting.{Lasting}
+use Rattle.answer_judge.specs.declared.verdict.Refusal.{Refusal}
+use Rattle.answer_judge.specs.declared.verdict.Refusal.TheVariants as r
+use Rattle.answer_judge.specs.declared.verdict.Refused.{Refused}
+use Rattle.answer_judge.specs.Judged.{judged, judged_bytes, judged_messages}
+use Rattle.answer_judge.specs.Lasts.{at_moment, lasting_in_messages}
+use Rattle.answer_judge.specs.Lasts as facts
+use Rattle.answer_judge.proofs.StayAlike.{verdicts_last}
 use Rattle.answer_judge_table.specs.Outcomes.{IsJudgedBy}
 use Rattle.answer_findings.specs.Table.{AgreesWith, Checked, answers_with, passes_in}
 use Rattle.answer_findings.specs.Found.{IsFound, IsFoundBy}

@@ -17,8 +17,8 @@ use Rattle.denial_laws.proofs.ZoneCuts.{IsCut, cut_is, cut_live, delegation_owne
 use Rattle.denial_laws.proofs.ZoneCuts as cuts
 use Rattle.answer_findings.specs.Honest.{IsSaidByOne}
 use Rattle.answer_findings.specs.Versions.{Version, zone_in}
-use Rattle.answer_judge_keys.specs.Judging.{JudgeInput}
-use Rattle.answer_judge_keys.specs.declared.verdict.Lasting.{Lasting}
+use Rattle.answer_judge.specs.Judging.{JudgeInput}
+use Rattle.answer_judge_facts.specs.declared.lasting.Lasting.{Lasting}
 use Rattle.answer_findings.specs.Table.{Checked}
 use Rattle.answer_findings.specs.declared.finding.Found.{Found}
 use Rattle.answer_findings.specs.declared.finding.Found.TheVariants as f

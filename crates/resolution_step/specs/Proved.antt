@@ -4,10 +4,10 @@ use Rattle.definitions.specs.Limits.{pointer_limit}
 use Rattle.definitions.specs.Name.{Name, same}
 use Rattle.definitions.specs.Zone.{Verdict, Records, NoType, Delegated}
 use Rattle.messages.specs.Message.{AreOctets, Asked}
-use Rattle.answer_judge_keys.specs.Judging.{JudgeInput, Says}
-use Rattle.answer_judge_keys.specs.declared.verdict.Lasting.{Lasting}
-use Rattle.answer_judge_facts.specs.Judged.{judged}
-use Rattle.answer_judge_facts.specs.Lasting.{at_moment}
+use Rattle.answer_judge.specs.Judging.{JudgeInput, Says}
+use Rattle.answer_judge_facts.specs.declared.lasting.Lasting.{Lasting}
+use Rattle.answer_judge.specs.Judged.{judged}
+use Rattle.answer_judge.specs.Lasts.{at_moment}
 use Rattle.answer_findings.specs.Judgements.{alias_hint, aside, asking, cut_question, is_delegated}
 use Rattle.answer_findings.specs.Seen.{Seen, SeesVerdict, SeesDelegated, SeesNoDs, SeesAlias, SeesStarAlias, SeesOpen, SeesDname, SeesReferral, answers_ds, lead_said}
 use Rattle.answer_findings.specs.Table.{AgreesWith, Checked, Tried, answers_with}

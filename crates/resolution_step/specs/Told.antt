@@ -6,9 +6,9 @@ use Rattle.definitions.specs.Zone.{Verdict, Records, NoType, NoName, StarRecords
 use Rattle.denial_laws.specs.Leading.{Lead, To}
 use Rattle.messages.specs.Message.{Asked}
 use Rattle.answer_judge_rules.specs.Rules.{verdict_of}
-use Rattle.answer_judge_keys.specs.Judging.{JudgeInput}
-use Rattle.answer_judge_keys.specs.declared.verdict.Lasting.{Lasting}
-use Rattle.answer_judge_keys.specs.declared.verdict.Refusal.{Refusal}
+use Rattle.answer_judge.specs.Judging.{JudgeInput}
+use Rattle.answer_judge_facts.specs.declared.lasting.Lasting.{Lasting}
+use Rattle.answer_judge.specs.declared.verdict.Refusal.{Refusal}
 use Rattle.answer_findings.specs.Table.{Checked, Tried}
 use Rattle.answer_findings.specs.declared.finding.Found.{Found}
 use Rattle.answer_findings.specs.declared.finding.Found.TheVariants as f

@@ -7,7 +7,7 @@ use Rattle.definitions.specs.Zone.{Zone, apex_of, cut, is_open, data_at}
 use Rattle.definitions.specs.ZoneChain.{optout_of}
 use Rattle.denial_laws.specs.Aliases.{is_aliased}
 use Rattle.answer_findings.specs.Versions.{Version, zone_in}
-use Rattle.answer_judge_keys.specs.Judging.{JudgeInput}
+use Rattle.answer_judge.specs.Judging.{JudgeInput}
 use Rattle.answer_findings.specs.Table.{AreTrue, Checked, Tried, answers_with, passes_in}
 pub use Rattle.answer_findings.specs.Truth.{AreHonestBeside}
 use Rattle.resolution_tree.specs.Tree.{TreeZone, Secure, LeftOpen, Leads, SaysItself, is_bound, refers_to}

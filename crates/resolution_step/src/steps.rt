@@ -20,6 +20,13 @@ use messages::question::Question;
 use names_rdata::rtype::Rtype;
 use std::alloc::{AllocError, Global};
 
+/// The signatures that were checked, and of which algorithms: none stands for all.
+#[derive(Drop)]
+struct SignatureChecks<'a> {
+    table: &'a [CheckedSignature<'a>],
+    algorithms: &'a [u8],
+}
+
 /// Says what a message of a zone tells of a question: the zone's verdict, where the name leads as
 /// an alias, the way down to the zone below, or from where on nothing is signed. With it comes how
 /// long that lasts, and how often was verified and hashed for it.
@@ -42,18 +49,19 @@ pub fn step(
         IfOk result (λ t. TellsTruly algorithms.now table.now h (told t.step)) }
 {
     let found = find(alloc, case, table)?;
-    searched_step(alloc, case, table, algorithms, found)
+    let checks = SignatureChecks { table, algorithms };
+    searched_step(alloc, case, &checks, found)
 }
 
 /// What a search comes to tells this of its question.
 fn searched_step(
     alloc: Global,
     case: &Case,
-    table: &[CheckedSignature],
-    algorithms: &[u8],
+    checks: &SignatureChecks,
     found: Found,
 ) -> Result<Telling, AllocError>
-    ensures { IfOk result (IsFoundTelling algorithms.now table.now case.now found) }
+    ensures { let k = checks.now in
+        IfOk result (IsFoundTelling k.algorithms.now k.table.now case.now found) }
 {
     match found {
         Found::Finds {
@@ -66,7 +74,7 @@ fn searched_step(
                 verifications,
                 hashes,
             };
-            finding_step(alloc, case, table, algorithms, finding, lasting, counts)
+            finding_step(alloc, case, checks, finding, lasting, counts)
         }
         Found::Refused {
             refusal,
@@ -98,18 +106,17 @@ fn searched_step(
 fn finding_step(
     alloc: Global,
     case: &Case,
-    table: &[CheckedSignature],
-    algorithms: &[u8],
+    checks: &SignatureChecks,
     finding: Finding,
     lasting: Option<Lasting>,
     counts: Counts,
 ) -> Result<Telling, AllocError>
-    ensures { let x = seen finding in
-        IfOk result (IsSeenTelling algorithms.now table.now case.now x lasting counts) }
+    ensures { let k = checks.now in let x = seen finding in
+        IfOk result (IsSeenTelling k.algorithms.now k.table.now case.now x lasting counts) }
 {
     match finding {
         Finding::Delegated(Some(cut)) => {
-            delegated_step(alloc, case, table, algorithms, cut, lasting, counts)
+            delegated_step(alloc, case, checks, cut, lasting, counts)
         }
         Finding::Delegated(None) => Ok(lasts(Step::Untold(None), lasting, counts)),
         Finding::Verdict(verdict) => Ok(lasts(verdict_step(verdict), lasting, counts)),
@@ -119,7 +126,7 @@ fn finding_step(
         Finding::LeftOpen => Ok(lasts(Step::LeftOpen, lasting, counts)),
         Finding::Dname { leads, .. } => Ok(lasts(Step::Leads(leads), lasting, counts)),
         Finding::Referral { cut, ds } => {
-            let step = referral_step(alloc, case.question, algorithms, &cut, ds)?;
+            let step = referral_step(alloc, case.question, checks.algorithms, &cut, ds)?;
             Ok(lasts(step, lasting, counts))
         }
     }
@@ -129,15 +136,15 @@ fn finding_step(
 fn delegated_step(
     alloc: Global,
     case: &Case,
-    table: &[CheckedSignature],
-    algorithms: &[u8],
+    checks: &SignatureChecks,
     cut: Name<Vec<u8>>,
     lasting: Option<Lasting>,
     counts: Counts,
 ) -> Result<Telling, AllocError>
-    ensures { IfOk result (IsTellingAt algorithms.now table.now case.now cut lasting counts) }
+    ensures { let k = checks.now in
+        IfOk result (IsTellingAt k.algorithms.now k.table.now case.now cut lasting counts) }
 {
-    let below = ds_step(alloc, case, table, algorithms, cut)?;
+    let below = ds_step(alloc, case, checks, cut)?;
     let both = least_of(lasting, below.lasting);
     let sums = counts.plus(below.counts);
     Ok(lasts(at_cut(below.step), both, sums))
@@ -147,12 +154,11 @@ fn delegated_step(
 fn ds_step(
     alloc: Global,
     case: &Case,
-    table: &[CheckedSignature],
-    algorithms: &[u8],
+    checks: &SignatureChecks,
     name: Name<Vec<u8>>,
 ) -> Result<Telling, AllocError>
-    ensures { let h = aside case.now (asking case.now name 43) in
-        IfOk result (IsCutTelling algorithms.now table.now h) }
+    ensures { let h = aside case.now (asking case.now name 43) in let k = checks.now in
+        IfOk result (IsCutTelling k.algorithms.now k.table.now h) }
 {
     let question = Question {
         name,
@@ -170,7 +176,7 @@ fn ds_step(
         one_moment: case.one_moment,
         other_question: true,
     };
-    cut_step(alloc, &beside, table, algorithms)
+    cut_step(alloc, &beside, checks.table, checks.algorithms)
 }
 
 /// At a delegation that is proved, a message that says there is none tells nothing.

@@ -3,10 +3,10 @@ ghost use Rattle.std.specs.Prelude.{◌≡◌, ◌<◌};
 ghost use Rattle.definitions.specs.Limits.{pointer_limit};
 ghost use Rattle.answer_scheme.specs.Answers.{answers_by};
 ghost use Rattle.answer_judge.specs.Meeting.{JudgesSo};
-ghost use Rattle.answer_judge_facts.specs.Lasting.{LastsSo};
+ghost use Rattle.answer_judge.specs.Lasts.{LastsSo};
 
 use crate::case::Case;
-use answer_judge_keys::verdict::{Judgement, Refused};
+use crate::verdict::{Judgement, Refused};
 use answer_scheme::counting::SchemeChecks;
 use answer_scheme::scheme::Scheme;
 use denial_nsec3_hash::hasher::Nsec3Hasher;

@@ -3,13 +3,14 @@
 ghost use Rattle.std.specs.Prelude.{◌≡◌, ◌≤◌, ◌+◌, not, IfErr, None};
 ghost use Rattle.std.specs.List.{list_any};
 ghost use Rattle.answer_scheme.specs.Answers.{NoneVerified};
-ghost use Rattle.answer_judge_keys.specs.Judging.{RefusesFirst, hash_bound};
-ghost use Rattle.answer_judge_facts.specs.Judged.{are_alike, are_mixed, are_over, judged_facts, judged_proof, said, AnswersAs};
-ghost use Rattle.answer_judge_facts.specs.Counted.{hashes_of_facts, hashes_of_proof, Counts};
+ghost use Rattle.answer_judge.specs.Judging.{RefusesFirst, hash_bound};
+ghost use Rattle.answer_judge.specs.Judged.{are_alike, are_mixed, are_over, judged_facts, judged_proof, said, AnswersAs};
+ghost use Rattle.answer_judge.specs.Due.{hashes_of_facts, hashes_of_proof, Counts};
 
 use crate::case::Case;
+use crate::verdict::{Refusal, Verdict};
 use answer_judge_facts::facts::Proof;
-use answer_judge_keys::verdict::{Refusal, Verdict};
+use answer_judge_rules::asked::Asked;
 use answer_judge_rules::decide::{Facts, HashLink, decide};
 use answer_scheme::checks::Checks;
 use std::alloc::Global;
@@ -72,15 +73,12 @@ fn judge_facts<C: Checks>(
         return Err(Refusal::IterationsOverLimit);
     }
     let question = case.question;
-    let verdict = decide(
-        alloc,
-        case.apex,
-        facts,
-        &question.name,
-        question.rtype,
-        checks,
-        hashes,
-    )?;
+    let asked = Asked {
+        apex: case.apex,
+        name: &question.name,
+        rtype: question.rtype,
+    };
+    let verdict = decide(alloc, &asked, facts, checks, hashes)?;
     verdict.ok_or(Refusal::NotProven)
 }
 

@@ -6,23 +6,22 @@ ghost use Rattle.messages.specs.Record.{spelled};
 ghost use Rattle.answer_judge.specs.Stages.{FindsSigned, FindsUnsigned, trusting_named};
 ghost use Rattle.answer_judge_facts.specs.Asked.{Implies, is_tried_among};
 ghost use Rattle.answer_judge_keys.specs.Trusted.{is_signature, is_usable};
-ghost use Rattle.answer_judge_facts.specs.Judged.{trusting};
+ghost use Rattle.answer_judge.specs.Judged.{trusting};
 ghost use Rattle.answer_judge_facts.specs.Lasting.{answer_lasting, key_seconds, least_of};
-ghost use Rattle.answer_judge_keys.specs.Judging.{keys_in};
+ghost use Rattle.answer_judge_keys.specs.DnskeyAnswer.{keys_in};
 ghost use Rattle.answer_judge_facts.specs.Sought.{answer_sought, keys_sought};
 ghost use Rattle.answer_judge_facts.specs.VerifiedProof.{IsVerifiedProof};
 ghost use Rattle.answer_scheme.specs.Answers.{EachAgreeing, SignatureTest};
 ghost use Rattle.answer_shared.specs.EqualTags.{has_equal_tags};
 
 use crate::case::Case;
+use crate::verdict::Refusal;
 use answer_judge_facts::facts::{Proof, read_facts};
 use answer_judge_facts::key_rrset::are_verified;
 use answer_judge_keys::check_run::CheckRun;
-use answer_judge_keys::keys::{
-    TaggedKey, has_equal_tags, ranked_keys, read_keys, trusted_keys, usable_keys,
-};
+use answer_judge_keys::key_index::KeyIndex;
+use answer_judge_keys::keys::{TaggedKey, read_keys, trusted_keys, usable_keys};
 use answer_judge_keys::trust::Trust;
-use answer_judge_keys::verdict::Refusal;
 use answer_scheme::checks::Checks;
 use messages::ViewRecord;
 use messages::names::ZoneName;
@@ -45,8 +44,10 @@ pub(crate) fn read_unlike_keys<'a>(
         IfErr result (λ e. (e ≡ Refusal.Memory) ⊎ ((e ≡ Refusal.EqualTags) × (are_equal ≡ true))) }
 {
     let keys = read_keys(alloc, case.apex, case.dnskey, records)?;
-    let by_tag = ranked_keys(alloc, &keys)?;
-    if has_equal_tags(&keys, &by_tag) {
+    let index = KeyIndex::new(alloc, &keys)?;
+    let are_equal = index.has_equal_tags();
+    drop(index);
+    if are_equal {
         return Err(Refusal::EqualTags);
     }
     Ok(keys)
@@ -98,12 +99,11 @@ pub(crate) fn keys_that_may_sign<'a, C: Checks>(
 {
     check_run.octets.reserve(512)?;
     let trusted = trusted_keys(case.apex, case.ds, &keys, check_run)?;
-    let by_tag = ranked_keys(check_run.alloc, &trusted)?;
+    let index = KeyIndex::new(check_run.alloc, &trusted)?;
     let trust = Trust {
         apex: case.apex,
         depth: case.apex.depth(),
-        keys: &trusted,
-        ranked: &by_tag,
+        keys: &index,
         moment: case.moment.timestamp(),
     };
     if !are_verified(case.dnskey, records, &keys, &trust, check_run, seconds)? {
@@ -148,12 +148,11 @@ pub(crate) fn read_proof<'a, C: Checks>(
     ensures same { C.answers check_run.new.checks.now ≡ C.answers check_run.old.checks.now }
     ensures same_checks { check_run.new.checks.ghost_name ≡ check_run.old.checks.ghost_name }
 {
-    let by_tag = ranked_keys(check_run.alloc, keys)?;
+    let index = KeyIndex::new(check_run.alloc, keys)?;
     let trust = Trust {
         apex: case.apex,
         depth: case.apex.depth(),
-        keys,
-        ranked: &by_tag,
+        keys: &index,
         moment: case.moment.timestamp(),
     };
     let question = case.question;

@@ -1,6 +1,6 @@
 use Rattle.std.proofs.Common.{None, refl, subst, inl, inr}
 use Rattle.definitions.specs.Limits.{pointer_limit}
-use Rattle.answer_judge_keys.specs.Judging.{answer_of}
+use Rattle.answer_judge.specs.Judging.{answer_of}
 use Rattle.answer_findings.specs.Found.{AsksBehind}
 use Rattle.answer_findings.specs.Judgements.{alias_question, ds_question, ns_question}
 use Rattle.answer_findings.specs.Seen.{judgements_up_to}

@@ -1,5 +1,5 @@
 use Rattle.definitions.specs.Limits.{pointer_limit}
-use Rattle.answer_judge_keys.specs.Judging.{answer_of}
+use Rattle.answer_judge.specs.Judging.{answer_of}
 use Rattle.answer_findings.specs.Judgements.{ns_question}
 use Rattle.answer_findings.proofs.Searched.{sought}
 use Rattle.answer_findings.proofs.sought.judged_ns.Goals as goal

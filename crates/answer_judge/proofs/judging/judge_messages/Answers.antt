@@ -9,15 +9,17 @@ use Rattle.messages.proofs.CountedRecords.{same_count}
 use Rattle.answer_judge.specs.Beyond.{SaysBeyond}
 use Rattle.answer_judge.specs.Stages.{FindsUnsigned}
 use Rattle.answer_scheme.specs.Answers.{Answers, with_test}
-use Rattle.answer_judge_facts.specs.Counted.{hashes_beyond, hashes_of_proof, tries}
-use Rattle.answer_judge_facts.specs.Judged.{AnswersAs, ds_authenticates_keys, judged_beyond, judged_proof, said, trusting}
-use Rattle.answer_judge_keys.specs.Judging.{JudgeInput, IsRead, Refuses, RefusesFirst, keys_in, message_refusal}
+use Rattle.answer_judge_facts.specs.Counted.{tries}
+use Rattle.answer_judge.specs.Due.{hashes_beyond, hashes_of_proof}
+use Rattle.answer_judge.specs.Judged.{AnswersAs, ds_authenticates_keys, judged_beyond, judged_proof, said, trusting}
+use Rattle.answer_judge.specs.Judging.{JudgeInput, IsRead, Refuses, RefusesFirst, message_refusal}
+use Rattle.answer_judge_keys.specs.DnskeyAnswer.{keys_in}
 use Rattle.answer_judge_facts.specs.Lasting.{answer_lasting}
 use Rattle.answer_judge_facts.specs.Sought.{answer_sought}
 use Rattle.answer_judge_facts.specs.Times.{are_unlike, proof_times}
 use Rattle.answer_judge_facts.specs.Verified.{verified_facts}
-use Rattle.answer_judge_keys.specs.declared.verdict.Lasting.{Lasting}
-use Rattle.answer_judge_keys.specs.declared.verdict.Refusal.{Refusal}
+use Rattle.answer_judge_facts.specs.declared.lasting.Lasting.{Lasting}
+use Rattle.answer_judge.specs.declared.verdict.Refusal.{Refusal}
 use Rattle.answer_judge_facts.proofs.JudgeAsked.{agreed, agreed_by}
 use Rattle.answer_judge.proofs.Decided.{enough, few, last}
 use Rattle.answer_judge.proofs.JudgeAsks.{answer_pass, keys_pass}

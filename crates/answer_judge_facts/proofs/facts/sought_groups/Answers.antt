@@ -8,12 +8,12 @@ use Rattle.answer_judge_facts.proofs.GroupPlaces.{asked_ranked}
 use Rattle.answer_judge_facts.proofs.facts.sought_groups.Goals as goal
 
 pub read_chain_groups-requires-clause-chain : goal.read_chain_groups-requires-clause-chain
-read_chain_groups-requires-clause-chain c = all_chain c.args.message.now c.args.apex.now (map spelled c.args.records.now) (map spelled c.args.chained.now) c.requires.moved
+read_chain_groups-requires-clause-chain c = all_chain c.args.message.now c.args.asked.now.apex.now (map spelled c.args.records.now) (map spelled c.args.chained.now) c.requires.moved
 
 pub returns : goal.returns
 returns c =
     let m = c.args.message.now in
-    let apex = c.args.apex.now in
+    let apex = c.args.asked.now.apex.now in
     let rs = map spelled c.args.records.now in
     let chains = c.in_ok-groups.groups.items in
     let asked = c.in_ok-read_group.field-0 in
@@ -28,6 +28,6 @@ returns c =
       gathered = whole;
       owner_is = is.owner ∙ c.in_ok-owner.ensures;
       rtype_is = is.rtype;
-      datas_are = is.items ∙ ap (λ n. rrset_in pointer_limit m rs n c.args.rtype) c.in_ok-owner.ensures;
+      datas_are = is.items ∙ ap (λ n. rrset_in pointer_limit m rs n c.args.asked.now.rtype) c.in_ok-owner.ensures;
       unverified = is.unverified;
     }

@@ -1,5 +1,5 @@
 use Rattle.std.proofs.Common.{◌≡◌, ◌++◌, drop, map}
-use Rattle.answer_judge_keys.specs.Judging.{keys_in}
+use Rattle.answer_judge_keys.specs.DnskeyAnswer.{keys_in}
 use Rattle.messages.specs.Record.{spelled}
 use Rattle.answer_judge_keys.proofs.keys.read_keys.Given as goal
 

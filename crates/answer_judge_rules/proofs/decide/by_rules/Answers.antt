@@ -10,14 +10,14 @@ use Rattle.answer_judge_rules.proofs.decide.by_rules.Goals as goal
 pub returns-clause-verdict : goal.returns-clause-verdict
 returns-clause-verdict g c =
     let a = (g.C.Checks.answers c.args.checks.now).hash in
-    let apex = c.args.apex.now in
+    let apex = c.args.asked.now.apex.now in
     let r = c.facts.inside.rrset in
     let ls = c.facts.inside.links.items in
     let hs = c.facts.inside.hash_links.items in
     let h = c.in-Some.first.now in
     let rest = c.in-Some.field-0-1.now in
-    let q = c.args.name.now in
-    let t = c.args.rtype in
+    let q = c.args.asked.now.name.now in
+    let t = c.args.asked.now.rtype in
     let first : hs ≡ h ∷ rest = sym c.deref.ensures.value ∙ c.in-Some.ensures.cases.0 in
     subst (λ x. Says c.by_hash_links.result x)
     (ap (λ ms. by_hashes apex (hash_as a h) r ms q t) c.deref-2.ensures.value
@@ -28,13 +28,13 @@ returns-clause-verdict g c =
 pub returns-clause-hashes : goal.returns-clause-hashes
 returns-clause-hashes g c =
     let a = (g.C.Checks.answers c.args.checks.now).hash in
-    let apex = c.args.apex.now in
+    let apex = c.args.asked.now.apex.now in
     let r = c.facts.inside.rrset in
     let ls = c.facts.inside.links.items in
     let hs = c.facts.inside.hash_links.items in
     let h = c.in-Some.first.now in
     let rest = c.in-Some.field-0-1.now in
-    let q = c.args.name.now in
+    let q = c.args.asked.now.name.now in
     let before = g.C.Checks.hashed c.args.checks.now in
     let after = g.C.Checks.hashed c.by_hash_links.new.checks in
     let first : hs ≡ h ∷ rest = sym c.deref.ensures.value ∙ c.in-Some.ensures.cases.0 in

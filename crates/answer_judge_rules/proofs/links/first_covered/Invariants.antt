@@ -6,6 +6,6 @@ use Rattle.answer_judge_rules.proofs.links.first_covered.Given as goal
 
 abbrev pub invariant-loop-link : goal.invariant-loop-link
 invariant-loop-link l = record {
-  rest : first_some (covered l.apex l.name l.rtype l.links) (drop l.link-index l.links) ≡ first_some (covered l.apex l.name l.rtype l.links) l.links;
-  sought : IfSome l.sought (IsUntold l.apex l.name l.rtype l.links);
+  rest : first_some (covered l.asked.apex.now l.asked.name.now l.asked.rtype l.links) (drop l.link-index l.links) ≡ first_some (covered l.asked.apex.now l.asked.name.now l.asked.rtype l.links) l.links;
+  sought : IfSome l.sought (IsUntold l.asked.apex.now l.asked.name.now l.asked.rtype l.links);
 }

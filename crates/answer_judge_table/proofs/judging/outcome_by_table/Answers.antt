@@ -1,8 +1,8 @@
 use Rattle.std.proofs.Common.{◌≡◌, ◌==◌, false, inr, length, ap, subst, sym, ◌∙◌, arith, rules}
 use Rattle.definitions.specs.Limits.{pointer_limit}
 use Rattle.answer_scheme.specs.Answers.{Answers, SignatureTest}
-use Rattle.answer_judge_facts.specs.Asked.{is_tried_signature}
-use Rattle.answer_judge_keys.specs.Judging.{answer_of, hashes_of, verifications_of}
+use Rattle.answer_judge.specs.Tried.{is_tried_signature}
+use Rattle.answer_judge.specs.Judging.{answer_of, hashes_of, verifications_of}
 use Rattle.answer_judge.specs.Meeting.{IsJudgement}
 use Rattle.answer_judge_table.specs.Asking.{PassesEach, is_cut_short}
 use Rattle.answer_judge_table.specs.Table.{answers_with, may_pass_in, tried}

@@ -1,4 +1,4 @@
-use Rattle.std.proofs.Common.{◌≡◌, ℕ, Bool, true, false, List, map, filter, sym, ap, subst, ◌∙◌}
+use Rattle.std.proofs.Common.{◌≡◌, ℕ, Bool, true, false, List, map, filter, sym, ap, ◌∙◌}
 use Rattle.std.specs.Prelude.{Some, None, if◌then◌else◌}
 use Rattle.definitions.specs.Dnskey.{Dnskey, dnskey_data}
 use Rattle.definitions.specs.Limits.{pointer_limit}
@@ -7,17 +7,11 @@ use Rattle.messages.specs.Message.{Spelled}
 use Rattle.messages.specs.Record.{spelled}
 use Rattle.answer_scheme.specs.Answers.{Answers, SignatureTest, with_test}
 use Rattle.answer_judge.specs.Stages.{are_signed, trusting_named}
-use Rattle.answer_judge_keys.specs.Judging.{JudgeInput}
-use Rattle.answer_judge_keys.specs.KeyOrder.{Ranks}
+use Rattle.answer_judge.specs.Judging.{JudgeInput}
 use Rattle.answer_judge_keys.specs.Trusted.{is_trusted, is_usable}
 use Rattle.answer_judge_facts.specs.Verified.{Trusting, is_verified}
 use Rattle.answer_judge_facts.proofs.JudgeAsked.{agreed_by}
 use Rattle.answer_verified_records.proofs.keys.signing_keys.Goals as goal
-
-pub are_verified-requires-clause-index : goal.are_verified-requires-clause-index
-are_verified-requires-clause-index g c =
-    subst (λ ks. Ranks ks c.deref-4.result.now) (sym c.deref-3.ensures.value)
-    (subst (λ vs. Ranks c.in_ok-trusted.trusted.items vs) (sym c.deref-4.ensures.value) (subst (λ ks. Ranks ks c.in_ok-by_tag.by_tag.items) c.deref-2.ensures.value c.in_ok-by_tag.ensures))
 
 -- what was found out of the keys, said of what is handed in
 module _ (own : Answers) (test : SignatureTest) (h now : JudgeInput) (is : now ≡ h) (rs : List Spelled) (ks held trusted : List Dnskey) (named : trusted ≡ filter (is_trusted own h.apex h.ds) ks) (items : held ≡ ks) (checks : Answers) (same : checks ≡ own) (moment : ℕ) (at : moment ≡ h.now) where
@@ -37,10 +31,10 @@ returns-then-branch-clause-exact g c = λ test fits.
     let moment = c.timestamp.ensures ∙ ap (λ (h : JudgeInput). h.now) is in
     let rest = c.in_ok-trusted.ensures.rest in
     let same = ap (λ v. g.C.Checks.answers v.checks.now) rest in
-    let named = c.deref-3.ensures.value ∙ c.in_ok-trusted.ensures.trusted ∙ (λ i. filter (is_trusted own (is i).apex (is i).ds) (c.deref.ensures.value i)) in
+    let named = c.in_ok-index.ensures ∙ c.deref-2.ensures.value ∙ c.in_ok-trusted.ensures.trusted ∙ (λ i. filter (is_trusted own (is i).apex (is i).ds) (c.deref.ensures.value i)) in
     let first = agreed_by own _ test _ same fits in
     let ks = c.args.keys.items in
-    let found = found_out own test c.args.case.now _ is (map spelled c.args.records.now) ks c.deref-5.result.now c.deref-3.result.now named c.deref-5.ensures.value _ same _ moment _ (c.in_ok-are_verified.ensures.exact test first) in
+    let found = found_out own test c.args.case.now _ is (map spelled c.args.records.now) ks c.deref-3.result.now c.in_ok-index.index named c.deref-3.ensures.value _ same _ moment _ (c.in_ok-are_verified.ensures.exact test first) in
     ap (λ (us : List Dnskey). Some us) c.usable_keys.ensures ∙ ap (λ (b : Bool). if b then Some (filter is_usable ks) else None) (sym c.if-branch.true ∙ found)
 
 pub returns-clause-exact : goal.returns-clause-exact
@@ -50,8 +44,8 @@ returns-clause-exact g c = λ test fits.
     let moment = c.timestamp.ensures ∙ ap (λ (h : JudgeInput). h.now) is in
     let rest = c.in_ok-trusted.ensures.rest in
     let same = ap (λ v. g.C.Checks.answers v.checks.now) rest in
-    let named = c.deref-3.ensures.value ∙ c.in_ok-trusted.ensures.trusted ∙ (λ i. filter (is_trusted own (is i).apex (is i).ds) (c.deref.ensures.value i)) in
+    let named = c.in_ok-index.ensures ∙ c.deref-2.ensures.value ∙ c.in_ok-trusted.ensures.trusted ∙ (λ i. filter (is_trusted own (is i).apex (is i).ds) (c.deref.ensures.value i)) in
     let first = agreed_by own _ test _ same fits in
     let ks = c.args.keys.items in
-    let found = found_out own test c.args.case.now _ is (map spelled c.args.records.now) ks c.deref-5.result.now c.deref-3.result.now named c.deref-5.ensures.value _ same _ moment _ (c.in_ok-are_verified.ensures.exact test first) in
+    let found = found_out own test c.args.case.now _ is (map spelled c.args.records.now) ks c.deref-3.result.now c.in_ok-index.index named c.deref-3.ensures.value _ same _ moment _ (c.in_ok-are_verified.ensures.exact test first) in
     ap (λ (b : Bool). if b then Some (filter is_usable ks) else None) (sym c.if-branch.false ∙ found)

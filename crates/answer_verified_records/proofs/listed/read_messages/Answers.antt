@@ -3,7 +3,7 @@ use Rattle.std.specs.Prelude.{None, Some}
 use Rattle.std.specs.Result.{result_ok}
 use Rattle.definitions.specs.Limits.{pointer_limit}
 use Rattle.messages.specs.Message.{message}
-use Rattle.answer_judge_keys.specs.Judging.{JudgeInput}
+use Rattle.answer_judge.specs.Judging.{JudgeInput}
 use Rattle.answer_verified_records.proofs.ReadCase.{no_answer, no_keys, ok_from}
 use Rattle.answer_verified_records.proofs.listed.read_messages.Goals as goal
 

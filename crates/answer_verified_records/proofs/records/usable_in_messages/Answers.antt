@@ -4,7 +4,7 @@ use Rattle.definitions.specs.Limits.{pointer_limit}
 use Rattle.messages.specs.Record.{spelled}
 use Rattle.answer_scheme.specs.Answers.{with_test}
 use Rattle.answer_judge_keys.specs.Trusted.{is_usable}
-use Rattle.answer_judge_facts.specs.Judged.{trusting}
+use Rattle.answer_judge.specs.Judged.{trusting}
 use Rattle.answer_judge_facts.proofs.JudgeAsked.{agreed}
 use Rattle.answer_verified_records.specs.Records.{signing_keys, verified_in_answer}
 use Rattle.answer_verified_records.proofs.SigningKeys.{signed}

@@ -3,7 +3,7 @@ use Rattle.std.specs.Prelude.{IfOk, None, Some}
 use Rattle.definitions.specs.Limits.{pointer_limit}
 use Rattle.messages.specs.Record.{spelled}
 use Rattle.answer_scheme.specs.Answers.{Answers, with_test}
-use Rattle.answer_judge_facts.specs.Judged.{trusting}
+use Rattle.answer_judge.specs.Judged.{trusting}
 use Rattle.answer_judge_facts.proofs.JudgeAsked.{agreed, agreed_by}
 use Rattle.answer_verified_records.specs.Records.{signing_keys, verified_in_answer}
 use Rattle.answer_verified_records.proofs.SigningKeys.{signed, unsigned}

@@ -1,5 +1,5 @@
 use Rattle.std.proofs.Common.{ap}
-use Rattle.answer_judge_keys.specs.Judging.{JudgeInput}
+use Rattle.answer_judge.specs.Judging.{JudgeInput}
 use Rattle.resolution_step.proofs.Truly.{cut_honest, cut_in}
 use Rattle.resolution_step.proofs.cuts.cut_step.Goals as goal
 

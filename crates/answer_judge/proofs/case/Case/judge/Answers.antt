@@ -1,6 +1,6 @@
 use Rattle.std.proofs.Common.{inl, inr, ⊎_elim, refl, sym, subst, ap, arith, rules}
 use Rattle.answer_scheme.specs.Answers.{with_test}
-use Rattle.answer_judge_keys.specs.Judging.{Refuses, Says}
+use Rattle.answer_judge.specs.Judging.{Refuses, Says}
 use Rattle.answer_judge_rules.specs.Rules.{verdict_of}
 use Rattle.answer_judge.proofs.Decided.{case_decided}
 use Rattle.answer_judge.proofs.JudgeAsks.{case_passes}

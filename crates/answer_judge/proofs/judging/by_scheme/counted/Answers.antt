@@ -1,9 +1,9 @@
 use Rattle.std.proofs.Common.{rules, inl, refl, subst}
 use Rattle.definitions.specs.Limits.{pointer_limit}
 use Rattle.answer_scheme.specs.Answers.{Answers, answers_by}
-use Rattle.answer_judge_facts.specs.Honest.{AnswersHonest}
-use Rattle.answer_judge_keys.specs.Judging.{answer_of}
-use Rattle.answer_judge_facts.specs.Lasting.{LastsSo}
+use Rattle.answer_judge.specs.Honest.{AnswersHonest}
+use Rattle.answer_judge.specs.Judging.{answer_of}
+use Rattle.answer_judge.specs.Lasts.{LastsSo}
 use Rattle.answer_judge.proofs.judging.by_scheme.counted.Goals as goal
 
 pub returns-clause-judgement : goal.returns-clause-judgement

@@ -1,5 +1,5 @@
 use Rattle.std.proofs.Common.{sym, ap, ◌∙◌}
-use Rattle.answer_judge_facts.specs.Judged.{are_mixed}
+use Rattle.answer_judge.specs.Judged.{are_mixed}
 use Rattle.answer_judge.proofs.judging.deciding.are_mixed.Goals as goal
 
 pub returns-in-Some : goal.returns-in-Some

@@ -10,18 +10,12 @@ use Rattle.answer_judge.specs.Stages.{are_signed, tries_of_keys, trusting_named}
 use Rattle.answer_judge_facts.specs.Asked.{Implies, is_tried_among}
 use Rattle.answer_judge_facts.specs.Counted.{tries}
 use Rattle.answer_judge_keys.specs.Trusted.{is_trusted}
-use Rattle.answer_judge_keys.specs.Judging.{JudgeInput}
-use Rattle.answer_judge_keys.specs.KeyOrder.{Ranks}
+use Rattle.answer_judge.specs.Judging.{JudgeInput}
 use Rattle.answer_judge_facts.specs.Lasting.{key_seconds, least_of}
 use Rattle.answer_judge_facts.specs.Sought.{keys_sought}
 use Rattle.answer_judge_facts.specs.Verified.{Trusting, is_verified}
 use Rattle.answer_judge_facts.proofs.JudgeAsked.{agreed_by}
 use Rattle.answer_judge.proofs.judging.trusting.keys_that_may_sign.Goals as goal
-
-pub are_verified-requires-clause-index : goal.are_verified-requires-clause-index
-are_verified-requires-clause-index g c =
-    subst (λ ks. Ranks ks c.deref-4.result.now) (sym c.deref-3.ensures.value)
-    (subst (λ vs. Ranks c.in_ok-trusted.trusted.items vs) (sym c.deref-4.ensures.value) (subst (λ ks. Ranks ks c.in_ok-by_tag.by_tag.items) c.deref-2.ensures.value c.in_ok-by_tag.ensures))
 
 -- what was found out of the keys, said of what is handed in
 module _ (own : Answers) (test : SignatureTest) (h now : JudgeInput) (is : now ≡ h) (rs : List Spelled) (ks held trusted : List Dnskey) (named : trusted ≡ filter (is_trusted own h.apex h.ds) ks) (items : held ≡ ks) (checks : Answers) (same : checks ≡ own) (moment : ℕ) (at : moment ≡ h.now) where
@@ -55,10 +49,10 @@ returns-clause-signed g c = λ test fits.
     let moment = c.timestamp.ensures ∙ ap (λ (h : JudgeInput). h.now) is in
     let rest = c.in_ok-trusted.ensures.rest in
     let same = ap (λ v. g.C.Checks.answers v.checks.now) rest in
-    let named = c.deref-3.ensures.value ∙ c.in_ok-trusted.ensures.trusted ∙ (λ i. filter (is_trusted own (is i).apex (is i).ds) (c.deref.ensures.value i)) in
+    let named = c.in_ok-index.ensures ∙ c.deref-2.ensures.value ∙ c.in_ok-trusted.ensures.trusted ∙ (λ i. filter (is_trusted own (is i).apex (is i).ds) (c.deref.ensures.value i)) in
     let first = agreed_by own _ test _ same fits in
     let none_yet = ap (λ v. v.count) rest ∙ c.requires.none_yet in
-    let found = found_out own test c.args.case.now _ is (map spelled c.args.records.now) c.args.keys.items c.deref-5.result.now c.deref-3.result.now named c.deref-5.ensures.value _ same _ moment _ _ _ none_yet (c.in_ok-are_verified.ensures.exact test first) (c.in_ok-are_verified.ensures.tried test first) in
+    let found = found_out own test c.args.case.now _ is (map spelled c.args.records.now) c.args.keys.items c.deref-3.result.now c.in_ok-index.index named c.deref-3.ensures.value _ same _ moment _ _ _ none_yet (c.in_ok-are_verified.ensures.exact test first) (c.in_ok-are_verified.ensures.tried test first) in
     (sym found.0 ∙ c.if-not-branch.false, found.1)
 
 pub returns-clause-lasts : goal.returns-clause-lasts
@@ -68,9 +62,9 @@ returns-clause-lasts g c = λ test fits.
     let moment = c.timestamp.ensures ∙ ap (λ (h : JudgeInput). h.now) is in
     let rest = c.in_ok-trusted.ensures.rest in
     let same = ap (λ v. g.C.Checks.answers v.checks.now) rest in
-    let named = c.deref-3.ensures.value ∙ c.in_ok-trusted.ensures.trusted ∙ (λ i. filter (is_trusted own (is i).apex (is i).ds) (c.deref.ensures.value i)) in
+    let named = c.in_ok-index.ensures ∙ c.deref-2.ensures.value ∙ c.in_ok-trusted.ensures.trusted ∙ (λ i. filter (is_trusted own (is i).apex (is i).ds) (c.deref.ensures.value i)) in
     let first = agreed_by own _ test _ same fits in
-    lasts_as own test c.args.case.now _ is (map spelled c.args.records.now) c.args.keys.items c.deref-5.result.now c.deref-3.result.now named c.deref-5.ensures.value _ same _ moment _ (c.in_ok-are_verified.ensures.lasts test first)
+    lasts_as own test c.args.case.now _ is (map spelled c.args.records.now) c.args.keys.items c.deref-3.result.now c.in_ok-index.index named c.deref-3.ensures.value _ same _ moment _ (c.in_ok-are_verified.ensures.lasts test first)
 
 pub returns-then-not-branch-clause-unsigned : goal.returns-then-not-branch-clause-unsigned
 returns-then-not-branch-clause-unsigned g c = λ test fits.
@@ -79,10 +73,10 @@ returns-then-not-branch-clause-unsigned g c = λ test fits.
     let moment = c.timestamp.ensures ∙ ap (λ (h : JudgeInput). h.now) is in
     let rest = c.in_ok-trusted.ensures.rest in
     let same = ap (λ v. g.C.Checks.answers v.checks.now) rest in
-    let named = c.deref-3.ensures.value ∙ c.in_ok-trusted.ensures.trusted ∙ (λ i. filter (is_trusted own (is i).apex (is i).ds) (c.deref.ensures.value i)) in
+    let named = c.in_ok-index.ensures ∙ c.deref-2.ensures.value ∙ c.in_ok-trusted.ensures.trusted ∙ (λ i. filter (is_trusted own (is i).apex (is i).ds) (c.deref.ensures.value i)) in
     let first = agreed_by own _ test _ same fits in
     let none_yet = ap (λ v. v.count) rest ∙ c.requires.none_yet in
-    let found = found_out own test c.args.case.now _ is (map spelled c.args.records.now) c.args.keys.items c.deref-5.result.now c.deref-3.result.now named c.deref-5.ensures.value _ same _ moment _ _ _ none_yet (c.in_ok-are_verified.ensures.exact test first) (c.in_ok-are_verified.ensures.tried test first) in
+    let found = found_out own test c.args.case.now _ is (map spelled c.args.records.now) c.args.keys.items c.deref-3.result.now c.in_ok-index.index named c.deref-3.ensures.value _ same _ moment _ _ _ none_yet (c.in_ok-are_verified.ensures.exact test first) (c.in_ok-are_verified.ensures.tried test first) in
     inr (refl, sym found.0 ∙ c.if-not-branch.true, found.1)
 
 -- ---- all that are verified are tried
@@ -94,8 +88,8 @@ returns-clause-asked g c = λ test passes before.
     let moment = c.timestamp.ensures ∙ ap (λ (h : JudgeInput). h.now) is in
     let rest = c.in_ok-trusted.ensures.rest in
     let same = ap (λ v. g.C.Checks.answers v.checks.now) rest in
-    let named = c.deref-3.ensures.value ∙ c.in_ok-trusted.ensures.trusted ∙ (λ i. filter (is_trusted own (is i).apex (is i).ds) (c.deref.ensures.value i)) in
-    let tried = tried_pass own test c.args.case.now _ is (map spelled c.args.records.now) c.args.keys.items c.deref-5.result.now c.deref-3.result.now named c.deref-5.ensures.value _ same _ moment passes in
+    let named = c.in_ok-index.ensures ∙ c.deref-2.ensures.value ∙ c.in_ok-trusted.ensures.trusted ∙ (λ i. filter (is_trusted own (is i).apex (is i).ds) (c.deref.ensures.value i)) in
+    let tried = tried_pass own test c.args.case.now _ is (map spelled c.args.records.now) c.args.keys.items c.deref-3.result.now c.in_ok-index.index named c.deref-3.ensures.value _ same _ moment passes in
     c.are_verified.ensures.asked test tried (subst (λ v. g.C.Checks.asked_only v.checks.now test) (sym rest) before)
 
 pub returns-then-not-branch-clause-asked : goal.returns-then-not-branch-clause-asked
@@ -105,8 +99,8 @@ returns-then-not-branch-clause-asked g c = λ test passes before.
     let moment = c.timestamp.ensures ∙ ap (λ (h : JudgeInput). h.now) is in
     let rest = c.in_ok-trusted.ensures.rest in
     let same = ap (λ v. g.C.Checks.answers v.checks.now) rest in
-    let named = c.deref-3.ensures.value ∙ c.in_ok-trusted.ensures.trusted ∙ (λ i. filter (is_trusted own (is i).apex (is i).ds) (c.deref.ensures.value i)) in
-    let tried = tried_pass own test c.args.case.now _ is (map spelled c.args.records.now) c.args.keys.items c.deref-5.result.now c.deref-3.result.now named c.deref-5.ensures.value _ same _ moment passes in
+    let named = c.in_ok-index.ensures ∙ c.deref-2.ensures.value ∙ c.in_ok-trusted.ensures.trusted ∙ (λ i. filter (is_trusted own (is i).apex (is i).ds) (c.deref.ensures.value i)) in
+    let tried = tried_pass own test c.args.case.now _ is (map spelled c.args.records.now) c.args.keys.items c.deref-3.result.now c.in_ok-index.index named c.deref-3.ensures.value _ same _ moment passes in
     c.are_verified.ensures.asked test tried (subst (λ v. g.C.Checks.asked_only v.checks.now test) (sym rest) before)
 
 pub returns-in_err-are_verified-clause-asked : goal.returns-in_err-are_verified-clause-asked
@@ -116,6 +110,6 @@ returns-in_err-are_verified-clause-asked g c = λ test passes before.
     let moment = c.timestamp.ensures ∙ ap (λ (h : JudgeInput). h.now) is in
     let rest = c.in_ok-trusted.ensures.rest in
     let same = ap (λ v. g.C.Checks.answers v.checks.now) rest in
-    let named = c.deref-3.ensures.value ∙ c.in_ok-trusted.ensures.trusted ∙ (λ i. filter (is_trusted own (is i).apex (is i).ds) (c.deref.ensures.value i)) in
-    let tried = tried_pass own test c.args.case.now _ is (map spelled c.args.records.now) c.args.keys.items c.deref-5.result.now c.deref-3.result.now named c.deref-5.ensures.value _ same _ moment passes in
+    let named = c.in_ok-index.ensures ∙ c.deref-2.ensures.value ∙ c.in_ok-trusted.ensures.trusted ∙ (λ i. filter (is_trusted own (is i).apex (is i).ds) (c.deref.ensures.value i)) in
+    let tried = tried_pass own test c.args.case.now _ is (map spelled c.args.records.now) c.args.keys.items c.deref-3.result.now c.in_ok-index.index named c.deref-3.ensures.value _ same _ moment passes in
     c.are_verified.ensures.asked test tried (subst (λ v. g.C.Checks.asked_only v.checks.now test) (sym rest) before)

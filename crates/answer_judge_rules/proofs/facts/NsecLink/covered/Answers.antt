@@ -9,17 +9,17 @@ use Rattle.answer_judge_rules.proofs.facts.NsecLink.covered.Goals.{then-is_none,
 pub returns-then-was_sought-clause-verdict : goal.returns-then-was_sought-clause-verdict
 returns-then-was_sought-clause-verdict c =
     let f = c.args.self.now in
-    sym (covered_so c.args.apex.now c.args.name.now c.args.rtype c.args.links.now f (search rules) (search rules)
-    ∙ still_untold c.args.apex.now c.args.name.now c.args.rtype c.args.links.now f c.args.sought.now
+    sym (covered_so c.args.asked.now.apex.now c.args.asked.now.name.now c.args.asked.now.rtype c.args.links.now f (search rules) (search rules)
+    ∙ still_untold c.args.asked.now.apex.now c.args.asked.now.name.now c.args.asked.now.rtype c.args.links.now f c.args.sought.now
     (sym (same_labels c.encloser_labels-encloser.result c.args.sought.now (search rules)) ∙ c.encloser_labels-encloser.ensures) c.requires)
 
 pub returns-clause-sought : goal.returns-clause-sought
 returns-clause-sought c =
-    let apex = c.args.apex.now in
-    let q = c.args.name.now in
+    let apex = c.args.asked.now.apex.now in
+    let q = c.args.asked.now.name.now in
     let fs = c.args.links.now in
     elim c.if-is_none.branch [
-      | then-is_none w ↦ now_untold apex q c.args.rtype fs c.args.self.now c.if-is_none.sought (w.sought-is ∙ c.encloser_labels-encloser.ensures)
+      | then-is_none w ↦ now_untold apex q c.args.asked.now.rtype fs c.args.self.now c.if-is_none.sought (w.sought-is ∙ c.encloser_labels-encloser.ensures)
           (sym c.in_ok-told.ensures ∙ none_told verdict_of c.in_ok-told.told (search rules))
-      | else-is_none w ↦ subst (λ o. IfSome o (IsUntold apex q c.args.rtype fs)) (sym w.sought-is) c.requires
+      | else-is_none w ↦ subst (λ o. IfSome o (IsUntold apex q c.args.asked.now.rtype fs)) (sym w.sought-is) c.requires
     ]

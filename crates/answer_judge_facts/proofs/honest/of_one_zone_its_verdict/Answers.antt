@@ -1,5 +1,0 @@
-use Rattle.answer_judge_facts.proofs.OneZone.{honest_of_one_zone}
-use Rattle.answer_judge_facts.proofs.honest.of_one_zone_its_verdict.Goals as goal
-
-pub returns : goal.returns
-returns c = honest_of_one_zone
