@@ -5,7 +5,7 @@ use Rattle.definitions.specs.Dnskey.{Ds}
 use Rattle.definitions.specs.Name.{Name, low}
 use Rattle.definitions.specs.Zone.{Verdict, Records, NoType, NoName, StarRecords, StarNoType, Delegated, Open, Unsigned}
 use Rattle.messages.specs.Message.{Asked}
-use Rattle.answer_judge_keys.specs.declared.verdict.Lasting.{Lasting}
+use Rattle.answer_judge_facts.specs.declared.lasting.Lasting.{Lasting}
 use Rattle.resolution_evidence.specs.Counts.{Counts}
 use Rattle.resolution_evidence.specs.Given.{Given}
 use Rattle.resolution_evidence.specs.KnownDs.{known_ds}

@@ -12,9 +12,9 @@ use Rattle.denial_laws.specs.Leading.{To, TooLong}
 use Rattle.denial_laws.proofs.NameFacts.{above_trans, strictly_at}
 use Rattle.messages.specs.Message.{Asked}
 use Rattle.resolution_tree.specs.Tree.{Said, Secure, Unsigned, LeftOpen, Leads, leads_on}
-use Rattle.answer_judge_keys.specs.Judging.{JudgeInput}
-use Rattle.answer_judge_keys.specs.declared.verdict.Lasting.{Lasting}
-use Rattle.answer_judge_keys.specs.declared.verdict.Refusal.{Refusal}
+use Rattle.answer_judge.specs.Judging.{JudgeInput}
+use Rattle.answer_judge_facts.specs.declared.lasting.Lasting.{Lasting}
+use Rattle.answer_judge.specs.declared.verdict.Refusal.{Refusal}
 use Rattle.resolution_evidence.specs.Counts.{Counts}
 use Rattle.resolution_evidence.specs.Lasts.{least_of}
 use Rattle.resolution_evidence.specs.Told.{StepSeen, TellsNothing, IsCutTelling, IsTelling, at_cut, told}
@@ -24,6 +24,7 @@ use Rattle.resolution_evidence.specs.Walking.{Onward, GoesDown, Stops, IsOnward,
 use Rattle.resolution_walk.specs.Ended.{IsWay, IsTurn, IsEnding, IsFollowed, IsWalked, LastsIfSaid, ends_in, lasting_said, leads_to, onward_of, said_of}
 use Rattle.resolution_walk.specs.Stopping.{EndsHere, IsAliasOf, IsLed, IsNoAlias, IsTurnUntold, IsTurnedTo, StopsIn, ending_within}
 use Rattle.resolution_walk.specs.Stopping as stopping
+use Rattle.resolution_walk.specs.Query.{Query}
 use Rattle.resolution_walk.specs.Wanted.{IsParent}
 use Rattle.resolution_walk.specs.Between.{IsBetween}
 use Rattle.resolution_walk.specs.declared.ending.End.{End}
@@ -33,50 +34,50 @@ use Rattle.resolution_walk.specs.declared.ending.Taken.{Taken}
 use Rattle.resolution_walk.specs.declared.ending.Target.{Target}
 use Rattle.resolution_walk.specs.declared.ending.Uncut.{Uncut}
 use Rattle.resolution_walk.specs.declared.ending.Walk.{Walk}
-use Rattle.resolution_walk.proofs.Turning.{any_way, name_onward, own_onward, turned_nothing, turned_onward}
+use Rattle.resolution_walk.proofs.Turning.{any_way, asking, delegated, name_onward, own_onward, turned_nothing, turned_onward}
 
-module _ (e : Given) (asked : Asked) (zone : Name) (ds : List Ds) where
-  lasting_way : (t : Taken) (l : Option Lasting) → t.lasting ≡ l → IsWay e asked zone ds (onward_of t.turn) l → IsTurn e asked zone ds t
-  lasting_way t l is way = subst (IsWay e asked zone ds (onward_of t.turn)) (sym is) way
+module _ (e : Given) (q : Query) where
+  lasting_way : (t : Taken) (l : Option Lasting) → t.lasting ≡ l → IsWay e q (onward_of t.turn) l → IsTurn e q t
+  lasting_way t l is way = subst (IsWay e q (onward_of t.turn)) (sym is) way
 
-  pub turned_own : (h : JudgeInput) (t : Telling) (now : StepSeen) (r : Result Taken AllocError) → IsOf e zone ds asked h → IsTelling e.algorithms e.table h t → now ≡ told t.step
-      → IfOk r (λ x. IsTurnedTo zone ds asked now x.turn) → IfOk r (λ x. x.lasting ≡ t.lasting) → IfOk r (IsTurn e asked zone ds)
+  pub turned_own : (h : JudgeInput) (t : Telling) (now : StepSeen) (r : Result Taken AllocError) → IsOf e q.zone q.ds q.asked h → IsTelling e.algorithms e.table h t → now ≡ told t.step
+      → IfOk r (λ x. IsTurnedTo q now x.turn) → IfOk r (λ x. x.lasting ≡ t.lasting) → IfOk r (IsTurn e q)
   turned_own h t now (Ok x) of is same turns lasts =
-      let turned = subst (λ (y : StepSeen). IsTurnedTo zone ds asked y x.turn) same turns in
-      let on = own_onward e asked zone ds (told t.step) t.lasting t.counts x.turn (record { judged = h; of = of; told_is = is }) turned in
-      lasting_way x t.lasting lasts (any_way e asked zone ds (onward_of x.turn) t.lasting on)
+      let turned = subst (λ (y : StepSeen). IsTurnedTo q y x.turn) same turns in
+      let on = own_onward e q (told t.step) t.lasting t.counts x.turn (record { judged = h; of = of; told_is = is }) turned in
+      lasting_way x t.lasting lasts (any_way e q (onward_of x.turn) t.lasting on)
   turned_own h t now (Err x) of is same turns lasts = tt
 
-  pub turned_at : (q : Asked) (h : JudgeInput) (t : Telling) (now : StepSeen) (r : Result (Result Taken Uncut) AllocError) → IsBetween e asked zone ds q → IsOf e zone ds q h → IsCutTelling e.algorithms e.table h t
-      → now ≡ told t.step → now ≡ at_cut (told t.step) → IfOk r (λ x. MatchResult x (λ y. IsTurnedTo zone ds q now y.turn) (λ n. ⊥)) → IfOk r (λ x. IfOk x (λ y. y.lasting ≡ t.lasting))
-      → IfOk r (λ x. IfOk x (IsTurn e asked zone ds))
-  turned_at q h t now (Ok (Ok x)) between of is same cut turns lasts =
-      let on = name_onward e asked zone ds q (told t.step) now t.lasting t.counts x.turn between (record { judged = h; of = of; told_is = is }) same cut turns in
-      lasting_way x t.lasting lasts (any_way e asked zone ds (onward_of x.turn) t.lasting on)
-  turned_at q h t now (Ok (Err n)) between of is same cut turns lasts = tt
-  turned_at q h t now (Err x) between of is same cut turns lasts = tt
+  pub turned_at : (sought : Asked) (h : JudgeInput) (t : Telling) (now : StepSeen) (r : Result (Result Taken Uncut) AllocError) → IsBetween e q.asked q.zone q.ds sought → IsOf e q.zone q.ds sought h
+      → IsCutTelling e.algorithms e.table h t → now ≡ told t.step → now ≡ at_cut (told t.step) → IfOk r (λ x. MatchResult x (λ y. IsTurnedTo (asking q sought) now y.turn) (λ n. ⊥))
+      → IfOk r (λ x. IfOk x (λ y. y.lasting ≡ t.lasting)) → IfOk r (λ x. IfOk x (IsTurn e q))
+  turned_at sought h t now (Ok (Ok x)) between of is same cut turns lasts =
+      let on = name_onward e q sought (told t.step) now t.lasting t.counts x.turn between (record { judged = h; of = of; told_is = is }) same cut turns in
+      lasting_way x t.lasting lasts (any_way e q (onward_of x.turn) t.lasting on)
+  turned_at sought h t now (Ok (Err n)) between of is same cut turns lasts = tt
+  turned_at sought h t now (Err x) between of is same cut turns lasts = tt
 
-  pub stopped : (refusal : Option Refusal) (r : Result Taken AllocError) → IfOk r (λ t. IsTurnUntold zone ds asked refusal t.turn) → IfOk r (IsTurn e asked zone ds)
+  pub stopped : (refusal : Option Refusal) (r : Result Taken AllocError) → IfOk r (λ t. IsTurnUntold q refusal t.turn) → IfOk r (IsTurn e q)
   stopped refusal (Ok t) k =
-      let nowhere : onward_of t.turn ≡ Stops = turned_onward zone ds asked (TellsNothing refusal) t.turn (turned_nothing zone ds asked refusal t.turn k) in
-      subst (λ (o : Onward). IsWay e asked zone ds o t.lasting) (sym nowhere) tt
+      let nowhere : onward_of t.turn ≡ Stops = turned_onward q (TellsNothing refusal) t.turn (turned_nothing q refusal t.turn k) in
+      subst (λ (o : Onward). IsWay e q o t.lasting) (sym nowhere) tt
   stopped refusal (Err x) k = tt
 
   -- ---- ends
 
-  pub ends_so : (o : Option Said) (l : Option Lasting) → IsWay e asked zone ds (ends_in o) l → IfSome o (λ s. Tells e asked s zone ds l)
+  pub ends_so : (o : Option Said) (l : Option Lasting) → IsWay e q (ends_in o) l → IfSome o (λ s. Tells e q.asked s q.zone q.ds l)
   ends_so None l x = tt
   ends_so (Some s) l x = Ends x
 
-  goes_so : (c : Name) (below : List Ds) (first rest all : Option Lasting) (o : Option Said) → IsOnward e asked zone ds (GoesDown c below) first → all ≡ least_of first rest → IfSome o (λ s. Tells e asked s c below rest)
-      → IfSome o (λ s. Tells e asked s zone ds all)
+  goes_so : (c : Name) (below : List Ds) (first rest all : Option Lasting) (o : Option Said) → IsOnward e q.asked q.zone q.ds (GoesDown c below) first → all ≡ least_of first rest
+      → IfSome o (λ s. Tells e q.asked s c below rest) → IfSome o (λ s. Tells e q.asked s q.zone q.ds all)
   goes_so c below first rest all None x lasts more = tt
   goes_so c below first rest all (Some s) x lasts more = Goes x more lasts
 
-  pub goes_in : (c : Name) (below : List Ds) (first : Option Lasting) (end all : End) → IsOnward e asked zone ds (GoesDown c below) first → IsEnding e asked c below end
-      → all.ending ≡ end.ending → all.lasting ≡ least_of first end.lasting → IsEnding e asked zone ds all
+  pub goes_in : (c : Name) (below : List Ds) (first : Option Lasting) (end all : End) → IsOnward e q.asked q.zone q.ds (GoesDown c below) first → IsEnding e (delegated q c below) end
+      → all.ending ≡ end.ending → all.lasting ≡ least_of first end.lasting → IsEnding e q all
   goes_in c below first end all x more same lasts =
-      subst (λ (g : Ending). IfSome (said_of g) (λ s. Tells e asked s zone ds all.lasting)) (sym same) (goes_so c below first end.lasting all.lasting (said_of end.ending) x lasts more)
+      subst (λ (g : Ending). IfSome (said_of g) (λ s. Tells e q.asked s q.zone q.ds all.lasting)) (sym same) (goes_so c below first end.lasting all.lasting (said_of end.ending) x lasts more)
 
 -- ---- aliases
 
@@ -133,13 +134,17 @@ module _ (e : Given) (asked : Asked) (cuts : ℕ) (counts : Counts) (t : Target)
 lead_is : (e : Given) (asked : Asked) (n : Name) (o : Option Said) (l : Option Lasting) → o ≡ Some (Leads (To n)) → IfSome o (λ s. Tells e asked s e.anchor e.ds l) → Tells e asked (Leads (To n)) e.anchor e.ds l
 lead_is e asked n o l h is = subst (λ (x : Option Said). IfSome x (λ s. Tells e asked s e.anchor e.ds l)) h is
 
+-- the trust anchor's zone, asked a question
+abbrev pub anchored : Given → Asked → Query
+anchored e asked = record { zone = e.anchor; ds = e.ds; asked = asked }
+
 -- what a name's way ends in, by evidence as it is kept
 pub alias_told : (e kept : Given) (asked : Asked) (cuts : ℕ) (before : Counts) (end : End) (r : Result Target End) → kept ≡ e → is_asked_of e.anchor asked ≡ true
-    → IsEnding e asked kept.anchor kept.ds end → StopsIn e asked cuts kept.anchor kept.ds before end
+    → IsEnding e (anchored kept asked) end → StopsIn e (anchored kept asked) cuts before end
     → MatchResult r (IsAliasOf end) (IsNoAlias end) → MatchResult r (IsLed e asked cuts before) (EndsHere e asked cuts before)
 alias_told e kept asked cuts before end (Ok t) at w leads stops said =
-    let led : IsEnding e asked e.anchor e.ds end = subst (λ (g : Given). IsEnding e asked g.anchor g.ds end) at leads in
-    let here : StopsIn e asked cuts e.anchor e.ds before end = subst (λ (g : Given). StopsIn e asked cuts g.anchor g.ds before end) at stops in
+    let led : IsEnding e (anchored e asked) end = subst (λ (g : Given). IsEnding e (anchored g asked) end) at leads in
+    let here : StopsIn e (anchored e asked) cuts before end = subst (λ (g : Given). StopsIn e (anchored g asked) cuts before end) at stops in
     record {
       asked_of_it = w;
       tells = subst (Tells e asked (Leads (To t.name)) e.anchor e.ds) (sym said.lasts) (lead_is e asked t.name (said_of end.ending) end.lasting said.says led);
@@ -148,12 +153,12 @@ alias_told e kept asked cuts before end (Ok t) at w leads stops said =
       stops = subst (stopping.Stops e asked end.ending cuts e.anchor e.ds before) (sym said.counts_are) here;
     }
 alias_told e kept asked cuts before end (Err x) at w leads stops said =
-    let led : IsEnding e asked e.anchor e.ds end = subst (λ (g : Given). IsEnding e asked g.anchor g.ds end) at leads in
-    let here : StopsIn e asked cuts e.anchor e.ds before end = subst (λ (g : Given). StopsIn e asked cuts g.anchor g.ds before end) at stops in
-    let led_x : IsEnding e asked e.anchor e.ds x = subst (IsEnding e asked e.anchor e.ds) (sym said.0) led in
+    let led : IsEnding e (anchored e asked) end = subst (λ (g : Given). IsEnding e (anchored g asked) end) at leads in
+    let here : StopsIn e (anchored e asked) cuts before end = subst (λ (g : Given). StopsIn e (anchored g asked) cuts before end) at stops in
+    let led_x : IsEnding e (anchored e asked) x = subst (IsEnding e (anchored e asked)) (sym said.0) led in
     record {
       says = says_here e asked (said_of x.ending) x.lasting w led_x said.1;
-      stops = λ aliases. stopping.AtOnce w (subst (StopsIn e asked cuts e.anchor e.ds before) (sym said.0) here);
+      stops = λ aliases. stopping.AtOnce w (subst (StopsIn e (anchored e asked) cuts before) (sym said.0) here);
     }
 
 -- ---- what says nothing

@@ -1,15 +1,15 @@
 -- What a walk ends in, as it is kept.
 use Rattle.std.specs.Prelude.{◌≡◌, List, ◌++◌, Option, Some, None, IfNone, IfSome}
-use Rattle.definitions.specs.Dnskey.{Ds}
 use Rattle.definitions.specs.Name.{Name}
 use Rattle.denial_laws.specs.Leading.{To}
 use Rattle.messages.specs.Message.{Asked}
 use Rattle.answer_judge_rules.specs.Rules.{verdict_of}
-use Rattle.answer_judge_keys.specs.declared.verdict.Lasting.{Lasting}
+use Rattle.answer_judge_facts.specs.declared.lasting.Lasting.{Lasting}
 use Rattle.resolution_evidence.specs.Redirection.{lead_seen}
 use Rattle.resolution_tree.specs.Tree.{Said, Secure, Unsigned, LeftOpen, Leads}
 use Rattle.resolution_evidence.specs.Given.{Given}
 use Rattle.resolution_evidence.specs.Walking.{Onward, GoesDown, EndsIn, Stops, IsOnward, Tells, Follows}
+use Rattle.resolution_walk.specs.Query.{Query}
 use Rattle.resolution_walk.specs.declared.ending.End.{End}
 use Rattle.resolution_walk.specs.declared.ending.Ending.{Ending}
 use Rattle.resolution_walk.specs.declared.ending.Ending.TheVariants as ends
@@ -40,15 +40,15 @@ onward_of (turns.Down c ds) = GoesDown c ds.items
 onward_of (turns.Ends ending) = ends_in (said_of ending)
 
 -- a turn is where evidence leads, if anywhere, and lasts as long
-abbrev pub IsWay : Given → Asked → Name → List Ds → Onward → Option Lasting → Type 0
-IsWay e asked zone ds Stops lasting = Unit {0}
-IsWay e asked zone ds o lasting = IsOnward e asked zone ds o lasting
+abbrev pub IsWay : Given → Query → Onward → Option Lasting → Type 0
+IsWay e q Stops lasting = Unit {0}
+IsWay e q o lasting = IsOnward e q.asked q.zone q.ds o lasting
 
-abbrev pub IsTurn : Given → Asked → Name → List Ds → Taken → Type 0
-IsTurn e asked zone ds t = IsWay e asked zone ds (onward_of t.turn) t.lasting
+abbrev pub IsTurn : Given → Query → Taken → Type 0
+IsTurn e q t = IsWay e q (onward_of t.turn) t.lasting
 
-abbrev pub IsEnding : Given → Asked → Name → List Ds → End → Type 0
-IsEnding e asked zone ds end = IfSome (said_of end.ending) (λ s. Tells e asked s zone ds end.lasting)
+abbrev pub IsEnding : Given → Query → End → Type 0
+IsEnding e q end = IfSome (said_of end.ending) (λ s. Tells e q.asked s q.zone q.ds end.lasting)
 
 -- a walk follows aliases behind those so far
 pub record IsFollowed (e : Given) (asked : Asked) (before : List Name) (through : List Name) (lasting : Option Lasting) (said : Said) : Type 0 where

@@ -3,15 +3,16 @@ use Rattle.std.specs.Prelude.{◌≡◌, ◌⊎◌, ℕ, Bool, true, false, List
 use Rattle.definitions.specs.Dnskey.{Ds}
 use Rattle.definitions.specs.Name.{Name}
 use Rattle.messages.specs.Message.{Asked}
-use Rattle.answer_judge_keys.specs.declared.verdict.Lasting.{Lasting}
-use Rattle.answer_judge_keys.specs.declared.verdict.Refusal.{Refusal}
-use Rattle.answer_judge_keys.specs.declared.verdict.Refusal.TheVariants as r
+use Rattle.answer_judge_facts.specs.declared.lasting.Lasting.{Lasting}
+use Rattle.answer_judge.specs.declared.verdict.Refusal.{Refusal}
+use Rattle.answer_judge.specs.declared.verdict.Refusal.TheVariants as r
 use Rattle.resolution_evidence.specs.Counted.{plus}
 use Rattle.resolution_evidence.specs.Counts.{Counts}
 use Rattle.resolution_evidence.specs.Given.{Given}
 use Rattle.resolution_evidence.specs.Told.{StepSeen, TellsNoCut, TellsNoneBelow, TellsNothing, at_cut}
 use Rattle.resolution_evidence.specs.Walking.{IsNameStep, IsOwnStep, ds_at}
 use Rattle.resolution_walk.specs.Between.{AreAllUncut, AreUncut, AreUncutBelow, IsAnswerUntold, IsBetween, IsNothing, IsToldFor, LiesBetween, is_itself}
+use Rattle.resolution_walk.specs.Query.{Query}
 use Rattle.resolution_walk.specs.Wanted.{is_lacking}
 use Rattle.resolution_walk.specs.declared.ending.Taken.{Taken}
 use Rattle.resolution_walk.specs.declared.ending.Uncut.{Uncut}
@@ -85,20 +86,23 @@ abbrev pub counts_in : Result Taken Uncut → Counts
 counts_in (Ok t) = t.counts
 counts_in (Err u) = counts_of u
 
+abbrev pub IsCountedBetween : Given → Query → Counts → Result Taken Uncut → Type 0
+IsCountedBetween e q before r = AreJudgedBetween e q.asked q.zone q.ds before (counts_in r)
+
 -- no delegation is at the names between down to this one, or at any
-abbrev pub IsUncut : Given → Asked → Name → List Ds → Counts → Name → Uncut → Type 0
-IsUncut e asked zone ds before n (uncut.SoFar after) = AreUncut e asked zone ds before n after
-IsUncut e asked zone ds before n (uncut.AtAll after) = AreUncutBelow e asked zone ds before after
+abbrev pub IsUncut : Given → Query → Counts → Name → Uncut → Type 0
+IsUncut e q before n (uncut.SoFar after) = AreUncut e q.asked q.zone q.ds before n after
+IsUncut e q before n (uncut.AtAll after) = AreUncutBelow e q.asked q.zone q.ds before after
 
 -- of a zone's answer for DS, if it is there; and what it tells, where there is no turn
-abbrev pub IsJudgedFor : Given → Name → List Ds → Asked → Counts → Result Taken Uncut → Type 0
-IsJudgedFor e zone ds sought before (Ok t) = (t.counts ≡ before) ⊎ ((said : StepSeen) × IsToldFor e zone ds sought said before t.counts)
-IsJudgedFor e zone ds sought before (Err (uncut.SoFar after)) = IsToldFor e zone ds sought TellsNoCut before after
-IsJudgedFor e zone ds sought before (Err (uncut.AtAll after)) = IsToldFor e zone ds sought TellsNoneBelow before after
+abbrev pub IsJudgedFor : Given → Query → Asked → Counts → Result Taken Uncut → Type 0
+IsJudgedFor e q sought before (Ok t) = (t.counts ≡ before) ⊎ ((said : StepSeen) × IsToldFor e q.zone q.ds sought said before t.counts)
+IsJudgedFor e q sought before (Err (uncut.SoFar after)) = IsToldFor e q.zone q.ds sought TellsNoCut before after
+IsJudgedFor e q sought before (Err (uncut.AtAll after)) = IsToldFor e q.zone q.ds sought TellsNoneBelow before after
 
 -- at a name, unless DS there is the question itself
-abbrev pub IsJudgedAt : Given → Asked → Name → List Ds → Name → Counts → Result Taken Uncut → Type 0
-IsJudgedAt e asked zone ds n before r = ((is_itself asked n ≡ true) × (r ≡ Err (uncut.SoFar before))) ⊎ IsJudgedFor e zone ds (ds_at asked n) before r
+abbrev pub IsJudgedAt : Given → Query → Name → Counts → Result Taken Uncut → Type 0
+IsJudgedAt e q n before r = ((is_itself q.asked n ≡ true) × (r ≡ Err (uncut.SoFar before))) ⊎ IsJudgedFor e q (ds_at q.asked n) before r
 
 -- whether it is nothing of the way; and whether it is that no delegation is there
 abbrev pub is_nothing : StepSeen → Bool

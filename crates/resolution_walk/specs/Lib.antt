@@ -1,3 +1,4 @@
+pub mod Query
 pub mod Ended
 pub mod Between
 pub mod Wanted

@@ -5,8 +5,8 @@ use Rattle.definitions.specs.Name.{Name}
 use Rattle.denial_laws.specs.Leading.{To}
 use Rattle.messages.specs.Message.{Asked}
 use Rattle.answer_judge_rules.specs.Rules.{verdict_of}
-use Rattle.answer_judge_keys.specs.declared.verdict.Lasting.{Lasting}
-use Rattle.answer_judge_keys.specs.declared.verdict.Refusal.{Refusal}
+use Rattle.answer_judge_facts.specs.declared.lasting.Lasting.{Lasting}
+use Rattle.answer_judge.specs.declared.verdict.Refusal.{Refusal}
 use Rattle.resolution_tree.specs.Tree.{Said, Secure, Unsigned, LeftOpen, Leads}
 use Rattle.resolution_evidence.specs.Counted.{no_counts}
 use Rattle.resolution_evidence.specs.Counts.{Counts}
@@ -17,6 +17,7 @@ use Rattle.resolution_evidence.specs.Walking.{GoesDown, EndsIn, IsOnward, Tells,
 use Rattle.resolution_walk.specs.Ended.{leads_to, said_of}
 use Rattle.resolution_walk.specs.Between.{IsNothing}
 use Rattle.resolution_walk.specs.Judged.{AreJudged, IsHeardThere, IsUntold}
+use Rattle.resolution_walk.specs.Query.{Query}
 use Rattle.resolution_walk.specs.Wanted.{AreWantedOf, lacking}
 use Rattle.resolution_walk.specs.declared.ending.End.{End}
 use Rattle.resolution_walk.specs.declared.ending.Ending.{Ending}
@@ -27,6 +28,7 @@ use Rattle.resolution_walk.specs.declared.ending.Turn.{Turn}
 use Rattle.resolution_walk.specs.declared.ending.Turn.TheVariants as turns
 use Rattle.resolution_walk.specs.declared.ending.Walk.{Walk}
 use Rattle.resolution_walk.specs.declared.walk.Limits.{Limits}
+use Rattle.resolution_walk.specs.declared.walk.Trail.{Trail}
 
 -- what a zone's messages tell ends the way, and says this
 pub record IsSaidIn (e : Given) (asked : Asked) (zone : Name) (ds : List Ds) (said : Said) : Type 0 where
@@ -77,49 +79,49 @@ pub data StopsBehind (e : Given) (cuts : ℕ) (ending : Ending) : ℕ → Asked 
 
 -- ---- of one zone
 
-abbrev pub TurnStops : Given → Asked → Name → List Ds → Turn → Type 0
-TurnStops e asked zone ds (turns.Down c below) = Unit {0}
-TurnStops e asked zone ds (turns.Ends ending) = EndsAt e asked zone ds ending
+abbrev pub TurnStops : Given → Query → Turn → Type 0
+TurnStops e q (turns.Down c below) = Unit {0}
+TurnStops e q (turns.Ends ending) = EndsAt e q.asked q.zone q.ds ending
 
 -- a turn where the answer of a zone to a question tells nothing, and why it is refused, if it is
-abbrev pub IsTurnUntold : Name → List Ds → Asked → Option Refusal → Turn → Type 0
-IsTurnUntold zone ds sought refusal (turns.Ends (ends.Untold of by name t r)) = (of ≡ zone) × (by.items ≡ ds) × (name ≡ sought.name) × (t ≡ sought.rtype) × (r ≡ refusal)
-IsTurnUntold zone ds sought refusal _ = ⊥
+abbrev pub IsTurnUntold : Query → Option Refusal → Turn → Type 0
+IsTurnUntold q refusal (turns.Ends (ends.Untold of by name t r)) = (of ≡ q.zone) × (by.items ≡ q.ds) × (name ≡ q.asked.name) × (t ≡ q.asked.rtype) × (r ≡ refusal)
+IsTurnUntold q refusal _ = ⊥
 
 -- the turn by what a zone's answer to a question tells: that, and no other
-abbrev pub IsTurnedTo : Name → List Ds → Asked → StepSeen → Turn → Type 0
-IsTurnedTo zone ds sought said (turns.Down c below) = said ≡ TellsDown c below.items
-IsTurnedTo zone ds sought said (turns.Ends (ends.Secure of v)) = (of ≡ zone) × (said ≡ TellsVerdict (verdict_of v))
-IsTurnedTo zone ds sought said (turns.Ends (ends.Leads lead)) = said ≡ TellsLead (lead_seen lead)
-IsTurnedTo zone ds sought said (turns.Ends (ends.Unsigned c datas)) = said ≡ TellsUnsigned c datas
-IsTurnedTo zone ds sought said (turns.Ends (ends.LeftOpen of)) = (of ≡ zone) × (said ≡ TellsOpen)
-IsTurnedTo zone ds sought said (turns.Ends (ends.Untold of by name t r)) = (of ≡ zone) × (by.items ≡ ds) × (name ≡ sought.name) × (t ≡ sought.rtype) × IsNothing said r
-IsTurnedTo zone ds sought said (turns.Ends (ends.Asks asks)) = said ≡ AsksFor asks.items
-IsTurnedTo zone ds sought said _ = ⊥
+abbrev pub IsTurnedTo : Query → StepSeen → Turn → Type 0
+IsTurnedTo q said (turns.Down c below) = said ≡ TellsDown c below.items
+IsTurnedTo q said (turns.Ends (ends.Secure of v)) = (of ≡ q.zone) × (said ≡ TellsVerdict (verdict_of v))
+IsTurnedTo q said (turns.Ends (ends.Leads lead)) = said ≡ TellsLead (lead_seen lead)
+IsTurnedTo q said (turns.Ends (ends.Unsigned c datas)) = said ≡ TellsUnsigned c datas
+IsTurnedTo q said (turns.Ends (ends.LeftOpen of)) = (of ≡ q.zone) × (said ≡ TellsOpen)
+IsTurnedTo q said (turns.Ends (ends.Untold of by name t r)) = (of ≡ q.zone) × (by.items ≡ q.ds) × (name ≡ q.asked.name) × (t ≡ q.asked.rtype) × IsNothing said r
+IsTurnedTo q said (turns.Ends (ends.Asks asks)) = said ≡ AsksFor asks.items
+IsTurnedTo q said _ = ⊥
 
 -- a turn that wants what lacks of a zone for a question
 abbrev pub WantsLacking : Given → Name → Asked → Turn → Type 0
 WantsLacking e zone asked (turns.Ends (ends.Wants ws)) = ws.items ≡ lacking e zone asked
 WantsLacking e zone asked _ = ⊥
 
-abbrev pub IsStop : Given → Asked → Name → List Ds → Taken → Type 0
-IsStop e asked zone ds t = TurnStops e asked zone ds t.turn
+abbrev pub IsStop : Given → Query → Taken → Type 0
+IsStop e q t = TurnStops e q t.turn
 
-abbrev pub IsCounted : Given → Asked → Name → List Ds → Counts → Taken → Type 0
-IsCounted e asked zone ds before t = AreJudged e asked zone ds before t.counts
+abbrev pub IsCounted : Given → Query → Counts → Taken → Type 0
+IsCounted e q before t = AreJudged e q.asked q.zone q.ds before t.counts
 
 -- ---- of one name
 
-abbrev pub StopsIn : Given → Asked → ℕ → Name → List Ds → Counts → End → Type 0
-StopsIn e asked cuts zone ds before end = Stops e asked end.ending cuts zone ds before end.counts
+abbrev pub StopsIn : Given → Query → ℕ → Counts → End → Type 0
+StopsIn e q cuts before end = Stops e q.asked end.ending cuts q.zone q.ds before end.counts
 
 -- the same from a zone below on, to which a delegation leads: with so many left, that one with them
 pub data StopsBelow (e : Given) (asked : Asked) (ending : Ending) : ℕ → Name → List Ds → Counts → Counts → Type 0 where
   NoneLeft : {zone : Name} {ds : List Ds} {before after : Counts} → ending ≡ ends.TooManyCuts → after ≡ before → StopsBelow e asked ending 0 zone ds before after
   OneLess : {cuts : ℕ} {zone : Name} {ds : List Ds} {before after : Counts} → Stops e asked ending cuts zone ds before after → StopsBelow e asked ending (suc cuts) zone ds before after
 
-abbrev pub StopsBelowIn : Given → Asked → ℕ → Name → List Ds → Counts → End → Type 0
-StopsBelowIn e asked cuts zone ds before end = StopsBelow e asked end.ending cuts zone ds before end.counts
+abbrev pub StopsBelowIn : Given → Query → ℕ → Counts → End → Type 0
+StopsBelowIn e q cuts before end = StopsBelow e q.asked end.ending cuts q.zone q.ds before end.counts
 
 -- an end that is an alias of this name, or the same end, which is none
 pub record IsAliasOf (end : End) (t : Target) : Type 0 where
@@ -144,8 +146,8 @@ pub record IsStopped (e : Given) (asked : Asked) (cuts aliases : ℕ) (names thr
   pub through_are : through ≡ names ++ more
   pub stops : StopsBehind e cuts ending aliases asked more before after
 
-abbrev pub WalkStops : Given → Asked → ℕ → ℕ → List Name → Counts → Walk → Type 0
-WalkStops e asked cuts aliases names before w = IsStopped e asked cuts aliases names w.through.items before w.ending w.counts
+abbrev pub WalkStops : Given → Asked → Limits → Trail → Walk → Type 0
+WalkStops e asked limits trail w = IsStopped e asked limits.cuts limits.aliases trail.through.items w.through.items trail.counts w.ending w.counts
 
 -- an ending within a limit of messages: beside so many none is wanted
 abbrev pub ending_within : ℕ → Given → Ending → Ending

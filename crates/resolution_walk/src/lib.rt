@@ -9,6 +9,7 @@ pub mod evidence;
 pub mod laws;
 mod names_between;
 mod place;
+mod query;
 mod turns;
 pub mod walk;
 

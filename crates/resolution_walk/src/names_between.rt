@@ -7,7 +7,7 @@ ghost use Rattle.resolution_evidence.specs.Given.{IsOf};
 ghost use Rattle.resolution_evidence.specs.Walking.{ds_at};
 ghost use Rattle.resolution_walk.specs.Between.{IsBetween, IsReached, IsUnanswered, is_itself};
 ghost use Rattle.resolution_walk.specs.Ended.{IsTurn};
-ghost use Rattle.resolution_walk.specs.Judged.{AreJudgedBetween, IsJudgedAt, IsJudgedFor};
+ghost use Rattle.resolution_walk.specs.Judged.{IsCountedBetween, IsJudgedAt, IsJudgedFor};
 ghost use Rattle.resolution_walk.specs.Judged.{IsToldCut, IsUncut, IsUncutTold, counts_in};
 ghost use Rattle.resolution_walk.specs.Stopping.{IsStop, IsTurnedTo, WantsLacking};
 ghost use Rattle.resolution_walk.specs.Wanted.{IsParent};
@@ -15,11 +15,11 @@ ghost use Rattle.resolution_walk.specs.Wanted.{IsParent};
 use crate::ending::{Taken, Uncut};
 use crate::evidence::Evidence;
 use crate::place::{case_of, name_step, taken, wanting};
-use denial_data::Ds;
+use crate::query::ZoneQuery;
 use messages::names::{Name, ToName, copy_name, is_above};
 use messages::question::Question;
 use names_rdata::rtype::Rtype;
-use resolution_evidence::{Case, Counts, Lasting, Step};
+use resolution_evidence::{Case, Counts, Step, Telling};
 use std::alloc::{AllocError, Global};
 
 /// Where answers for DS lead, at the names below the zone down to a name, the topmost first; the
@@ -31,24 +31,19 @@ use std::alloc::{AllocError, Global};
 pub(crate) fn at_names(
     alloc: Global,
     evidence: &Evidence,
-    zone: &Name<Vec<u8>>,
-    ds: &[Ds<Vec<u8>>],
-    question: &Question,
+    query: &ZoneQuery,
     name: &Name<Vec<u8>>,
     counts: Counts,
 ) -> Result<Result<Taken, Uncut>, AllocError>
-    requires above { at_or_above name.now question.now.name ≡ true }
-    requires untold { IsUnanswered evidence.now (asked_of question.now) zone.now ds.now }
-    ensures leads { let asked = asked_of question.now in
-        IfOk result (λ r. IfOk r (IsTurn evidence.now asked zone.now ds.now)) }
-    ensures stops { let asked = asked_of question.now in
-        IfOk result (λ r. IfOk r (IsStop evidence.now asked zone.now ds.now)) }
-    ensures counted { let judged = AreJudgedBetween evidence.now (asked_of question.now) in
-        IfOk result (λ r. judged zone.now ds.now counts (counts_in r)) }
-    ensures uncut { let uncut = IsUncut evidence.now (asked_of question.now) in
-        IfOk result (λ r. IfErr r (uncut zone.now ds.now counts name.now)) }
+    requires above { at_or_above name.now query.now.asked.name ≡ true }
+    requires untold { let q = query.now in IsUnanswered evidence.now q.asked q.zone q.ds }
+    ensures leads { IfOk result (λ r. IfOk r (IsTurn evidence.now query.now)) }
+    ensures stops { IfOk result (λ r. IfOk r (IsStop evidence.now query.now)) }
+    ensures counted { IfOk result (IsCountedBetween evidence.now query.now counts) }
+    ensures uncut { let uncut = IsUncut evidence.now query.now counts name.now in
+        IfOk result (λ r. IfErr r uncut) }
 {
-    if !is_above(zone, name) {
+    if !is_above(query.zone, name) {
         return Ok(Err(Uncut::SoFar(counts)));
     }
     let above = parent_of(alloc, name)?;
@@ -56,14 +51,14 @@ pub(crate) fn at_names(
         Some(parent) => parent,
         None => return Ok(Err(Uncut::SoFar(counts))),
     };
-    let way = at_names(alloc, evidence, zone, ds, question, &parent, counts)?;
+    let way = at_names(alloc, evidence, query, &parent, counts)?;
     let uncut = match way {
         Ok(taken) => return Ok(Ok(taken)),
         Err(uncut) => uncut,
     };
     match uncut {
         Uncut::AtAll(sums) => Ok(Err(Uncut::AtAll(sums))),
-        Uncut::SoFar(sums) => at_name(alloc, evidence, zone, ds, question, name, sums),
+        Uncut::SoFar(sums) => at_name(alloc, evidence, query, name, sums),
     }
 }
 
@@ -89,25 +84,19 @@ fn some_copy(alloc: Global, name: &Name<&[u8]>) -> Result<Option<Name<Vec<u8>>>,
 fn at_name(
     alloc: Global,
     evidence: &Evidence,
-    zone: &Name<Vec<u8>>,
-    ds: &[Ds<Vec<u8>>],
-    question: &Question,
+    query: &ZoneQuery,
     name: &Name<Vec<u8>>,
     counts: Counts,
 ) -> Result<Result<Taken, Uncut>, AllocError>
-    requires { let asked = asked_of question.now in
-        IsReached evidence.now asked zone.now ds.now name.now }
-    ensures leads { let asked = asked_of question.now in
-        IfOk result (λ r. IfOk r (IsTurn evidence.now asked zone.now ds.now)) }
-    ensures stops { let asked = asked_of question.now in
-        IfOk result (λ r. IfOk r (IsStop evidence.now asked zone.now ds.now)) }
-    ensures judged { let asked = asked_of question.now in
-        IfOk result (IsJudgedAt evidence.now asked zone.now ds.now name.now counts) }
+    requires { let q = query.now in IsReached evidence.now q.asked q.zone q.ds name.now }
+    ensures leads { IfOk result (λ r. IfOk r (IsTurn evidence.now query.now)) }
+    ensures stops { IfOk result (λ r. IfOk r (IsStop evidence.now query.now)) }
+    ensures judged { IfOk result (IsJudgedAt evidence.now query.now name.now counts) }
 {
-    if is_itself(question, name) {
+    if is_itself(query.question, name) {
         Ok(Err(Uncut::SoFar(counts)))
     } else {
-        at_other(alloc, evidence, zone, ds, question, name, counts)
+        at_other(alloc, evidence, query, name, counts)
     }
 }
 
@@ -122,24 +111,19 @@ fn is_itself(question: &Question, name: &Name<Vec<u8>>) -> bool
 fn at_other(
     alloc: Global,
     evidence: &Evidence,
-    zone: &Name<Vec<u8>>,
-    ds: &[Ds<Vec<u8>>],
-    question: &Question,
+    query: &ZoneQuery,
     name: &Name<Vec<u8>>,
     counts: Counts,
 ) -> Result<Result<Taken, Uncut>, AllocError>
-    requires reached { let asked = asked_of question.now in
-        IsReached evidence.now asked zone.now ds.now name.now }
-    requires other { is_itself (asked_of question.now) name.now ≡ false }
-    ensures leads { let asked = asked_of question.now in
-        IfOk result (λ r. IfOk r (IsTurn evidence.now asked zone.now ds.now)) }
-    ensures stops { let asked = asked_of question.now in
-        IfOk result (λ r. IfOk r (IsStop evidence.now asked zone.now ds.now)) }
-    ensures judged { let sought = ds_at (asked_of question.now) name.now in
-        IfOk result (IsJudgedFor evidence.now zone.now ds.now sought counts) }
+    requires reached { let q = query.now in IsReached evidence.now q.asked q.zone q.ds name.now }
+    requires other { is_itself query.now.asked name.now ≡ false }
+    ensures leads { IfOk result (λ r. IfOk r (IsTurn evidence.now query.now)) }
+    ensures stops { IfOk result (λ r. IfOk r (IsStop evidence.now query.now)) }
+    ensures judged { let sought = ds_at query.now.asked name.now in
+        IfOk result (IsJudgedFor evidence.now query.now sought counts) }
 {
-    let asked = ds_question(alloc, question, name)?;
-    at_asked(alloc, evidence, zone, ds, question, &asked, counts)
+    let asked = ds_question(alloc, query.question, name)?;
+    at_asked(alloc, evidence, query, &asked, counts)
 }
 
 /// The question for DS at a name.
@@ -163,24 +147,20 @@ fn ds_question(
 fn at_asked(
     alloc: Global,
     evidence: &Evidence,
-    zone: &Name<Vec<u8>>,
-    ds: &[Ds<Vec<u8>>],
-    question: &Question,
+    query: &ZoneQuery,
     asked: &Question,
     counts: Counts,
 ) -> Result<Result<Taken, Uncut>, AllocError>
-    requires { let asks = asked_of question.now in let sought = asked_of asked.now in
-        IsBetween evidence.now asks zone.now ds.now sought }
-    ensures leads { let asked = asked_of question.now in
-        IfOk result (λ r. IfOk r (IsTurn evidence.now asked zone.now ds.now)) }
-    ensures stops { let asked = asked_of question.now in
-        IfOk result (λ r. IfOk r (IsStop evidence.now asked zone.now ds.now)) }
+    requires { let q = query.now in let sought = asked_of asked.now in
+        IsBetween evidence.now q.asked q.zone q.ds sought }
+    ensures leads { IfOk result (λ r. IfOk r (IsTurn evidence.now query.now)) }
+    ensures stops { IfOk result (λ r. IfOk r (IsStop evidence.now query.now)) }
     ensures judged { let sought = asked_of asked.now in
-        IfOk result (IsJudgedFor evidence.now zone.now ds.now sought counts) }
+        IfOk result (IsJudgedFor evidence.now query.now sought counts) }
 {
-    match case_of(evidence, zone, ds, asked) {
-        Some(case) => by_cut(alloc, evidence, zone, ds, question, asked, &case, counts),
-        None => wanting_there(alloc, evidence, zone, asked, counts),
+    match case_of(evidence, query.zone, query.ds, asked) {
+        Some(case) => by_cut(alloc, evidence, query, &case, counts),
+        None => wanting_there(alloc, evidence, query.zone, asked, counts),
     }
 }
 
@@ -205,28 +185,34 @@ fn wanting_there(
 fn by_cut(
     alloc: Global,
     evidence: &Evidence,
-    zone: &Name<Vec<u8>>,
-    ds: &[Ds<Vec<u8>>],
-    question: &Question,
-    asked: &Question,
+    query: &ZoneQuery,
     case: &Case,
     counts: Counts,
 ) -> Result<Result<Taken, Uncut>, AllocError>
-    requires between { let asks = asked_of question.now in let sought = asked_of asked.now in
-        IsBetween evidence.now asks zone.now ds.now sought }
-    requires of { IsOf evidence.now zone.now ds.now (asked_of asked.now) case.now }
-    ensures leads { let asked = asked_of question.now in
-        IfOk result (λ r. IfOk r (IsTurn evidence.now asked zone.now ds.now)) }
-    ensures stops { let asked = asked_of question.now in
-        IfOk result (λ r. IfOk r (IsStop evidence.now asked zone.now ds.now)) }
-    ensures judged { let sought = asked_of asked.now in
-        IfOk result (IsJudgedFor evidence.now zone.now ds.now sought counts) }
+    requires between { let q = query.now in
+        IsBetween evidence.now q.asked q.zone q.ds case.now.asked }
+    requires of { let q = query.now in IsOf evidence.now q.zone q.ds case.now.asked case.now }
+    ensures leads { IfOk result (λ r. IfOk r (IsTurn evidence.now query.now)) }
+    ensures stops { IfOk result (λ r. IfOk r (IsStop evidence.now query.now)) }
+    ensures judged { IfOk result (IsJudgedFor evidence.now query.now case.now.asked counts) }
 {
     let telling = name_step(alloc, evidence, case)?;
     let lasting = telling.lasting;
     let sums = counts.plus(telling.counts);
     match told_cut(telling.step, sums) {
-        Ok(step) => taken_there(alloc, zone, ds, asked, step, lasting, sums),
+        Ok(step) => {
+            let sought = ZoneQuery {
+                zone: query.zone,
+                ds: query.ds,
+                question: case.question,
+            };
+            let so_far = Telling {
+                step,
+                lasting,
+                counts: sums,
+            };
+            taken_there(alloc, &sought, so_far)
+        }
         Err(uncut) => Ok(Err(uncut)),
     }
 }
@@ -246,18 +232,14 @@ fn told_cut(step: Step, counts: Counts) -> Result<Step, Uncut>
 /// Where what a message tells of a delegation leads.
 fn taken_there(
     alloc: Global,
-    zone: &Name<Vec<u8>>,
-    ds: &[Ds<Vec<u8>>],
-    asked: &Question,
-    step: Step,
-    lasting: Option<Lasting>,
-    counts: Counts,
+    sought: &ZoneQuery,
+    so_far: Telling,
 ) -> Result<Result<Taken, Uncut>, AllocError>
-    ensures turns { let to = IsTurnedTo zone.now ds.now (asked_of asked.now) in
-        IfOk result (λ r. MatchResult r (λ t. to (told step) t.turn) (λ n. ⊥)) }
-    ensures lasts { IfOk result (λ r. IfOk r (λ t. t.lasting ≡ lasting)) }
-    ensures counted { IfOk result (λ r. counts_in r ≡ counts) }
+    ensures turns { let to = IsTurnedTo sought.now (told so_far.step) in
+        IfOk result (λ r. MatchResult r (λ t. to t.turn) (λ n. ⊥)) }
+    ensures lasts { IfOk result (λ r. IfOk r (λ t. t.lasting ≡ so_far.lasting)) }
+    ensures counted { IfOk result (λ r. counts_in r ≡ so_far.counts) }
 {
-    let there = taken(alloc, zone, ds, asked, step, lasting, counts)?;
+    let there = taken(alloc, sought, so_far)?;
     Ok(Ok(there))
 }

@@ -8,11 +8,12 @@ ghost use Rattle.resolution_walk.specs.Wanted.{is_lacking, lacking, wanted_of};
 
 use crate::ending::{Ending, Taken, Turn, Wanted};
 use crate::evidence::Evidence;
+use crate::query::ZoneQuery;
 use denial_data::Ds;
 use messages::names::{Name, copy_name};
 use messages::question::Question;
 use names_rdata::rtype::Rtype;
-use resolution_evidence::{Case, Counts, Lasting, Refusal, Step, Telling, cut_step, step};
+use resolution_evidence::{Case, Counts, Refusal, Step, Telling, cut_step, step};
 use std::alloc::{AllocError, Global};
 
 /// What the zone's answer to a question tells of it.
@@ -166,21 +167,13 @@ fn wanted_of(
 }
 
 /// Where what a zone's message tells leads, how long it lasts and what is counted so far.
-pub(crate) fn taken(
-    alloc: Global,
-    zone: &Name<Vec<u8>>,
-    ds: &[Ds<Vec<u8>>],
-    question: &Question,
-    step: Step,
-    lasting: Option<Lasting>,
-    counts: Counts,
-) -> Result<Taken, AllocError>
-    ensures turns { let to = IsTurnedTo zone.now ds.now (asked_of question.now) in
-        IfOk result (λ t. to (told step) t.turn) }
-    ensures lasts { IfOk result (λ t. t.lasting ≡ lasting) }
-    ensures counted { IfOk result (λ t. t.counts ≡ counts) }
+pub(crate) fn taken(alloc: Global, query: &ZoneQuery, so_far: Telling) -> Result<Taken, AllocError>
+    ensures turns { IfOk result (λ t. IsTurnedTo query.now (told so_far.step) t.turn) }
+    ensures lasts { IfOk result (λ t. t.lasting ≡ so_far.lasting) }
+    ensures counted { IfOk result (λ t. t.counts ≡ so_far.counts) }
 {
-    let turn = turned(alloc, zone, ds, question, step)?;
+    let (lasting, counts) = (so_far.lasting, so_far.counts);
+    let turn = turned(alloc, query, so_far.step)?;
     Ok(Taken {
         turn,
         lasting,
@@ -189,31 +182,24 @@ pub(crate) fn taken(
 }
 
 /// Where what a zone's message tells leads.
-fn turned(
-    alloc: Global,
-    zone: &Name<Vec<u8>>,
-    ds: &[Ds<Vec<u8>>],
-    question: &Question,
-    step: Step,
-) -> Result<Turn, AllocError>
-    ensures { let sought = asked_of question.now in
-        IfOk result (IsTurnedTo zone.now ds.now sought (told step)) }
+fn turned(alloc: Global, query: &ZoneQuery, step: Step) -> Result<Turn, AllocError>
+    ensures { IfOk result (IsTurnedTo query.now (told step)) }
 {
     match step {
         Step::Answer(verdict) => {
-            let zone = copy_name(alloc, zone)?;
+            let zone = copy_name(alloc, query.zone)?;
             Ok(Turn::Ends(Ending::Secure { zone, verdict }))
         }
         Step::Leads(lead) => Ok(Turn::Ends(Ending::Leads(lead))),
         Step::Down { cut, ds } => Ok(Turn::Down { zone: cut, ds }),
         Step::Unsigned { cut, ds } => Ok(Turn::Ends(Ending::Unsigned { cut, ds })),
         Step::LeftOpen => {
-            let zone = copy_name(alloc, zone)?;
+            let zone = copy_name(alloc, query.zone)?;
             Ok(Turn::Ends(Ending::LeftOpen(zone)))
         }
-        Step::NoCut => untold(alloc, zone, ds, question, None),
-        Step::NoneBelow => untold(alloc, zone, ds, question, None),
-        Step::Untold(refusal) => untold(alloc, zone, ds, question, refusal),
+        Step::NoCut => untold(alloc, query, None),
+        Step::NoneBelow => untold(alloc, query, None),
+        Step::Untold(refusal) => untold(alloc, query, refusal),
         Step::Asks(asks) => Ok(Turn::Ends(Ending::Asks(asks))),
     }
 }
@@ -221,17 +207,15 @@ fn turned(
 /// The end where a zone's answer to a question tells nothing of the way.
 pub(crate) fn untold(
     alloc: Global,
-    zone: &Name<Vec<u8>>,
-    ds: &[Ds<Vec<u8>>],
-    question: &Question,
+    query: &ZoneQuery,
     refusal: Option<Refusal>,
 ) -> Result<Turn, AllocError>
-    ensures { let sought = asked_of question.now in
-        IfOk result (IsTurnUntold zone.now ds.now sought refusal) }
+    ensures { IfOk result (IsTurnUntold query.now refusal) }
 {
-    let (zone, name) = (copy_name(alloc, zone)?, copy_name(alloc, &question.name)?);
-    let ds = copied_ds(alloc, ds)?;
-    let rtype = question.rtype;
+    let zone = copy_name(alloc, query.zone)?;
+    let ds = copied_ds(alloc, query.ds)?;
+    let name = copy_name(alloc, &query.question.name)?;
+    let rtype = query.question.rtype;
     Ok(Turn::Ends(Ending::Untold {
         zone,
         ds,

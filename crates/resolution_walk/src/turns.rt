@@ -1,23 +1,29 @@
 //! Where the messages of a zone lead.
 ghost use Rattle.std.specs.Prelude.{◌≡◌, IfErr, IfOk, MatchResult};
-ghost use Rattle.messages.specs.Questions.{asked_of};
 ghost use Rattle.resolution_evidence.specs.Given.{IsOf};
 ghost use Rattle.resolution_evidence.specs.Told.{told};
 ghost use Rattle.resolution_walk.specs.Between.{IsAnswerUntold, IsNothing, IsUnanswered};
 ghost use Rattle.resolution_walk.specs.Ended.{IsTurn};
-ghost use Rattle.resolution_walk.specs.Judged.{AreJudgedBetween, IsLast, IsToldWay};
-ghost use Rattle.resolution_walk.specs.Judged.{are_keys_refused, counts_in, is_of_keys};
+ghost use Rattle.resolution_walk.specs.Judged.{IsCountedBetween, IsLast, IsToldWay};
+ghost use Rattle.resolution_walk.specs.Judged.{are_keys_refused, is_of_keys};
 ghost use Rattle.resolution_walk.specs.Stopping.{IsCounted, IsStop, IsTurnUntold};
 
 use crate::ending::{Taken, Uncut};
 use crate::evidence::Evidence;
 use crate::names_between::at_names;
 use crate::place::{case_of, own_step, taken, untold, wanting};
-use denial_data::Ds;
-use messages::names::Name;
-use messages::question::Question;
-use resolution_evidence::{Case, Counts, Refusal, Step};
+use crate::query::ZoneQuery;
+use resolution_evidence::{Case, Counts, Refusal, Step, Telling};
 use std::alloc::{AllocError, Global};
+
+/// An answer to the question that tells nothing of the way.
+#[derive(Clone, Copy, Debug, PartialEq, Eq)]
+struct Unanswered {
+    /// Why it was refused, if it was.
+    refusal: Option<Refusal>,
+    /// How often was verified and hashed for it.
+    counts: Counts,
+}
 
 /// Where the messages of a zone lead with a question: by the answer to it, and where that tells
 /// nothing of the way, by answers for DS at the names between. What is counted so far comes with
@@ -25,21 +31,16 @@ use std::alloc::{AllocError, Global};
 pub(crate) fn in_zone(
     alloc: Global,
     evidence: &Evidence,
-    zone: &Name<Vec<u8>>,
-    ds: &[Ds<Vec<u8>>],
-    question: &Question,
+    query: &ZoneQuery,
     counts: Counts,
 ) -> Result<Taken, AllocError>
-    ensures leads { let asked = asked_of question.now in
-        IfOk result (IsTurn evidence.now asked zone.now ds.now) }
-    ensures stops { let asked = asked_of question.now in
-        IfOk result (IsStop evidence.now asked zone.now ds.now) }
-    ensures counted { let asked = asked_of question.now in
-        IfOk result (IsCounted evidence.now asked zone.now ds.now counts) }
+    ensures leads { IfOk result (IsTurn evidence.now query.now) }
+    ensures stops { IfOk result (IsStop evidence.now query.now) }
+    ensures counted { IfOk result (IsCounted evidence.now query.now counts) }
 {
-    match case_of(evidence, zone, ds, question) {
-        Some(case) => by_answer(alloc, evidence, zone, ds, question, &case, counts),
-        None => wanting(alloc, evidence, zone, question, counts),
+    match case_of(evidence, query.zone, query.ds, query.question) {
+        Some(case) => by_answer(alloc, evidence, query, &case, counts),
+        None => wanting(alloc, evidence, query.zone, query.question, counts),
     }
 }
 
@@ -47,26 +48,34 @@ pub(crate) fn in_zone(
 fn by_answer(
     alloc: Global,
     evidence: &Evidence,
-    zone: &Name<Vec<u8>>,
-    ds: &[Ds<Vec<u8>>],
-    question: &Question,
+    query: &ZoneQuery,
     case: &Case,
     counts: Counts,
 ) -> Result<Taken, AllocError>
-    requires { IsOf evidence.now zone.now ds.now (asked_of question.now) case.now }
-    ensures leads { let asked = asked_of question.now in
-        IfOk result (IsTurn evidence.now asked zone.now ds.now) }
-    ensures stops { let asked = asked_of question.now in
-        IfOk result (IsStop evidence.now asked zone.now ds.now) }
-    ensures counted { let asked = asked_of question.now in
-        IfOk result (IsCounted evidence.now asked zone.now ds.now counts) }
+    requires { let q = query.now in IsOf evidence.now q.zone q.ds q.asked case.now }
+    ensures leads { IfOk result (IsTurn evidence.now query.now) }
+    ensures stops { IfOk result (IsStop evidence.now query.now) }
+    ensures counted { IfOk result (IsCounted evidence.now query.now counts) }
 {
     let telling = own_step(alloc, evidence, case)?;
     let (lasting, own) = (telling.lasting, telling.counts);
     let sums = counts.plus(own);
     match told_way(telling.step) {
-        Ok(step) => taken(alloc, zone, ds, question, step, lasting, sums),
-        Err(refusal) => between(alloc, evidence, zone, ds, question, refusal, counts, own),
+        Ok(step) => {
+            let so_far = Telling {
+                step,
+                lasting,
+                counts: sums,
+            };
+            taken(alloc, query, so_far)
+        }
+        Err(refusal) => {
+            let untold = Unanswered {
+                refusal,
+                counts: own,
+            };
+            between(alloc, evidence, query, untold, counts)
+        }
     }
 }
 
@@ -83,32 +92,27 @@ fn told_way(step: Step) -> Result<Step, Option<Refusal>>
 }
 
 /// Where answers for DS lead at the names between; or nowhere, if no delegation is there. The
-/// answer to the question tells nothing, and has counts of its own.
+/// answer to the question tells nothing.
 fn between(
     alloc: Global,
     evidence: &Evidence,
-    zone: &Name<Vec<u8>>,
-    ds: &[Ds<Vec<u8>>],
-    question: &Question,
-    refusal: Option<Refusal>,
+    query: &ZoneQuery,
+    untold: Unanswered,
     counts: Counts,
-    own: Counts,
 ) -> Result<Taken, AllocError>
-    requires { IsAnswerUntold evidence.now (asked_of question.now) zone.now ds.now refusal own }
-    ensures leads { let asked = asked_of question.now in
-        IfOk result (IsTurn evidence.now asked zone.now ds.now) }
-    ensures stops { let asked = asked_of question.now in
-        IfOk result (IsStop evidence.now asked zone.now ds.now) }
-    ensures counted { let asked = asked_of question.now in
-        IfOk result (IsCounted evidence.now asked zone.now ds.now counts) }
+    requires { let q = query.now in
+        IsAnswerUntold evidence.now q.asked q.zone q.ds untold.refusal untold.counts }
+    ensures leads { IfOk result (IsTurn evidence.now query.now) }
+    ensures stops { IfOk result (IsStop evidence.now query.now) }
+    ensures counted { IfOk result (IsCounted evidence.now query.now counts) }
 {
-    let sums = counts.plus(own);
-    let way = down_between(alloc, evidence, zone, ds, question, &refusal, sums)?;
+    let sums = counts.plus(untold.counts);
+    let way = down_between(alloc, evidence, query, &untold.refusal, sums)?;
     match way {
         Ok(taken) => Ok(taken),
         Err(uncut) => {
             let all = uncut.counts();
-            untold_there(alloc, zone, ds, question, refusal, all)
+            untold_there(alloc, query, untold.refusal, all)
         }
     }
 }
@@ -116,17 +120,14 @@ fn between(
 /// The end where the answer to a question tells nothing, with what is counted so far.
 fn untold_there(
     alloc: Global,
-    zone: &Name<Vec<u8>>,
-    ds: &[Ds<Vec<u8>>],
-    question: &Question,
+    query: &ZoneQuery,
     refusal: Option<Refusal>,
     counts: Counts,
 ) -> Result<Taken, AllocError>
-    ensures turns { let sought = asked_of question.now in
-        IfOk result (λ t. IsTurnUntold zone.now ds.now sought refusal t.turn) }
+    ensures turns { IfOk result (λ t. IsTurnUntold query.now refusal t.turn) }
     ensures counted { IfOk result (λ t. t.counts ≡ counts) }
 {
-    let turn = untold(alloc, zone, ds, question, refusal)?;
+    let turn = untold(alloc, query, refusal)?;
     Ok(Taken {
         turn,
         lasting: None,
@@ -139,26 +140,21 @@ fn untold_there(
 fn down_between(
     alloc: Global,
     evidence: &Evidence,
-    zone: &Name<Vec<u8>>,
-    ds: &[Ds<Vec<u8>>],
-    question: &Question,
+    query: &ZoneQuery,
     refusal: &Option<Refusal>,
     counts: Counts,
 ) -> Result<Result<Taken, Uncut>, AllocError>
-    requires { IsUnanswered evidence.now (asked_of question.now) zone.now ds.now }
-    ensures leads { let asked = asked_of question.now in
-        IfOk result (λ r. IfOk r (IsTurn evidence.now asked zone.now ds.now)) }
-    ensures stops { let asked = asked_of question.now in
-        IfOk result (λ r. IfOk r (IsStop evidence.now asked zone.now ds.now)) }
-    ensures counted { let judged = AreJudgedBetween evidence.now (asked_of question.now) in
-        IfOk result (λ r. judged zone.now ds.now counts (counts_in r)) }
-    ensures last { let last = IsLast evidence.now (asked_of question.now) zone.now ds.now in
+    requires { let q = query.now in IsUnanswered evidence.now q.asked q.zone q.ds }
+    ensures leads { IfOk result (λ r. IfOk r (IsTurn evidence.now query.now)) }
+    ensures stops { IfOk result (λ r. IfOk r (IsStop evidence.now query.now)) }
+    ensures counted { IfOk result (IsCountedBetween evidence.now query.now counts) }
+    ensures last { let q = query.now in let last = IsLast evidence.now q.asked q.zone q.ds in
         IfOk result (λ r. IfErr r (λ u. last refusal.now)) }
 {
     if are_keys_refused(refusal) {
         Ok(Err(Uncut::SoFar(counts)))
     } else {
-        at_names(alloc, evidence, zone, ds, question, &question.name, counts)
+        at_names(alloc, evidence, query, &query.question.name, counts)
     }
 }
 

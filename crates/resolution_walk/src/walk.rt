@@ -14,8 +14,8 @@ ghost use Rattle.resolution_walk.specs.Truth.{WalksTruly};
 
 use crate::ending::{End, Ending, Taken, Target, Turn, Walk};
 use crate::evidence::Evidence;
+use crate::query::ZoneQuery;
 use crate::turns::in_zone;
-use denial_data::Ds;
 use messages::names::{Name, ToName, copy_name, is_at_or_above};
 use messages::question::Question;
 use names_rdata::rtype::Rtype;
@@ -31,6 +31,14 @@ pub struct Limits {
     pub aliases: u16,
     /// How many messages the evidence may have: beside so many, or more, it wants none.
     pub messages: u16,
+}
+
+/// What a walk has behind it: the names that aliases led through, and how often was verified and
+/// hashed.
+#[derive(Debug, Drop)]
+pub(crate) struct Trail {
+    pub(crate) through: Vec<Name<Vec<u8>>>,
+    pub(crate) counts: Counts,
 }
 
 /// Says what evidence tells of a question: the verdict of the zone that has the name, or from where
@@ -73,17 +81,11 @@ pub fn resolve(
         IfOk result (WalksTruly evidence.now asked) }
 {
     let asked = copied(alloc, question)?;
-    let through = Vec::new(alloc);
-    let counts = Counts::none();
-    let walk = follow(
-        alloc,
-        evidence,
-        asked,
-        through,
-        limits.cuts,
-        limits.aliases,
-        counts,
-    )?;
+    let trail = Trail {
+        through: Vec::new(alloc),
+        counts: Counts::none(),
+    };
+    let walk = follow(alloc, evidence, asked, trail, limits)?;
     Ok(lasting_if_said(within(evidence, limits.messages, walk)))
 }
 
@@ -179,32 +181,38 @@ fn follow(
     alloc: Global,
     evidence: &Evidence,
     question: Question,
-    through: Vec<Name<Vec<u8>>>,
-    cuts: u16,
-    aliases: u16,
-    counts: Counts,
+    trail: Trail,
+    left: Limits,
 ) -> Result<Walk, AllocError>
     ensures walked { let asked = asked_of question in
-        IfOk result (IsWalked evidence.now asked through.items) }
+        IfOk result (IsWalked evidence.now asked trail.through.items) }
     ensures stops { let asked = asked_of question in
-        IfOk result (WalkStops evidence.now asked cuts aliases through.items counts) }
+        IfOk result (WalkStops evidence.now asked left trail) }
 {
-    let end = led(alloc, evidence, &question, cuts, counts)?;
+    let end = led(alloc, evidence, &question, left.cuts, trail.counts)?;
+    let through = trail.through;
     let target = match end {
         Ok(target) => target,
         Err(end) => return Ok(walk_with(end, through)),
     };
-    if aliases == 0 {
+    if left.aliases == 0 {
         return Ok(too_many_aliases(target.counts, through));
     }
-    let longer = with_name(alloc, through, &target.name)?;
-    let (lasting, sums) = (target.lasting, target.counts);
+    let longer = Trail {
+        through: with_name(alloc, through, &target.name)?,
+        counts: target.counts,
+    };
+    let lasting = target.lasting;
     let next = Question {
         name: target.name,
         rtype: question.rtype,
         class: question.class,
     };
-    let walk = follow(alloc, evidence, next, longer, cuts, aliases - 1, sums)?;
+    let fewer = Limits {
+        aliases: left.aliases - 1,
+        ..left
+    };
+    let walk = follow(alloc, evidence, next, longer, fewer)?;
     Ok(behind(lasting, walk))
 }
 
@@ -285,8 +293,12 @@ fn from_anchor(
         let ends = EndsHere e asked cuts counts in
         IfOk result (λ r. MatchResult r (IsLed e asked cuts counts) ends) }
 {
-    let (anchor, ds) = (evidence.anchor, evidence.ds);
-    let end = descend(alloc, evidence, anchor, ds, question, cuts, counts)?;
+    let query = ZoneQuery {
+        zone: evidence.anchor,
+        ds: evidence.ds,
+        question,
+    };
+    let end = descend(alloc, evidence, &query, cuts, counts)?;
     Ok(alias_of(end))
 }
 
@@ -328,18 +340,14 @@ fn alias_of(end: End) -> Result<Target, End>
 fn descend(
     alloc: Global,
     evidence: &Evidence,
-    zone: &Name<Vec<u8>>,
-    ds: &[Ds<Vec<u8>>],
-    question: &Question,
+    query: &ZoneQuery,
     cuts: u16,
     counts: Counts,
 ) -> Result<End, AllocError>
-    ensures leads { let asked = asked_of question.now in
-        IfOk result (IsEnding evidence.now asked zone.now ds.now) }
-    ensures stops { let asked = asked_of question.now in
-        IfOk result (StopsIn evidence.now asked cuts zone.now ds.now counts) }
+    ensures leads { IfOk result (IsEnding evidence.now query.now) }
+    ensures stops { IfOk result (StopsIn evidence.now query.now cuts counts) }
 {
-    let taken = in_zone(alloc, evidence, zone, ds, question, counts)?;
+    let taken = in_zone(alloc, evidence, query, counts)?;
     let (lasting, sums) = (taken.lasting, taken.counts);
     let turn = taken.turn;
     match turn {
@@ -349,7 +357,12 @@ fn descend(
             counts: sums,
         }),
         Turn::Down { zone, ds } => {
-            let end = below(alloc, evidence, &zone, ds.as_slice(), question, cuts, sums)?;
+            let next = ZoneQuery {
+                zone: &zone,
+                ds: ds.as_slice(),
+                question: query.question,
+            };
+            let end = below(alloc, evidence, &next, cuts, sums)?;
             Ok(lasting_with(lasting, end))
         }
     }
@@ -371,16 +384,12 @@ fn lasting_with(lasting: Option<Lasting>, end: End) -> End
 fn below(
     alloc: Global,
     evidence: &Evidence,
-    zone: &Name<Vec<u8>>,
-    ds: &[Ds<Vec<u8>>],
-    question: &Question,
+    query: &ZoneQuery,
     cuts: u16,
     counts: Counts,
 ) -> Result<End, AllocError>
-    ensures leads { let asked = asked_of question.now in
-        IfOk result (IsEnding evidence.now asked zone.now ds.now) }
-    ensures stops { let asked = asked_of question.now in
-        IfOk result (StopsBelowIn evidence.now asked cuts zone.now ds.now counts) }
+    ensures leads { IfOk result (IsEnding evidence.now query.now) }
+    ensures stops { IfOk result (StopsBelowIn evidence.now query.now cuts counts) }
 {
     if cuts == 0 {
         Ok(End {
@@ -389,7 +398,7 @@ fn below(
             counts,
         })
     } else {
-        descend(alloc, evidence, zone, ds, question, cuts - 1, counts)
+        descend(alloc, evidence, query, cuts - 1, counts)
     }
 }
 

@@ -28,8 +28,8 @@ use Rattle.answer_zone.specs.ZoneAnswers.{answered}
 use Rattle.answer_judge.specs.Meeting.{served_from}
 use Rattle.answer_judge.proofs.GivenRrset.{all_joined, verified_rrset_missing}
 use Rattle.answer_judge.proofs.OwnAnswer.{some_data}
-use Rattle.answer_judge_keys.specs.Judging.{JudgeInput}
-use Rattle.answer_judge_facts.specs.Judged.{trusting}
+use Rattle.answer_judge.specs.Judging.{JudgeInput}
+use Rattle.answer_judge.specs.Judged.{trusting}
 use Rattle.answer_judge_facts.specs.Verified.{Trusting, verified_rrset}
 use Rattle.answer_findings.specs.Hints.{answer_records, has_cname_hint}
 use Rattle.answer_findings.specs.Judgements.{alias_hint, asking}

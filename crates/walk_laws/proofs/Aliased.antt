@@ -8,13 +8,13 @@ use Rattle.definitions.specs.Zone.{Open, Verdict}
 use Rattle.definitions.specs.ZoneChain.{Mode}
 use Rattle.messages.specs.HandedRr.{HandedRr}
 use Rattle.messages.specs.Message.{Asked}
-use Rattle.answer_judge_facts.specs.Judged.{AnswersAs, judged}
-use Rattle.answer_judge_keys.specs.Judging.{Answer, JudgeInput, Refuses, Says, answer_of}
-use Rattle.answer_judge_keys.specs.declared.verdict.Judgement.{Judgement}
-use Rattle.answer_judge_keys.specs.declared.verdict.Lasting.{Lasting}
-use Rattle.answer_judge_keys.specs.declared.verdict.Refusal.{Refusal}
-use Rattle.answer_judge_keys.specs.declared.verdict.Refusal.TheVariants as r
-use Rattle.answer_judge_keys.specs.declared.verdict.Refused.{Refused}
+use Rattle.answer_judge.specs.Judged.{AnswersAs, judged}
+use Rattle.answer_judge.specs.Judging.{Answer, JudgeInput, Refuses, Says, answer_of}
+use Rattle.answer_judge.specs.declared.verdict.Judgement.{Judgement}
+use Rattle.answer_judge_facts.specs.declared.lasting.Lasting.{Lasting}
+use Rattle.answer_judge.specs.declared.verdict.Refusal.{Refusal}
+use Rattle.answer_judge.specs.declared.verdict.Refusal.TheVariants as r
+use Rattle.answer_judge.specs.declared.verdict.Refused.{Refused}
 use Rattle.answer_judge_table.specs.Decided.{is_out_of_memory}
 use Rattle.answer_judge_table.specs.Outcomes.{IsJudgedBy}
 use Rattle.answer_findings.specs.Found.{AreJudgements}

@@ -7,7 +7,7 @@ use Rattle.definitions.specs.Dnskey.{Ds}
 use Rattle.definitions.specs.Name.{Name}
 use Rattle.definitions.proofs.Members.{contained}
 use Rattle.messages.specs.Message.{Asked}
-use Rattle.answer_judge_keys.specs.declared.verdict.Refusal.{Refusal}
+use Rattle.answer_judge.specs.declared.verdict.Refusal.{Refusal}
 use Rattle.answer_judge_rules.specs.Rules.{verdict_of}
 use Rattle.resolution_tree.specs.Laws.{AreAlike, TreesResolveToOne, TreesSayOne}
 use Rattle.resolution_tree.specs.Tree.{Said, Secure, Unsigned, LeftOpen, Leads, Resolves, Tree, TreeZone}

@@ -37,11 +37,11 @@ use Rattle.alias_laws.proofs.FoundFacts.{found_decides}
 use Rattle.alias_laws.proofs.Leading.{aliased_is_led, redirecting_found, redirector}
 use Rattle.alias_laws.proofs.Orderly.{answers_decide, servable}
 use Rattle.alias_laws.specs.Leading.{leads_elsewhere}
-use Rattle.answer_judge_keys.specs.Judging.{Answer, JudgeInput, Refuses, Says, is_judged, same_question}
+use Rattle.answer_judge.specs.Judging.{Answer, JudgeInput, Refuses, Says, is_judged, same_question}
 use Rattle.answer_judge_keys.specs.Trusted.{fits_key, is_usable, may_expand}
-use Rattle.answer_judge_keys.specs.declared.verdict.Refusal.TheVariants as r
+use Rattle.answer_judge.specs.declared.verdict.Refusal.TheVariants as r
 use Rattle.answer_judge_keys.proofs.GivenKeys.{by_tag-has, find_kept}
-use Rattle.answer_judge_facts.specs.Judged.{are_mixed, are_over, by_facts, decided_by, facts_in, is_unhashed, judged, judged_answer, judged_facts, judged_messages, judged_proof, keys_of, trusting}
+use Rattle.answer_judge.specs.Judged.{are_mixed, are_over, by_facts, decided_by, facts_in, is_unhashed, judged, judged_answer, judged_facts, judged_messages, judged_proof, keys_of, trusting}
 use Rattle.answer_judge_facts.specs.Times.{are_unlike, proof_times}
 use Rattle.answer_judge_facts.specs.Verified.{Trusting, verified_facts, verified_hash_links, verified_links, verified_rrset}
 use Rattle.answer_judge.specs.Meeting.{served_from}

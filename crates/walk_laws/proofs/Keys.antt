@@ -15,12 +15,12 @@ use Rattle.answer_scheme.specs.Answers.{Answers}
 use Rattle.answer_shared.specs.EqualTags.{has_equal_tags}
 use Rattle.answer_shared.specs.Served.{Group, by_tag, key_group}
 use Rattle.answer_shared.specs.Told.{fields_for}
-use Rattle.answer_judge_keys.specs.Judging.{Answer, JudgeInput, Refuses, is_judged, may_ask, same_question}
+use Rattle.answer_judge.specs.Judging.{Answer, JudgeInput, Refuses, is_judged, may_ask, same_question}
 use Rattle.answer_judge_keys.specs.Trusted.{is_trusted, is_usable}
-use Rattle.answer_judge_keys.specs.declared.verdict.Refusal.TheVariants as r
+use Rattle.answer_judge.specs.declared.verdict.Refusal.TheVariants as r
 use Rattle.answer_judge_keys.proofs.GivenKeys.{by_tag-has, data_of_key, find_kept}
 use Rattle.answer_judge_keys.proofs.GivenSorted.{data_has, some_length, sorted_twice}
-use Rattle.answer_judge_facts.specs.Judged.{AnswersAs, are_mixed, are_over, decided_by, ds_authenticates_keys, facts_in, has_unlike_times, is_unhashed, judged, judged_answer, judged_messages, keys_of, trusting}
+use Rattle.answer_judge.specs.Judged.{AnswersAs, are_mixed, are_over, decided_by, ds_authenticates_keys, facts_in, has_unlike_times, is_unhashed, judged, judged_answer, judged_messages, keys_of, trusting}
 use Rattle.answer_judge_facts.specs.Verified.{Trusting, is_verified}
 use Rattle.answer_judge.specs.Meeting.{HasDs, WasGiven}
 use Rattle.answer_judge.proofs.GivenChained.{keys_apart, keys_data, keys_has, trusted_given}

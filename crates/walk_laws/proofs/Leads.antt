@@ -36,11 +36,11 @@ use Rattle.answer_judge.proofs.GivenLists.{has_contained}
 use Rattle.answer_judge.proofs.GivenRrset.{is_ordinary, verified_rrset_given}
 use Rattle.answer_judge.proofs.GivenSignatures.{IsSignedBy, fits_equal}
 use Rattle.answer_judge.proofs.OwnAnswer.{some_data}
-use Rattle.answer_judge_keys.specs.Judging.{JudgeInput, Says, is_judged}
-use Rattle.answer_judge_keys.specs.declared.verdict.Refusal.TheVariants as r
+use Rattle.answer_judge.specs.Judging.{JudgeInput, Says, is_judged}
+use Rattle.answer_judge.specs.declared.verdict.Refusal.TheVariants as r
 use Rattle.answer_judge_keys.proofs.GivenKeys.{by_tag-has}
 use Rattle.answer_judge_keys.proofs.GivenSorted.{sorted_twice}
-use Rattle.answer_judge_facts.specs.Judged.{decided_by, judged, judged_answer, judged_proof, trusting}
+use Rattle.answer_judge.specs.Judged.{decided_by, judged, judged_answer, judged_proof, trusting}
 use Rattle.answer_judge_facts.specs.Verified.{Trusting, verified_hash_links, verified_links, verified_rrset}
 use Rattle.answer_findings.specs.Judgements.{alias_hint, aside, asking}
 use Rattle.answer_findings.specs.Seen.{Seen, SeesAlias, SeesStarAlias, SeesOpen, SeesDname, lead_said, named_lead, own_lead, star_lead}

@@ -8,8 +8,8 @@ use Rattle.definitions.specs.Name.{Name, low, same}
 use Rattle.definitions.specs.Zone.{Verdict, Records, NoType, NoName, StarRecords, StarNoType, Delegated, Open, Unsigned}
 use Rattle.definitions.proofs.Members.{In}
 use Rattle.messages.specs.Message.{Asked}
-use Rattle.answer_judge_keys.specs.Judging.{JudgeInput}
-use Rattle.answer_judge_keys.specs.declared.verdict.Lasting.{Lasting}
+use Rattle.answer_judge.specs.Judging.{JudgeInput}
+use Rattle.answer_judge_facts.specs.declared.lasting.Lasting.{Lasting}
 use Rattle.answer_judge_table.specs.Asking.{AreAsked, are_new, unchecked}
 use Rattle.answer_findings.specs.Table.{Checked, Tried, is_entry_of, is_same_try, told}
 use Rattle.answer_findings.specs.Found.{AreAskedFor, IsFound}

@@ -3,10 +3,10 @@ use Rattle.std.specs.Prelude.{Bool, true, false, not, ◌&&◌, Option, Some, No
 use Rattle.definitions.specs.Zone.{Verdict, Unsigned}
 use Rattle.messages.specs.Message.{Message}
 use Rattle.messages.specs.declared.error.MessageError.{MessageError}
-use Rattle.answer_judge_facts.specs.Judged.{by_facts, keys_of}
-use Rattle.answer_judge_keys.specs.Judging.{Answer, JudgeInput, Refuses, Says, may_ask, same_question}
-use Rattle.answer_judge_keys.specs.declared.verdict.Refusal.{Refusal}
-use Rattle.answer_judge_keys.specs.declared.verdict.Refusal.TheVariants as r
+use Rattle.answer_judge.specs.Judged.{by_facts, keys_of}
+use Rattle.answer_judge.specs.Judging.{Answer, JudgeInput, Refuses, Says, may_ask, same_question}
+use Rattle.answer_judge.specs.declared.verdict.Refusal.{Refusal}
+use Rattle.answer_judge.specs.declared.verdict.Refusal.TheVariants as r
 use Rattle.answer_shared.specs.EqualTags.{has_equal_tags}
 
 -- By whether the question is judged, whether there is no DS, what both messages read as, and what is refused and judged of them.

@@ -8,13 +8,13 @@ use Rattle.definitions.specs.Zone.{Verdict, verdict}
 use Rattle.messages.specs.Message.{Asked}
 use Rattle.answer_shared.specs.Served.{by_tag}
 use Rattle.answer_judge.specs.Meeting.{WasGiven}
-use Rattle.answer_judge_facts.specs.Judged.{AnswersAs}
-use Rattle.answer_judge_keys.specs.Judging.{Says, JudgeInput, answer_of}
-use Rattle.answer_judge_keys.specs.declared.verdict.Lasting.{Lasting}
-use Rattle.answer_judge_keys.specs.declared.verdict.Judgement.{Judgement}
-use Rattle.answer_judge_keys.specs.declared.verdict.Refusal.{Refusal}
-use Rattle.answer_judge_keys.specs.declared.verdict.Refusal.TheVariants as r
-use Rattle.answer_judge_keys.specs.declared.verdict.Refused.{Refused}
+use Rattle.answer_judge.specs.Judged.{AnswersAs}
+use Rattle.answer_judge.specs.Judging.{Says, JudgeInput, answer_of}
+use Rattle.answer_judge_facts.specs.declared.lasting.Lasting.{Lasting}
+use Rattle.answer_judge.specs.declared.verdict.Judgement.{Judgement}
+use Rattle.answer_judge.specs.declared.verdict.Refusal.{Refusal}
+use Rattle.answer_judge.specs.declared.verdict.Refusal.TheVariants as r
+use Rattle.answer_judge.specs.declared.verdict.Refused.{Refused}
 use Rattle.answer_judge_table.specs.Outcomes.{IsJudgedBy}
 use Rattle.answer_findings.specs.Judgements.{is_delegated}
 use Rattle.answer_findings.specs.Table.{AgreesWith, Tried, answers_with}

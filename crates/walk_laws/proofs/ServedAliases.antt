@@ -15,14 +15,14 @@ use Rattle.answer_zone.specs.Finding.{finds, redirecting}
 use Rattle.alias_laws.specs.Leading.{leads_elsewhere}
 use Rattle.alias_laws.proofs.Leading.{aliased_is_led}
 use Rattle.answer_judge.specs.Meeting.{served_from}
-use Rattle.answer_judge_facts.specs.Honest.{AreHonest, SaysOneOf}
-use Rattle.answer_judge_facts.specs.Judged.{AnswersAs, judged}
-use Rattle.answer_judge_keys.specs.Judging.{JudgeInput, Says, answer_of}
-use Rattle.answer_judge_keys.specs.declared.verdict.Judgement.{Judgement}
-use Rattle.answer_judge_keys.specs.declared.verdict.Lasting.{Lasting}
-use Rattle.answer_judge_keys.specs.declared.verdict.Refusal.{Refusal}
-use Rattle.answer_judge_keys.specs.declared.verdict.Refusal.TheVariants as r
-use Rattle.answer_judge_keys.specs.declared.verdict.Refused.{Refused}
+use Rattle.answer_judge.specs.Honest.{AreHonest, SaysOneOf}
+use Rattle.answer_judge.specs.Judged.{AnswersAs, judged}
+use Rattle.answer_judge.specs.Judging.{JudgeInput, Says, answer_of}
+use Rattle.answer_judge.specs.declared.verdict.Judgement.{Judgement}
+use Rattle.answer_judge_facts.specs.declared.lasting.Lasting.{Lasting}
+use Rattle.answer_judge.specs.declared.verdict.Refusal.{Refusal}
+use Rattle.answer_judge.specs.declared.verdict.Refusal.TheVariants as r
+use Rattle.answer_judge.specs.declared.verdict.Refused.{Refused}
 use Rattle.answer_judge_table.specs.Outcomes.{IsJudgedBy}
 use Rattle.answer_findings.specs.Judgements.{is_delegated}
 use Rattle.answer_findings.specs.Table.{Tried, answers_with}

@@ -10,8 +10,8 @@ use Rattle.definitions.proofs.ZoneNames.{above_itself, above_longer, above_lower
 use Rattle.denial_laws.proofs.NameFacts.{above_cases, same_names, strictly-low, strictly_above_at, strictly_at, strictly_lowered}
 use Rattle.denial_laws.proofs.ZoneCuts.{IsCut, cut_is, delegation_low, uncut}
 use Rattle.messages.specs.Message.{Asked}
-use Rattle.answer_judge_keys.specs.Judging.{JudgeInput}
-use Rattle.answer_judge_keys.specs.declared.verdict.Lasting.{Lasting}
+use Rattle.answer_judge.specs.Judging.{JudgeInput}
+use Rattle.answer_judge_facts.specs.declared.lasting.Lasting.{Lasting}
 use Rattle.resolution_tree.specs.Orderly.{IsOrderlyZone}
 use Rattle.resolution_tree.specs.Tree.{refers_to}
 use Rattle.resolution_tree.proofs.Trees.{IsReferred, referred}

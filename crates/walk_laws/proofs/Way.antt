@@ -8,7 +8,7 @@ use Rattle.definitions.proofs.Members.{In, contained}
 use Rattle.definitions.proofs.ZoneNames.{lowered_above}
 use Rattle.denial_laws.specs.Leading.{To}
 use Rattle.messages.specs.Message.{Asked}
-use Rattle.answer_judge_keys.specs.declared.verdict.Lasting.{Lasting}
+use Rattle.answer_judge_facts.specs.declared.lasting.Lasting.{Lasting}
 use Rattle.resolution_tree.specs.Laws.{AreAlike, TreesSayOne}
 use Rattle.resolution_tree.specs.Orderly.{IsOrderlyTree, IsOrderlyZone}
 use Rattle.resolution_tree.specs.Tree.{Said, Leads, Says, Resolves, Tree, TreeZone, is_bound, is_within, leads_on, refers_to, zone_at}

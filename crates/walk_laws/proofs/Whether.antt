@@ -17,10 +17,10 @@ use Rattle.answer_shared.specs.Accepting.{sorted_records, zone_of}
 use Rattle.answer_shared.specs.Hashing.{hash_in}
 use Rattle.answer_shared.specs.Served.{Group, Served, ahead, answer_groups, chain_names, chain_record, proofs_of, served_of, soa, speaks_for, spoken}
 use Rattle.answer_shared.specs.Told.{TellsGroups}
-use Rattle.answer_judge_keys.specs.Judging.{Answer, JudgeInput, Refuses, Says, is_judged}
+use Rattle.answer_judge.specs.Judging.{Answer, JudgeInput, Refuses, Says, is_judged}
 use Rattle.answer_judge_keys.specs.Trusted.{is_usable}
-use Rattle.answer_judge_keys.specs.declared.verdict.Refusal.{Refusal}
-use Rattle.answer_judge_facts.specs.Judged.{are_mixed, are_over, decided_by, ds_authenticates_keys, has_unlike_times, is_unhashed, judged, judged_answer, judged_messages, judged_proof, keys_of, trusting}
+use Rattle.answer_judge.specs.declared.verdict.Refusal.{Refusal}
+use Rattle.answer_judge.specs.Judged.{are_mixed, are_over, decided_by, ds_authenticates_keys, has_unlike_times, is_unhashed, judged, judged_answer, judged_messages, judged_proof, keys_of, trusting}
 use Rattle.answer_judge_facts.specs.Times.{are_unlike, proof_times}
 use Rattle.answer_judge_facts.specs.Verified.{Trusting, verified_hash_links, verified_links, verified_rrset}
 use Rattle.answer_judge.specs.Meeting.{served_from}

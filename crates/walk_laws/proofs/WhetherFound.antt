@@ -9,9 +9,9 @@ use Rattle.definitions.specs.ZoneChain.{Mode, optout_of}
 use Rattle.messages.specs.HandedRr.{HandedRr}
 use Rattle.messages.specs.Message.{Asked}
 use Rattle.answer_shared.specs.Accepting.{zone_of}
-use Rattle.answer_judge_facts.specs.Judged.{AnswersAs, judged}
-use Rattle.answer_judge_keys.specs.Judging.{JudgeInput, Refuses, Says, answer_of}
-use Rattle.answer_judge_keys.specs.declared.verdict.Refusal.TheVariants as r
+use Rattle.answer_judge.specs.Judged.{AnswersAs, judged}
+use Rattle.answer_judge.specs.Judging.{JudgeInput, Refuses, Says, answer_of}
+use Rattle.answer_judge.specs.declared.verdict.Refusal.TheVariants as r
 use Rattle.answer_judge_table.specs.Decided.{is_out_of_memory}
 use Rattle.answer_judge_table.specs.Outcomes.{IsJudgedBy}
 use Rattle.answer_findings.specs.Found.{AreJudgements}

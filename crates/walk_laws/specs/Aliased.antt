@@ -20,7 +20,7 @@ use Rattle.answer_shared.specs.Told.{Tells}
 use Rattle.answer_zone.specs.Finding.{finds, redirecting}
 use Rattle.answer_zone_records.specs.AliasFaults.{IsAcceptedWithAliases}
 use Rattle.answer_judge.specs.Meeting.{holds, served_from}
-use Rattle.answer_judge_keys.specs.Judging.{JudgeInput}
+use Rattle.answer_judge.specs.Judging.{JudgeInput}
 use Rattle.answer_judge_keys.specs.Trusted.{is_usable}
 use Rattle.answer_findings.specs.Seen.{one_name}
 use Rattle.answer_findings.specs.Table.{AgreesWith, Tried, answers_with}

@@ -4,7 +4,7 @@ use Rattle.std.specs.Global.{Vec}
 use Rattle.definitions.specs.Dnskey.{Ds}
 use Rattle.definitions.specs.Name.{Name}
 use Rattle.messages.specs.Message.{Asked}
-use Rattle.answer_judge_keys.specs.declared.verdict.Refusal.{Refusal}
+use Rattle.answer_judge.specs.declared.verdict.Refusal.{Refusal}
 use Rattle.answer_findings.specs.Table.{Tried}
 use Rattle.resolution_tree.specs.Laws.{AreAlike}
 use Rattle.resolution_tree.specs.Tree.{Said, Resolves, Tree, TreeZone}

@@ -9,8 +9,8 @@ use Rattle.answer_scheme.specs.Answers.{Answers}
 use Rattle.answer_shared.specs.EqualTags.{has_equal_tags}
 use Rattle.answer_shared.specs.Told.{TellsKeys}
 use Rattle.answer_judge.specs.Meeting.{HasDs, WasGiven, holds}
-use Rattle.answer_judge_facts.specs.Judged.{AnswersAs, judged}
-use Rattle.answer_judge_keys.specs.Judging.{Answer, Says, Refuses, JudgeInput}
+use Rattle.answer_judge.specs.Judged.{AnswersAs, judged}
+use Rattle.answer_judge.specs.Judging.{Answer, Says, Refuses, JudgeInput}
 use Rattle.answer_judge_keys.specs.Trusted.{is_usable}
 use Rattle.resolution_walk.specs.Judged.{is_of_keys}
 

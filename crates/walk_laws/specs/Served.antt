@@ -6,9 +6,9 @@ use Rattle.definitions.specs.Name.{Name}
 use Rattle.messages.specs.Message.{Asked}
 use Rattle.answer_scheme.specs.Moments.{second_of}
 use Rattle.answer_judge.specs.Meeting.{WasGiven}
-use Rattle.answer_judge_keys.specs.Judging.{JudgeInput}
-use Rattle.answer_judge_keys.specs.declared.verdict.Refusal.{Refusal}
-use Rattle.answer_judge_keys.specs.declared.verdict.Refusal.TheVariants as r
+use Rattle.answer_judge.specs.Judging.{JudgeInput}
+use Rattle.answer_judge.specs.declared.verdict.Refusal.{Refusal}
+use Rattle.answer_judge.specs.declared.verdict.Refusal.TheVariants as r
 use Rattle.answer_findings.specs.Table.{AgreesWith, Tried, answers_with}
 use Rattle.resolution_tree.specs.Tree.{Said, refers_to}
 use Rattle.resolution_evidence.specs.Counts.{Counts}

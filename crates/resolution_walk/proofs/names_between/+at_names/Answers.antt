@@ -1,9 +1,9 @@
-use Rattle.std.proofs.Common.{Option, Result, subst, sym, ◌∙◌}
+use Rattle.std.proofs.Common.{Option, Result, ap, subst, sym, ◌∙◌}
 use Rattle.std.specs.Prelude.{◌≡◌, [], IfErr, MatchOption}
-use Rattle.definitions.specs.Name.{Name}
-use Rattle.messages.specs.Questions.{asked_of}
+use Rattle.definitions.specs.Name.{Name, strictly_above}
 use Rattle.resolution_walk.specs.Between.{AreUncut, AreUncutBelow, LiesBetween}
-use Rattle.resolution_walk.specs.Judged.{AreJudgedBetween, IsUncut, counts_in}
+use Rattle.resolution_walk.specs.Judged.{IsCountedBetween, IsUncut}
+use Rattle.resolution_walk.specs.Query.{Query}
 use Rattle.resolution_walk.specs.Wanted.{IsParent}
 use Rattle.resolution_walk.specs.declared.ending.Taken.{Taken}
 use Rattle.resolution_walk.specs.declared.ending.Uncut.{Uncut}
@@ -13,80 +13,68 @@ use Rattle.resolution_walk.proofs.names_between.+at_names.Goals as goal
 pub returns-then-not-is_above : goal.returns-then-not-is_above
 returns-then-not-is_above t c =
     let e = c.args.evidence.now in
-    let asked = asked_of c.args.question.now in
-    let zone = c.args.zone.now in
-    let ds = c.args.ds.now in
+    let q = c.args.query.now in
     let n = c.args.name.now in
-    let down = none_down e asked zone ds n c.args.counts (sym c.is_above.ensures ∙ c.if-not-is_above.true) in
-    record { leads = tt; stops = tt; counted = judged_down e asked zone ds n c.args.counts c.args.counts down; uncut = down }
+    let down = none_down e q n c.args.counts (ap (λ (x : Query). strictly_above x.zone n) (sym c.query.view_is) ∙ sym c.is_above.ensures ∙ c.if-not-is_above.true) in
+    record { leads = tt; stops = tt; counted = judged_down e q n c.args.counts c.args.counts down; uncut = down }
 
 pub returns-in-None : goal.returns-in-None
 returns-in-None t c =
     let e = c.args.evidence.now in
-    let asked = asked_of c.args.question.now in
-    let zone = c.args.zone.now in
-    let ds = c.args.ds.now in
+    let q = c.args.query.now in
     let n = c.args.name.now in
     let root = subst (λ (o : Option Name). MatchOption o (n ≡ []) (IsParent n)) c.in-None.is c.in_ok-above.ensures in
-    let down = none_at_root e asked zone ds n c.args.counts root in
-    record { leads = tt; stops = tt; counted = judged_down e asked zone ds n c.args.counts c.args.counts down; uncut = down }
+    let down = none_at_root e q n c.args.counts root in
+    record { leads = tt; stops = tt; counted = judged_down e q n c.args.counts c.args.counts down; uncut = down }
 
 pub returns-in-Ok-clause-counted : goal.returns-in-Ok-clause-counted
 returns-in-Ok-clause-counted t c =
     let e = c.args.evidence.now in
-    let asked = asked_of c.args.question.now in
-    let zone = c.args.zone.now in
-    let ds = c.args.ds.now in
-    subst (λ (x : Result Taken Uncut). AreJudgedBetween e asked zone ds c.args.counts (counts_in x)) c.in-Ok.is c.in_ok-way.ensures.counted
+    let q = c.args.query.now in
+    subst (λ (x : Result Taken Uncut). IsCountedBetween e q c.args.counts x) c.in-Ok.is c.in_ok-way.ensures.counted
 
 pub returns-in-AtAll : goal.returns-in-AtAll
 returns-in-AtAll t c =
     let e = c.args.evidence.now in
-    let asked = asked_of c.args.question.now in
-    let zone = c.args.zone.now in
-    let ds = c.args.ds.now in
+    let q = c.args.query.now in
     let n = c.args.name.now in
     let parent = c.in-Some.parent in
     let before = c.args.counts in
     let sums = c.in-AtAll.sums in
-    let above : IsUncut e asked zone ds before parent c.in-Err.uncut = subst (λ (x : Result Taken Uncut). IfErr x (IsUncut e asked zone ds before parent)) c.in-Err.is c.in_ok-way.ensures.uncut in
-    let down : AreUncutBelow e asked zone ds before sums = subst (λ (x : Uncut). IsUncut e asked zone ds before parent x) c.in-AtAll.is above in
-    record { leads = tt; stops = tt; counted = below_counted e asked zone ds before sums down; uncut = down }
+    let above : IsUncut e q before parent c.in-Err.uncut = subst (λ (x : Result Taken Uncut). IfErr x (IsUncut e q before parent)) c.in-Err.is c.in_ok-way.ensures.uncut in
+    let down : AreUncutBelow e q.asked q.zone q.ds before sums = subst (λ (x : Uncut). IsUncut e q before parent x) c.in-AtAll.is above in
+    record { leads = tt; stops = tt; counted = below_counted e q before sums down; uncut = down }
 
 pub at_name-requires : goal.at_name-requires
 at_name-requires t c =
     let e = c.args.evidence.now in
-    let asked = asked_of c.args.question.now in
-    let zone = c.args.zone.now in
-    let ds = c.args.ds.now in
+    let q = c.args.query.now in
     let n = c.args.name.now in
     let parent = c.in-Some.parent in
     let before = c.args.counts in
     let sums = c.in-SoFar.sums in
     let of : IsParent n parent = subst (λ (o : Option Name). MatchOption o (n ≡ []) (IsParent n)) c.in-Some.is c.in_ok-above.ensures in
-    let above : IsUncut e asked zone ds before parent c.in-Err.uncut = subst (λ (x : Result Taken Uncut). IfErr x (IsUncut e asked zone ds before parent)) c.in-Err.is c.in_ok-way.ensures.uncut in
-    let down : AreUncut e asked zone ds before parent sums = subst (λ (x : Uncut). IsUncut e asked zone ds before parent x) c.in-SoFar.is above in
-    let below = sym c.is_above.ensures ∙ c.if-not-is_above.false in
-    reached e asked zone ds n parent before sums (below, c.requires.above) of.is down c.requires.untold
+    let above : IsUncut e q before parent c.in-Err.uncut = subst (λ (x : Result Taken Uncut). IfErr x (IsUncut e q before parent)) c.in-Err.is c.in_ok-way.ensures.uncut in
+    let down : AreUncut e q.asked q.zone q.ds before parent sums = subst (λ (x : Uncut). IsUncut e q before parent x) c.in-SoFar.is above in
+    let lies : LiesBetween q.zone q.asked n = (ap (λ (x : Query). strictly_above x.zone n) (sym c.query.view_is) ∙ sym c.is_above.ensures ∙ c.if-not-is_above.false, c.requires.above) in
+    reached e q n parent before sums lies of.is down c.requires.untold
 
 pub returns : goal.returns
 returns t c =
     let e = c.args.evidence.now in
-    let asked = asked_of c.args.question.now in
-    let zone = c.args.zone.now in
-    let ds = c.args.ds.now in
+    let q = c.args.query.now in
     let n = c.args.name.now in
     let parent = c.in-Some.parent in
     let before = c.args.counts in
     let sums = c.in-SoFar.sums in
     let r = c.at_name.result in
     let of : IsParent n parent = subst (λ (o : Option Name). MatchOption o (n ≡ []) (IsParent n)) c.in-Some.is c.in_ok-above.ensures in
-    let above : IsUncut e asked zone ds before parent c.in-Err.uncut = subst (λ (x : Result Taken Uncut). IfErr x (IsUncut e asked zone ds before parent)) c.in-Err.is c.in_ok-way.ensures.uncut in
-    let down : AreUncut e asked zone ds before parent sums = subst (λ (x : Uncut). IsUncut e asked zone ds before parent x) c.in-SoFar.is above in
-    let lies : LiesBetween zone asked n = (sym c.is_above.ensures ∙ c.if-not-is_above.false, c.requires.above) in
+    let above : IsUncut e q before parent c.in-Err.uncut = subst (λ (x : Result Taken Uncut). IfErr x (IsUncut e q before parent)) c.in-Err.is c.in_ok-way.ensures.uncut in
+    let down : AreUncut e q.asked q.zone q.ds before parent sums = subst (λ (x : Uncut). IsUncut e q before parent x) c.in-SoFar.is above in
+    let lies : LiesBetween q.zone q.asked n = (ap (λ (x : Query). strictly_above x.zone n) (sym c.query.view_is) ∙ sym c.is_above.ensures ∙ c.if-not-is_above.false, c.requires.above) in
     record {
       leads = c.at_name.ensures.leads;
       stops = c.at_name.ensures.stops;
-      counted = judged_in e asked zone ds n parent before sums lies of.is down r c.at_name.ensures.judged;
-      uncut = uncut_in e asked zone ds n parent before sums lies of.is down r c.at_name.ensures.judged;
+      counted = judged_in e q n parent before sums lies of.is down r c.at_name.ensures.judged;
+      uncut = uncut_in e q n parent before sums lies of.is down r c.at_name.ensures.judged;
     }

@@ -1,33 +1,39 @@
+use Rattle.std.proofs.Common.{◌≡◌, IfOk, Result, ap, subst, ◌∙◌}
+use Rattle.std.specs.Prelude.{MatchResult}
 use Rattle.messages.specs.Questions.{asked_of}
+use Rattle.answer_judge.specs.Judging.{JudgeInput}
 use Rattle.resolution_evidence.specs.Told.{told}
+use Rattle.resolution_walk.specs.Query.{Query}
+use Rattle.resolution_walk.specs.Stopping.{IsTurnedTo}
+use Rattle.resolution_walk.specs.declared.ending.Taken.{Taken}
+use Rattle.resolution_walk.specs.declared.ending.Uncut.{Uncut}
 use Rattle.resolution_walk.proofs.Onward.{turned_at}
 use Rattle.resolution_walk.proofs.Stopping.{cut_at, name_judged_in, name_stops_in, uncut_judged}
+use Rattle.resolution_walk.proofs.Turning.{asking}
 use Rattle.resolution_walk.proofs.names_between.by_cut.Goals as goal
 
 pub returns-in-Ok : goal.returns-in-Ok
 returns-in-Ok c =
     let e = c.args.evidence.now in
-    let asked = asked_of c.args.question.now in
-    let zone = c.args.zone.now in
-    let ds = c.args.ds.now in
-    let q = asked_of c.args.asked.now in
+    let q = c.args.query.now in
     let h = c.args.case.now in
+    let sought = h.asked in
     let t = c.in_ok-telling.telling in
     let now = told c.in-Ok.step in
     let r = c.taken_there.result in
-    let cut = cut_at e asked zone ds q h t now c.requires.of c.in_ok-telling.ensures c.in-Ok.ensures in
+    let cut = cut_at e q sought h t now c.requires.of c.in_ok-telling.ensures c.in-Ok.ensures in
+    let is = ap (λ (x : Query). asking x (asked_of c.case.inside.question.now)) c.query.view_is ∙ ap (λ (j : JudgeInput). asking q j.asked) c.case.view_is in
+    let turns = subst (λ (x : Query). IfOk r (λ (y : Result Taken Uncut). MatchResult y (λ z. IsTurnedTo x now z.turn) (λ n. ⊥))) is c.taken_there.ensures.turns in
     record {
-      leads = turned_at e asked zone ds q h t now r c.requires.between c.requires.of c.in_ok-telling.ensures c.in-Ok.ensures.0 cut c.taken_there.ensures.turns c.taken_there.ensures.lasts;
-      stops = name_stops_in e asked zone ds q h t now r c.requires.between c.requires.of c.in_ok-telling.ensures c.in-Ok.ensures.0 cut c.taken_there.ensures.turns;
-      judged = name_judged_in e asked zone ds q h t now c.args.counts c.plus-sums.result r c.requires.of c.in_ok-telling.ensures c.plus-sums.ensures c.taken_there.ensures.turns c.taken_there.ensures.counted;
+      leads = turned_at e q sought h t now r c.requires.between c.requires.of c.in_ok-telling.ensures c.in-Ok.ensures.0 cut turns c.taken_there.ensures.lasts;
+      stops = name_stops_in e q sought h t now r c.requires.between c.requires.of c.in_ok-telling.ensures c.in-Ok.ensures.0 cut turns;
+      judged = name_judged_in e q sought h t now c.args.counts c.plus-sums.result r c.requires.of c.in_ok-telling.ensures c.plus-sums.ensures turns c.taken_there.ensures.counted;
     }
 
 pub returns-in-Err : goal.returns-in-Err
 returns-in-Err c =
     let e = c.args.evidence.now in
-    let asked = asked_of c.args.question.now in
-    let zone = c.args.zone.now in
-    let ds = c.args.ds.now in
-    let q = asked_of c.args.asked.now in
-    let judged = uncut_judged e asked zone ds q c.args.case.now c.in_ok-telling.telling c.args.counts c.plus-sums.result c.in-Err.uncut c.requires.of c.in_ok-telling.ensures c.plus-sums.ensures c.in-Err.ensures in
+    let q = c.args.query.now in
+    let h = c.args.case.now in
+    let judged = uncut_judged e q h.asked h c.in_ok-telling.telling c.args.counts c.plus-sums.result c.in-Err.uncut c.requires.of c.in_ok-telling.ensures c.plus-sums.ensures c.in-Err.ensures in
     record { leads = tt; stops = tt; judged = judged }

@@ -1,26 +1,35 @@
-use Rattle.std.proofs.Common.{[], inl, refl, sym, ◌∙◌}
+use Rattle.std.proofs.Common.{◌≡◌, [], true, IfOk, Result, ap, inl, refl, subst, sym, ◌∙◌}
+use Rattle.std.specs.Prelude.{IfErr}
+use Rattle.definitions.specs.Name.{Name, at_or_above}
 use Rattle.definitions.proofs.ZoneNames.{above_itself}
-use Rattle.messages.specs.Questions.{asked_of}
+use Rattle.resolution_walk.specs.Judged.{IsUncut}
+use Rattle.resolution_walk.specs.Query.{Query}
+use Rattle.resolution_walk.specs.declared.ending.Taken.{Taken}
+use Rattle.resolution_walk.specs.declared.ending.Uncut.{Uncut}
 use Rattle.resolution_walk.proofs.Stopping.{all_last, judged_down, none_down}
 use Rattle.resolution_walk.proofs.turns.down_between.Goals as goal
 
 pub at_names-requires : goal.at_names-requires
-at_names-requires c = record { above = above_itself c.args.question.now.name; untold = c.requires }
+at_names-requires c =
+    let name = c.query.inside.question.now.name in
+    record { above = subst (λ (x : Query). at_or_above name x.asked.name ≡ true) c.query.view_is (above_itself name); untold = c.requires }
 
 pub returns-then-are_keys_refused : goal.returns-then-are_keys_refused
 returns-then-are_keys_refused c =
     let e = c.args.evidence.now in
-    let asked = asked_of c.args.question.now in
-    let zone = c.args.zone.now in
-    let ds = c.args.ds.now in
+    let q = c.args.query.now in
     record {
       leads = tt;
       stops = tt;
-      counted = judged_down e asked zone ds [] c.args.counts c.args.counts (none_down e asked zone ds [] c.args.counts refl);
+      counted = judged_down e q [] c.args.counts c.args.counts (none_down e q [] c.args.counts refl);
       last = inl (sym c.are_keys_refused.ensures ∙ c.if-are_keys_refused.true);
     }
 
 pub returns-else-are_keys_refused-clause-last : goal.returns-else-are_keys_refused-clause-last
 returns-else-are_keys_refused-clause-last c =
-    let asked = asked_of c.args.question.now in
-    all_last c.args.evidence.now asked c.args.zone.now c.args.ds.now c.args.refusal.now c.args.counts c.at_names.result c.at_names.ensures.uncut
+    let e = c.args.evidence.now in
+    let q = c.args.query.now in
+    let r = c.at_names.result in
+    let is = ap (λ (x : Query). x.asked.name) c.query.view_is in
+    let uncut = subst (λ (n : Name). IfOk r (λ (y : Result Taken Uncut). IfErr y (IsUncut e q c.args.counts n))) is c.at_names.ensures.uncut in
+    all_last e q c.args.refusal.now c.args.counts r uncut

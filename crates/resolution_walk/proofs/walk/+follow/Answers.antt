@@ -14,48 +14,57 @@ pub returns-in-Err : goal.returns-in-Err
 returns-in-Err t c =
     let e = c.args.evidence.now in
     let asked = asked_of c.args.question in
-    let names = c.args.through.items in
+    let names = c.args.trail.through.items in
+    let before = c.args.trail.counts in
+    let cuts = c.args.left.cuts in
+    let aliases = c.args.left.aliases in
     let end = c.in-Err.end in
     let w = c.walk_with.result in
     let kept = c.walk_with.ensures in
     let through = ap (λ (v : Vec Name). v.items) kept.through in
-    let here : EndsHere e asked c.args.cuts c.args.counts end =
-    subst (λ (r : Result Target End). MatchResult r (IsLed e asked c.args.cuts c.args.counts) (EndsHere e asked c.args.cuts c.args.counts)) c.in-Err.is c.in_ok-end.ensures in
+    let here : EndsHere e asked cuts before end =
+    subst (λ (r : Result Target End). MatchResult r (IsLed e asked cuts before) (EndsHere e asked cuts before)) c.in-Err.is c.in_ok-end.ensures in
     record {
       walked = walk_ends e asked names end w here.says kept.ending through kept.lasts;
-      stops = walk_stops e asked c.args.cuts c.args.aliases names c.args.counts end w (here.stops c.args.aliases) kept.ending through kept.counts;
+      stops = walk_stops e asked cuts aliases names before end w (here.stops aliases) kept.ending through kept.counts;
     }
 
-pub returns-then-aliases-eq0 : goal.returns-then-aliases-eq0
-returns-then-aliases-eq0 t c =
+pub returns-then-left-eq0 : goal.returns-then-left-eq0
+returns-then-left-eq0 t c =
     let e = c.args.evidence.now in
     let asked = asked_of c.args.question in
-    let names = c.args.through.items in
+    let names = c.args.trail.through.items in
+    let before = c.args.trail.counts in
+    let cuts = c.args.left.cuts in
+    let aliases = c.args.left.aliases in
     let target = c.in-Ok.target in
     let w = c.too_many_aliases.result in
     let kept = c.too_many_aliases.ensures in
     let through = ap (λ (v : Vec Name). v.items) kept.through in
-    let led : IsLed e asked c.args.cuts c.args.counts target =
-    subst (λ (r : Result Target End). MatchResult r (IsLed e asked c.args.cuts c.args.counts) (EndsHere e asked c.args.cuts c.args.counts)) c.in-Ok.is c.in_ok-end.ensures in
+    let led : IsLed e asked cuts before target =
+    subst (λ (r : Result Target End). MatchResult r (IsLed e asked cuts before) (EndsHere e asked cuts before)) c.in-Ok.is c.in_ok-end.ensures in
     record {
       walked = walk_many e asked names w kept.ending;
-      stops = walk_stops_many e asked c.args.cuts c.args.aliases names c.args.counts target w c.if-aliases-eq0.true led kept.ending through kept.counts;
+      stops = walk_stops_many e asked cuts aliases names before target w c.if-left-eq0.true led kept.ending through kept.counts;
     }
 
 pub returns : goal.returns
 returns t c =
     let e = c.args.evidence.now in
     let asked = asked_of c.args.question in
-    let names = c.args.through.items in
+    let names = c.args.trail.through.items in
+    let before = c.args.trail.counts in
+    let cuts = c.args.left.cuts in
+    let aliases = c.args.left.aliases in
     let target = c.in-Ok.target in
-    let longer = c.in_ok-longer.longer.items in
+    let longer = c.in_ok-with_name.field-0.items in
     let walk = c.in_ok-walk.walk in
     let w = c.behind.result in
     let kept = c.behind.ensures in
     let through = ap (λ (v : Vec Name). v.items) kept.through in
-    let led : IsLed e asked c.args.cuts c.args.counts target =
-    subst (λ (r : Result Target End). MatchResult r (IsLed e asked c.args.cuts c.args.counts) (EndsHere e asked c.args.cuts c.args.counts)) c.in-Ok.is c.in_ok-end.ensures in
+    let led : IsLed e asked cuts before target =
+    subst (λ (r : Result Target End). MatchResult r (IsLed e asked cuts before) (EndsHere e asked cuts before)) c.in-Ok.is c.in_ok-end.ensures in
     record {
-      walked = walk_led e asked c.args.cuts c.args.counts target led names longer c.in_ok-longer.ensures walk w c.in_ok-walk.ensures.walked kept.ending through kept.lasts;
-      stops = walk_stops_led e asked c.args.cuts c.args.aliases names c.args.counts target longer walk w (omega (arith, c.if-aliases-eq0.false)) led c.in_ok-longer.ensures c.in_ok-walk.ensures.stops kept.ending through kept.counts;
+      walked = walk_led e asked cuts before target led names longer c.in_ok-with_name.ensures walk w c.in_ok-walk.ensures.walked kept.ending through kept.lasts;
+      stops = walk_stops_led e asked cuts aliases names before target longer walk w (omega (arith, c.if-left-eq0.false)) led c.in_ok-with_name.ensures c.in_ok-walk.ensures.stops kept.ending through kept.counts;
     }
