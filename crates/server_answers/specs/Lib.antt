@@ -9,6 +9,7 @@ pub mod Moments
 pub mod Parameters
 pub mod Requests
 pub mod Responding
+pub mod Servers
 pub mod Subset
 pub mod Unheld
 pub use Rattle.answer_publisher.specs.Aliases

@@ -10,9 +10,10 @@ mod message;
 pub mod moment;
 mod parameters;
 pub mod requests;
+mod server;
 mod subset;
 mod unheld;
 
 pub use crate::moment::{DEFAULT_BACKDATE, backdated};
-pub use crate::requests::{Response, ServerTerms, respond};
+pub use crate::requests::{Request, Response, ServerTerms, respond};
 pub use server_signatures::{MadeSignature, SigningInput};

@@ -1,14 +1,16 @@
 //! The message of which a response is made.
-ghost use Rattle.std.specs.Prelude.{◌≡◌, [], false, true, IfErr, IfOk, OnErr, OnOk};
+ghost use Rattle.std.specs.Prelude.{◌≡◌, false, true, IfErr, IfOk, OnErr, OnOk};
 ghost use Rattle.answer_publisher.specs.Replacing.{noted};
 ghost use Rattle.answer_publisher.specs.World.{RefusesQuestion, world_of};
 ghost use Rattle.messages.specs.Message.{Asked};
 ghost use Rattle.messages.specs.Questions.{asked_of};
 ghost use Rattle.server_answers.specs.Messages.{Makes};
-ghost use Rattle.server_answers.specs.Responding.{is_for_keys, serving, unsigned};
+ghost use Rattle.server_answers.specs.Responding.{is_for_keys, unsigned};
+ghost use Rattle.server_answers.specs.Servers.{serving_by};
 ghost use Rattle.server_answers.specs.Subset.{IsBare};
 
 use crate::blank::BlankScheme;
+use crate::server::Server;
 use answer_publisher::fault::AnswerFault;
 use answer_publisher::publishing::Publisher;
 use answer_scheme::Scheme;
@@ -18,48 +20,46 @@ use messages::names::{Name, ToName};
 use messages::question::Question;
 use numbers::class::Class;
 use numbers::rtype::Rtype;
-use server_signatures::{MadeSignature, Signed, answer_by_table, dnskey_answer_by_table};
+use server_signatures::{Signed, answer_by_table, dnskey_answer_by_table};
 
 /// The message that answers a question at a moment: signed by a table, or, where nobody wants its
 /// signatures, with such as have no octets.
 pub(crate) fn message_for<S: Scheme, H: Nsec3Hasher>(
     publisher: &mut Publisher<'_, S, H>,
-    table: &[MadeSignature<'_>],
+    server: &Server<'_>,
     question: &Question,
-    at: &UnixTime,
     is_signed: bool,
 ) -> Result<Signed, AnswerFault>
     ensures made { let p = publisher.old in
         let w = world_of S.signature_of S.verifies S.digest_of H.hash_of p in
-        let s = serving w p.keys table.now at.now 0 0 [] in let asked = asked_of question.now in
+        let s = serving_by w p.keys server.now in let asked = asked_of question.now in
         let keys = is_for_keys p.zone.apex asked in
         Makes s asked keys is_signed p.latest publisher.new.latest result }
     ensures rest { publisher.new ≡ record publisher.old { latest = publisher.new.latest } }
 {
     if is_for_keys(publisher.apex(), question) {
-        return keys_message(publisher, table, at, is_signed);
+        return keys_message(publisher, server, is_signed);
     }
-    zone_message(publisher, table, question, at, is_signed)
+    zone_message(publisher, server, question, is_signed)
 }
 
 /// The answer to a question for the zone's records.
 pub(crate) fn zone_message<S: Scheme, H: Nsec3Hasher>(
     publisher: &mut Publisher<'_, S, H>,
-    table: &[MadeSignature<'_>],
+    server: &Server<'_>,
     question: &Question,
-    at: &UnixTime,
     is_signed: bool,
 ) -> Result<Signed, AnswerFault>
     ensures made { let p = publisher.old in
         let w = world_of S.signature_of S.verifies S.digest_of H.hash_of p in
-        let s = serving w p.keys table.now at.now 0 0 [] in let asked = asked_of question.now in
+        let s = serving_by w p.keys server.now in let asked = asked_of question.now in
         Makes s asked false is_signed p.latest publisher.new.latest result }
     ensures rest { publisher.new ≡ record publisher.old { latest = publisher.new.latest } }
 {
     if is_signed {
-        return answer_by_table(publisher, table, question, at);
+        return answer_by_table(publisher, server.table, question, &server.at);
     }
-    match publisher.answer_any_with(&BlankScheme, question, at) {
+    match publisher.answer_any_with(&BlankScheme, question, &server.at) {
         Ok(message) => Ok(Signed::Message(message)),
         Err(fault) => Err(fault),
     }
@@ -89,19 +89,18 @@ pub(crate) fn bare_message<S: Scheme, H: Nsec3Hasher>(
 /// The answer to a question for the keys.
 fn keys_message<S: Scheme, H: Nsec3Hasher>(
     publisher: &Publisher<'_, S, H>,
-    table: &[MadeSignature<'_>],
-    at: &UnixTime,
+    server: &Server<'_>,
     is_signed: bool,
 ) -> Result<Signed, AnswerFault>
     ensures { let p = publisher.now in
         let w = world_of S.signature_of S.verifies S.digest_of H.hash_of p in
-        let s = serving w p.keys table.now at.now 0 0 [] in
+        let s = serving_by w p.keys server.now in
         (asked : Asked) → Makes s asked true is_signed p.latest p.latest result }
 {
     if is_signed {
-        return dnskey_answer_by_table(publisher, table, at);
+        return dnskey_answer_by_table(publisher, server.table, &server.at);
     }
-    match publisher.dnskey_answer_with(&BlankScheme, at) {
+    match publisher.dnskey_answer_with(&BlankScheme, &server.at) {
         Ok(message) => Ok(Signed::Message(message)),
         Err(fault) => Err(fault),
     }

@@ -1,29 +1,28 @@
 //! Questions for the NSEC3PARAM RRset of a zone.
-ghost use Rattle.std.specs.Prelude.{◌≡◌, [], false, not, true, IfOk};
+ghost use Rattle.std.specs.Prelude.{◌≡◌, false, not, true, IfOk};
 ghost use Rattle.answer_publisher.specs.World.{world_of};
 ghost use Rattle.answer_shared.specs.ModeView.{mode_of};
 ghost use Rattle.answer_zone.specs.Finding.{links_names};
 ghost use Rattle.messages.specs.Questions.{asked_of};
 ghost use Rattle.server_answers.specs.Parameters.{AnswersParameters, MakesParameters, is_for_parameters};
-ghost use Rattle.server_answers.specs.Responding.{serving};
+ghost use Rattle.server_answers.specs.Servers.{serving_by};
 ghost use Rattle.server_queries.specs.Views.{queried_of};
 
 use crate::blank::BlankScheme;
 use crate::requests::{Response, response_with};
+use crate::server::Server;
 use answer_publisher::fault::AnswerFault;
 use answer_publisher::publishing::Publisher;
 use answer_scheme::Scheme;
 use answer_shared::mode::Mode;
 use denial_nsec3_hash::hasher::Nsec3Hasher;
-use keyset::UnixTime;
 use messages::names::{Name, ToName};
 use messages::question::Question;
 use numbers::class::Class;
 use numbers::rtype::Rtype;
-use server_glue::Addresses;
 use server_queries::Query;
 use server_responses::is_dnssec_ok;
-use server_signatures::{MadeSignature, Signed, nsec3param_answer_by_table};
+use server_signatures::{Signed, nsec3param_answer_by_table};
 use std::alloc::{AllocError, Global};
 
 /// Whether a question is for the NSEC3PARAM RRset of the apex, which a zone with a chain of hashes
@@ -51,42 +50,36 @@ fn is_hashed(mode: &Mode) -> bool
 pub(crate) fn answer_parameters<S: Scheme, H: Nsec3Hasher>(
     alloc: Global,
     publisher: &Publisher<'_, S, H>,
-    addresses: &Addresses,
-    table: &[MadeSignature<'_>],
+    server: &Server<'_>,
     query: &Query<'_>,
-    at: &UnixTime,
-    limit: u16,
-    udp_size: u16,
 ) -> Result<Response, AllocError>
     requires { links_names publisher.now.zone.mode ≡ false }
     ensures { let p = publisher.now in
         let w = world_of S.signature_of S.verifies S.digest_of H.hash_of p in
-        let s = serving w p.keys table.now at.now limit udp_size addresses.now in
-        let q = queried_of query.now in
+        let s = serving_by w p.keys server.now in let q = queried_of query.now in
         IfOk result (AnswersParameters s q p.latest p.latest) }
 {
-    let made = parameters_message(publisher, table, at, is_dnssec_ok(query));
-    response_with(alloc, query, made, addresses, limit, udp_size)
+    let made = parameters_message(publisher, server, is_dnssec_ok(query));
+    response_with(alloc, server, query, made)
 }
 
 /// The message for the NSEC3PARAM RRset: signed by a table, or, where nobody wants its signatures,
 /// with such as have no octets.
 fn parameters_message<S: Scheme, H: Nsec3Hasher>(
     publisher: &Publisher<'_, S, H>,
-    table: &[MadeSignature<'_>],
-    at: &UnixTime,
+    server: &Server<'_>,
     is_signed: bool,
 ) -> Result<Signed, AnswerFault>
     requires { links_names publisher.now.zone.mode ≡ false }
     ensures { let p = publisher.now in
         let w = world_of S.signature_of S.verifies S.digest_of H.hash_of p in
-        let s = serving w p.keys table.now at.now 0 0 [] in
+        let s = serving_by w p.keys server.now in
         MakesParameters s is_signed result }
 {
     if is_signed {
-        return signed_parameters(publisher, table, at);
+        return signed_parameters(publisher, server);
     }
-    match publisher.nsec3param_answer_with(&BlankScheme, at) {
+    match publisher.nsec3param_answer_with(&BlankScheme, &server.at) {
         Ok(Some(message)) => Ok(Signed::Message(message)),
         Ok(None) => unreachable!(),
         Err(fault) => Err(fault),
@@ -96,16 +89,15 @@ fn parameters_message<S: Scheme, H: Nsec3Hasher>(
 /// The message for the NSEC3PARAM RRset, signed by a table.
 fn signed_parameters<S: Scheme, H: Nsec3Hasher>(
     publisher: &Publisher<'_, S, H>,
-    table: &[MadeSignature<'_>],
-    at: &UnixTime,
+    server: &Server<'_>,
 ) -> Result<Signed, AnswerFault>
     requires { links_names publisher.now.zone.mode ≡ false }
     ensures { let p = publisher.now in
         let w = world_of S.signature_of S.verifies S.digest_of H.hash_of p in
-        let s = serving w p.keys table.now at.now 0 0 [] in
+        let s = serving_by w p.keys server.now in
         MakesParameters s true result }
 {
-    match nsec3param_answer_by_table(publisher, table, at) {
+    match nsec3param_answer_by_table(publisher, server.table, &server.at) {
         Ok(Some(signed)) => Ok(signed),
         Ok(None) => unreachable!(),
         Err(fault) => Err(fault),

@@ -10,12 +10,14 @@ ghost use Rattle.server_answers.specs.Moments.{IsOrWasNoted, backdated};
 ghost use Rattle.server_answers.specs.Requests.{Responds};
 ghost use Rattle.server_answers.specs.Answering.{AnswersItself, AnswersQueried};
 ghost use Rattle.server_answers.specs.Responding.{AnswersHeld, serving};
+ghost use Rattle.server_answers.specs.Servers.{serving_by};
 ghost use Rattle.server_queries.specs.Views.{queried_of};
 
 use crate::aliased::answer_alias;
 use crate::message::message_for;
 use crate::moment::backdated;
 use crate::parameters::{answer_parameters, is_for_parameters};
+use crate::server::Server;
 use crate::subset::answer_subset;
 use crate::unheld::{answer_unheld, is_unheld};
 use answer_publisher::fault::AnswerFault;
@@ -29,10 +31,23 @@ use messages::question::Question;
 use server_glue::Addresses;
 use server_queries::{Query, Refusal, read_query, write_refusal};
 use server_responses::{
-    ResponseError, Transport, error_response, is_dnssec_ok, response, size_limit,
+    ResponseError, ResponseSizes, Transport, error_response, is_dnssec_ok, response, size_limit,
 };
 use server_signatures::{MadeSignature, Signed, SigningInput};
 use std::alloc::{AllocError, Global};
+
+/// What a server is sent, and the signatures that were made for its response.
+#[derive(Debug, Drop)]
+pub struct Request<'a> {
+    /// What was received, a whole message.
+    pub octets: &'a [u8],
+    /// The signatures that were made, as they were asked for.
+    pub table: &'a [MadeSignature<'a>],
+    /// The moment of the server's clock.
+    pub moment: UnixTime,
+    /// What carries the response.
+    pub transport: Transport,
+}
 
 /// How a server answers.
 #[derive(Clone, Copy, Debug)]
@@ -51,7 +66,7 @@ pub enum Response {
     Nothing,
     /// These octets.
     Reply(Vec<u8>),
-    /// A reply, once these signatures are in the table, at the same time of the clock.
+    /// A reply, once these signatures are in the table, at the same moment of the clock.
     Sign(Vec<SigningInput>),
 }
 
@@ -80,27 +95,30 @@ pub fn respond<S: Scheme, H: Nsec3Hasher>(
     alloc: Global,
     publisher: &mut Publisher<'_, S, H>,
     addresses: &Addresses,
-    table: &[MadeSignature<'_>],
-    request: &[u8],
-    now: &UnixTime,
-    transport: Transport,
+    request: &Request<'_>,
     terms: &ServerTerms,
 ) -> Result<Response, AllocError>
-    ensures response { let p = publisher.old in
+    ensures response { let p = publisher.old in let r = request.now in
         let w = world_of S.signature_of S.verifies S.digest_of H.hash_of p in
-        let at = backdated now.now terms.now.backdate in
-        let s = serving w p.keys table.now at 0 terms.now.udp_size addresses.now in
-        IfOk result (Responds s transport request.now p.latest publisher.new.latest) }
+        let at = backdated r.moment terms.now.backdate in
+        let s = serving w p.keys r.table.now at 0 terms.now.udp_size addresses.now in
+        IfOk result (Responds s r.transport r.octets.now p.latest publisher.new.latest) }
     ensures rest { publisher.new ≡ record publisher.old { latest = publisher.new.latest } }
-    ensures memory { let at = backdated now.now terms.now.backdate in
+    ensures memory { let at = backdated request.now.moment terms.now.backdate in
         OnErr result (IsOrWasNoted at publisher.old.latest publisher.new.latest) }
 {
-    match read_query(request) {
+    match read_query(request.octets) {
         Ok(query) => {
-            let at = backdated(now, terms.backdate);
-            let limit = size_limit(transport, query.edns);
-            let size = terms.udp_size;
-            answer_query(alloc, publisher, addresses, table, &query, &at, limit, size)
+            let server = Server {
+                table: request.table,
+                at: backdated(&request.moment, terms.backdate),
+                sizes: ResponseSizes {
+                    limit: size_limit(request.transport, query.edns),
+                    udp_size: terms.udp_size,
+                },
+                addresses,
+            };
+            answer_query(alloc, publisher, &server, &query)
         }
         Err(Refusal::NoReply) => Ok(Response::Nothing),
         Err(Refusal::Reply(reply)) => {
@@ -116,31 +134,22 @@ pub fn respond<S: Scheme, H: Nsec3Hasher>(
 fn answer_query<S: Scheme, H: Nsec3Hasher>(
     alloc: Global,
     publisher: &mut Publisher<'_, S, H>,
-    addresses: &Addresses,
-    table: &[MadeSignature<'_>],
+    server: &Server<'_>,
     query: &Query<'_>,
-    at: &UnixTime,
-    limit: u16,
-    udp_size: u16,
 ) -> Result<Response, AllocError>
     ensures response { let p = publisher.old in
         let w = world_of S.signature_of S.verifies S.digest_of H.hash_of p in
-        let s = serving w p.keys table.now at.now limit udp_size addresses.now in
-        let q = queried_of query.now in
+        let s = serving_by w p.keys server.now in let q = queried_of query.now in
         IfOk result (AnswersQueried s q p.latest publisher.new.latest) }
     ensures rest { publisher.new ≡ record publisher.old { latest = publisher.new.latest } }
     ensures memory { OnErr result
-        (IsOrWasNoted at.now publisher.old.latest publisher.new.latest) }
+        (IsOrWasNoted server.now.at publisher.old.latest publisher.new.latest) }
 {
     let question = question_of(alloc, query)?;
     if let Some(alias) = publisher.alias_of(&question)? {
-        return answer_alias(
-            alloc, publisher, addresses, table, query, &alias, at, limit, udp_size,
-        );
+        return answer_alias(alloc, publisher, server, query, &alias);
     }
-    answer_itself(
-        alloc, publisher, addresses, table, query, question, at, limit, udp_size,
-    )
+    answer_itself(alloc, publisher, server, query, question)
 }
 
 /// Answers a query for which no alias answers: by what the zone holds, the NSEC3PARAM RRset of its
@@ -149,112 +158,96 @@ fn answer_query<S: Scheme, H: Nsec3Hasher>(
 fn answer_itself<S: Scheme, H: Nsec3Hasher>(
     alloc: Global,
     publisher: &mut Publisher<'_, S, H>,
-    addresses: &Addresses,
-    table: &[MadeSignature<'_>],
+    server: &Server<'_>,
     query: &Query<'_>,
     question: Question,
-    at: &UnixTime,
-    limit: u16,
-    udp_size: u16,
 ) -> Result<Response, AllocError>
     requires { asked_of question ≡ (queried_of query.now).asked }
     ensures response { let p = publisher.old in
         let w = world_of S.signature_of S.verifies S.digest_of H.hash_of p in
-        let s = serving w p.keys table.now at.now limit udp_size addresses.now in
-        let q = queried_of query.now in
+        let s = serving_by w p.keys server.now in let q = queried_of query.now in
         IfOk result (AnswersItself s q p.latest publisher.new.latest) }
     ensures rest { publisher.new ≡ record publisher.old { latest = publisher.new.latest } }
     ensures memory { OnErr result
-        (IsOrWasNoted at.now publisher.old.latest publisher.new.latest) }
+        (IsOrWasNoted server.now.at publisher.old.latest publisher.new.latest) }
 {
     if is_unheld(publisher.apex(), publisher.mode(), &question) {
-        return answer_unheld(
-            alloc, publisher, addresses, table, query, question, at, limit, udp_size,
-        );
+        return answer_unheld(alloc, publisher, server, query, question);
     }
     if asks_all(&question) {
-        return answer_subset(
-            alloc, publisher, addresses, table, query, question, at, limit, udp_size,
-        );
+        return answer_subset(alloc, publisher, server, query, question);
     }
     if is_for_parameters(publisher.apex(), publisher.mode(), &question) {
-        return answer_parameters(
-            alloc, publisher, addresses, table, query, at, limit, udp_size,
-        );
+        return answer_parameters(alloc, publisher, server, query);
     }
-    answer_held(
-        alloc, publisher, addresses, table, query, &question, at, limit, udp_size,
-    )
+    answer_held(alloc, publisher, server, query, &question)
 }
 
 /// Answers a query by what a zone's publisher answers to its question at a moment.
 fn answer_held<S: Scheme, H: Nsec3Hasher>(
     alloc: Global,
     publisher: &mut Publisher<'_, S, H>,
-    addresses: &Addresses,
-    table: &[MadeSignature<'_>],
+    server: &Server<'_>,
     query: &Query<'_>,
     question: &Question,
-    at: &UnixTime,
-    limit: u16,
-    udp_size: u16,
 ) -> Result<Response, AllocError>
     requires { asked_of question.now ≡ (queried_of query.now).asked }
     ensures response { let p = publisher.old in
         let w = world_of S.signature_of S.verifies S.digest_of H.hash_of p in
-        let s = serving w p.keys table.now at.now limit udp_size addresses.now in
-        let q = queried_of query.now in
+        let s = serving_by w p.keys server.now in let q = queried_of query.now in
         IfOk result (AnswersHeld s q p.latest publisher.new.latest) }
     ensures rest { publisher.new ≡ record publisher.old { latest = publisher.new.latest } }
     ensures memory { OnErr result
-        (IsOrWasNoted at.now publisher.old.latest publisher.new.latest) }
+        (IsOrWasNoted server.now.at publisher.old.latest publisher.new.latest) }
 {
-    let made = message_for(publisher, table, question, at, is_dnssec_ok(query));
-    response_with(alloc, query, made, addresses, limit, udp_size)
+    let made = message_for(publisher, server, question, is_dnssec_ok(query));
+    response_with(alloc, server, query, made)
 }
 
 /// The response that is made of a message, or what is said where there is none.
 pub(crate) fn response_with(
     alloc: Global,
+    server: &Server<'_>,
     query: &Query<'_>,
     made: Result<Signed, AnswerFault>,
-    addresses: &Addresses,
-    limit: u16,
-    udp_size: u16,
 ) -> Result<Response, AllocError>
     requires { IfOk made ReadsWhole }
-    ensures { let q = queried_of query.now in
-        IfOk result (IsMadeOf limit udp_size q addresses.now made) }
+    ensures { let q = queried_of query.now in let sizes = server.now.sizes in
+        let addresses = server.now.addresses.now in
+        IfOk result (IsMadeOf sizes.limit sizes.udp_size q addresses made) }
 {
     match made {
         Ok(Signed::Message(message)) => {
-            let octets = glued_response(alloc, query, &message, addresses, limit, udp_size)?;
+            let octets = glued_response(alloc, server, query, &message)?;
             Ok(Response::Reply(octets))
         }
         Ok(Signed::Missing(inputs)) => Ok(Response::Sign(inputs)),
         Err(AnswerFault::Memory) => Err(AllocError),
         Err(AnswerFault::QuestionNotAllowed) => {
-            Ok(Response::Reply(error_response(alloc, query, REFUSED, udp_size)?))
+            let octets = error_response(alloc, query, REFUSED, server.sizes.udp_size)?;
+            Ok(Response::Reply(octets))
         }
-        Err(_) => Ok(Response::Reply(error_response(alloc, query, SERVFAIL, udp_size)?)),
+        Err(_) => {
+            let octets = error_response(alloc, query, SERVFAIL, server.sizes.udp_size)?;
+            Ok(Response::Reply(octets))
+        }
     }
 }
 
 /// The response of a message, with the glue of a referral.
 fn glued_response(
     alloc: Global,
+    server: &Server<'_>,
     query: &Query<'_>,
     octets: &[u8],
-    addresses: &Addresses,
-    limit: u16,
-    udp_size: u16,
 ) -> Result<Vec<u8>, AllocError>
     requires { IsOk (message pointer_limit octets.now) }
-    ensures { let q = queried_of query.now in
-        IfOk result (λ v. AnswersGlued limit udp_size q addresses.now octets.now v.items) }
+    ensures { let q = queried_of query.now in let sizes = server.now.sizes in
+        let glued = AnswersGlued sizes.limit sizes.udp_size q server.now.addresses.now in
+        IfOk result (λ v. glued octets.now v.items) }
 {
-    let glue = addresses.glue(alloc, octets)?;
-    match response(alloc, query, octets, &glue, limit, udp_size) {
+    let glue = server.addresses.glue(alloc, octets)?;
+    match response(alloc, query, octets, &glue, server.sizes) {
         Ok(whole) => Ok(whole),
         Err(ResponseError::Memory) => Err(AllocError),
         Err(ResponseError::Unreadable) => unreachable!(),

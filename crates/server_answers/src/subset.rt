@@ -1,11 +1,12 @@
 //! Questions for all records of a name, or for all signatures there: one RRset answers them.
-ghost use Rattle.std.specs.Prelude.{◌≡◌, ◌≢◌, [], IfErr, IfOk, MatchBool, OnErr, OnOk};
+ghost use Rattle.std.specs.Prelude.{◌≡◌, ◌≢◌, IfErr, IfOk, MatchBool, OnErr, OnOk};
 ghost use Rattle.answer_publisher.specs.Replacing.{noted};
 ghost use Rattle.answer_publisher.specs.World.{RefusesQuestion, world_of};
 ghost use Rattle.messages.specs.Questions.{asked_of};
 ghost use Rattle.server_answers.specs.Listed.{listed};
 ghost use Rattle.server_answers.specs.Moments.{IsOrWasNoted};
-ghost use Rattle.server_answers.specs.Responding.{serving, unsigned};
+ghost use Rattle.server_answers.specs.Responding.{unsigned};
+ghost use Rattle.server_answers.specs.Servers.{serving_by};
 ghost use Rattle.answer_publisher.specs.Aliases.{for_type};
 ghost use Rattle.server_answers.specs.Subset.{AnswersSubset, IsChosen, IsFirst, IsHeld, MakesSubset, is_memory, is_no_data, wants_signatures};
 ghost use Rattle.server_queries.specs.Views.{queried_of};
@@ -13,6 +14,7 @@ ghost use Rattle.server_queries.specs.Views.{queried_of};
 use crate::listed::listed_types;
 use crate::message::{bare_message, zone_message};
 use crate::requests::{Response, response_with};
+use crate::server::Server;
 use crate::unheld::{RESERVED, has_answers, octet_at};
 use answer_publisher::fault::AnswerFault;
 use answer_publisher::publishing::Publisher;
@@ -21,10 +23,9 @@ use denial_nsec3_hash::hasher::Nsec3Hasher;
 use keyset::UnixTime;
 use messages::question::Question;
 use numbers::rtype::Rtype;
-use server_glue::Addresses;
 use server_queries::Query;
 use server_responses::is_dnssec_ok;
-use server_signatures::{MadeSignature, Signed};
+use server_signatures::Signed;
 use std::alloc::{AllocError, Global};
 
 /// The answer to a question for all records of a name, ANY, or for all signatures there, RRSIG, at
@@ -34,27 +35,22 @@ use std::alloc::{AllocError, Global};
 pub(crate) fn answer_subset<S: Scheme, H: Nsec3Hasher>(
     alloc: Global,
     publisher: &mut Publisher<'_, S, H>,
-    addresses: &Addresses,
-    table: &[MadeSignature<'_>],
+    server: &Server<'_>,
     query: &Query<'_>,
     question: Question,
-    at: &UnixTime,
-    limit: u16,
-    udp_size: u16,
 ) -> Result<Response, AllocError>
     requires { asked_of question ≡ (queried_of query.now).asked }
     ensures response { let p = publisher.old in
         let w = world_of S.signature_of S.verifies S.digest_of H.hash_of p in
-        let s = serving w p.keys table.now at.now limit udp_size addresses.now in
-        let q = queried_of query.now in
+        let s = serving_by w p.keys server.now in let q = queried_of query.now in
         IfOk result (AnswersSubset s q p.latest publisher.new.latest) }
     ensures rest { publisher.new ≡ record publisher.old { latest = publisher.new.latest } }
     ensures memory { OnErr result
-        (IsOrWasNoted at.now publisher.old.latest publisher.new.latest) }
+        (IsOrWasNoted server.now.at publisher.old.latest publisher.new.latest) }
 {
     let is_signed = wants_signatures(query);
-    let made = subset_message(alloc, publisher, table, question, at, is_signed);
-    response_with(alloc, query, made, addresses, limit, udp_size)
+    let made = subset_message(alloc, publisher, server, question, is_signed);
+    response_with(alloc, server, query, made)
 }
 
 /// Whether a query wants signatures: by DO, or by its type.
@@ -68,20 +64,19 @@ pub(crate) fn wants_signatures(query: &Query<'_>) -> bool
 fn subset_message<S: Scheme, H: Nsec3Hasher>(
     alloc: Global,
     publisher: &mut Publisher<'_, S, H>,
-    table: &[MadeSignature<'_>],
+    server: &Server<'_>,
     question: Question,
-    at: &UnixTime,
     is_signed: bool,
 ) -> Result<Signed, AnswerFault>
     ensures made { let p = publisher.old in
         let w = world_of S.signature_of S.verifies S.digest_of H.hash_of p in
-        let s = serving w p.keys table.now at.now 0 0 [] in let asked = asked_of question in
+        let s = serving_by w p.keys server.now in let asked = asked_of question in
         MakesSubset s asked is_signed p.latest publisher.new.latest result }
     ensures rest { publisher.new ≡ record publisher.old { latest = publisher.new.latest } }
 {
     let mut chosen = question;
-    match choose_type(alloc, publisher, &mut chosen, at) {
-        Ok(()) => zone_message(publisher, table, &chosen, at, is_signed),
+    match choose_type(alloc, publisher, &mut chosen, &server.at) {
+        Ok(()) => zone_message(publisher, server, &chosen, is_signed),
         Err(fault) => Err(fault),
     }
 }

@@ -5,26 +5,25 @@ ghost use Rattle.answer_shared.specs.ModeView.{mode_of};
 ghost use Rattle.messages.specs.Questions.{asked_of};
 ghost use Rattle.server_answers.specs.MadeOf.{ReadsWhole};
 ghost use Rattle.server_answers.specs.Moments.{IsOrWasNoted};
-ghost use Rattle.server_answers.specs.Responding.{serving};
+ghost use Rattle.server_answers.specs.Servers.{serving_by};
 ghost use Rattle.server_answers.specs.Unheld.{AnswersUnheld, IsMadeUnheld, has_answers, is_kept_back, is_unheld, reserved};
 ghost use Rattle.server_queries.specs.Views.{queried_of};
 
 use crate::message::{is_for_keys, message_for};
 use crate::parameters::is_for_parameters;
 use crate::requests::{REFUSED, Response, response_with};
+use crate::server::Server;
 use answer_publisher::fault::AnswerFault;
 use answer_publisher::publishing::Publisher;
 use answer_scheme::Scheme;
 use answer_shared::mode::Mode;
 use denial_nsec3_hash::hasher::Nsec3Hasher;
-use keyset::UnixTime;
 use messages::names::Name;
 use messages::question::Question;
 use numbers::rtype::Rtype;
-use server_glue::Addresses;
 use server_queries::Query;
 use server_responses::{error_response, is_dnssec_ok, is_link_hidden};
-use server_signatures::{MadeSignature, Signed};
+use server_signatures::Signed;
 use std::alloc::{AllocError, Global};
 
 /// A type that is reserved, so that no zone should hold a record of it (RFC 6895, 3.1).
@@ -52,27 +51,22 @@ pub(crate) fn is_unheld(apex: &Name<Vec<u8>>, mode: &Mode, question: &Question) 
 pub(crate) fn answer_unheld<S: Scheme, H: Nsec3Hasher>(
     alloc: Global,
     publisher: &mut Publisher<'_, S, H>,
-    addresses: &Addresses,
-    table: &[MadeSignature<'_>],
+    server: &Server<'_>,
     query: &Query<'_>,
     question: Question,
-    at: &UnixTime,
-    limit: u16,
-    udp_size: u16,
 ) -> Result<Response, AllocError>
     requires { asked_of question ≡ (queried_of query.now).asked }
     ensures response { let p = publisher.old in
         let w = world_of S.signature_of S.verifies S.digest_of H.hash_of p in
-        let s = serving w p.keys table.now at.now limit udp_size addresses.now in
-        let q = queried_of query.now in
+        let s = serving_by w p.keys server.now in let q = queried_of query.now in
         IfOk result (AnswersUnheld s q p.latest publisher.new.latest) }
     ensures rest { publisher.new ≡ record publisher.old { latest = publisher.new.latest } }
     ensures memory { OnErr result
-        (IsOrWasNoted at.now publisher.old.latest publisher.new.latest) }
+        (IsOrWasNoted server.now.at publisher.old.latest publisher.new.latest) }
 {
     let reserved = reserved_question(question);
-    let made = message_for(publisher, table, &reserved, at, is_dnssec_ok(query));
-    unheld_response(alloc, query, made, addresses, limit, udp_size)
+    let made = message_for(publisher, server, &reserved, is_dnssec_ok(query));
+    unheld_response(alloc, server, query, made)
 }
 
 /// The question for the reserved type at a name.
@@ -90,22 +84,21 @@ fn reserved_question(question: Question) -> Question
 /// none, or where the zone has records of that type or the message is kept back.
 fn unheld_response(
     alloc: Global,
+    server: &Server<'_>,
     query: &Query<'_>,
     made: Result<Signed, AnswerFault>,
-    addresses: &Addresses,
-    limit: u16,
-    udp_size: u16,
 ) -> Result<Response, AllocError>
     requires { IfOk made ReadsWhole }
-    ensures { let q = queried_of query.now in
-        IfOk result (IsMadeUnheld limit udp_size q addresses.now made) }
+    ensures { let q = queried_of query.now in let sizes = server.now.sizes in
+        let addresses = server.now.addresses.now in
+        IfOk result (IsMadeUnheld sizes.limit sizes.udp_size q addresses made) }
 {
     let kept_back = is_kept_back(alloc, query, &made)?;
     if kept_back {
-        let octets = error_response(alloc, query, REFUSED, udp_size)?;
+        let octets = error_response(alloc, query, REFUSED, server.sizes.udp_size)?;
         return Ok(Response::Reply(octets));
     }
-    response_with(alloc, query, made, addresses, limit, udp_size)
+    response_with(alloc, server, query, made)
 }
 
 /// Whether a message was made that is not the answer: it has records in its answer section, or

@@ -14,11 +14,12 @@ use Rattle.answer_shared.specs.EqualTags.{has_equal_tags}
 use Rattle.answer_shared.specs.FactsCase.{low_facts}
 use Rattle.answer_shared.proofs.FactsCase.{caseless}
 use Rattle.answer_judge_rules.specs.Hashes.{hash_among}
-use Rattle.answer_judge_keys.specs.Judging.{Answer, JudgeInput, Refuses, Says, is_judged, keys_in, may_ask, message_refusal, same_question}
+use Rattle.answer_judge.specs.Judging.{Answer, JudgeInput, Refuses, Says, is_judged, may_ask, message_refusal, same_question}
+use Rattle.answer_judge_keys.specs.DnskeyAnswer.{keys_in}
 use Rattle.answer_judge_keys.specs.Trusted.{is_usable}
-use Rattle.answer_judge_keys.specs.declared.verdict.Refusal.{Refusal}
-use Rattle.answer_judge_keys.specs.declared.verdict.Refusal.TheVariants as r
-use Rattle.answer_judge_facts.specs.Judged.{are_mixed, are_over, by_facts, ds_authenticates_keys, facts_in, is_unhashed, judged, judged_answer, judged_bytes, judged_facts, judged_messages, keys_of, trusting}
+use Rattle.answer_judge.specs.declared.verdict.Refusal.{Refusal}
+use Rattle.answer_judge.specs.declared.verdict.Refusal.TheVariants as r
+use Rattle.answer_judge.specs.Judged.{are_mixed, are_over, by_facts, ds_authenticates_keys, facts_in, is_unhashed, judged, judged_answer, judged_bytes, judged_facts, judged_messages, keys_of, trusting}
 use Rattle.answer_judge_facts.specs.Times.{are_unlike, proof_times}
 use Rattle.answer_judge_facts.specs.Verified.{Trusting, verified_facts}
 use Rattle.answer_alike.specs.SeenAlike.{is_covering, is_used}

@@ -7,8 +7,8 @@ use Rattle.messages.specs.Message.{Asked, Message, message}
 use Rattle.messages.specs.Written.{Written}
 use Rattle.messages.specs.WrittenLaws.{IsQuestion, first_place, spelled_from}
 use Rattle.answer_scheme.specs.Answers.{Answers}
-use Rattle.answer_judge_keys.specs.Judging.{JudgeInput, is_judged}
-use Rattle.answer_judge_facts.specs.Judged.{judged}
+use Rattle.answer_judge.specs.Judging.{JudgeInput, is_judged}
+use Rattle.answer_judge.specs.Judged.{judged}
 use Rattle.server_answers.proofs.WritesGroups.{Holds}
 use Rattle.server_queries.specs.Queries.{Queried}
 use Rattle.server_responses.specs.Links.{shows_link}

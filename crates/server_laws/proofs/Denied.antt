@@ -10,8 +10,8 @@ use Rattle.messages.specs.Written.{Written}
 use Rattle.messages.specs.WrittenLaws.{IsQuestion, first_place, spelled_from}
 use Rattle.answer_scheme.specs.Answers.{Answers}
 use Rattle.answer_zone.specs.ZoneAnswers.{flags_for}
-use Rattle.answer_judge_keys.specs.Judging.{JudgeInput}
-use Rattle.answer_judge_facts.specs.Judged.{judged}
+use Rattle.answer_judge.specs.Judging.{JudgeInput}
+use Rattle.answer_judge.specs.Judged.{judged}
 use Rattle.server_answers.specs.Composed.{joined}
 use Rattle.server_answers.specs.Glue.{IsAddress, glue}
 use Rattle.server_answers.specs.Responding.{IsMessage, Serving}

@@ -28,10 +28,10 @@ use Rattle.answer_shared.specs.Hashing.{hash_in}
 use Rattle.answer_zone.specs.ZoneAnswers.{flags_for}
 use Rattle.alias_laws.proofs.Orderly.{servable}
 use Rattle.answer_shared.specs.Served.{Group, Served, answer_groups, key_group, served_of, ttl_among}
-use Rattle.answer_judge_keys.specs.Judging.{Answer, JudgeInput, Refuses, Says, is_judged, message_refusal}
-use Rattle.answer_judge_keys.specs.declared.verdict.Refusal.{Refusal}
-use Rattle.answer_judge_keys.specs.declared.verdict.Refusal.TheVariants as r
-use Rattle.answer_judge_facts.specs.Judged.{AnswersAs, judged, judged_bytes}
+use Rattle.answer_judge.specs.Judging.{Answer, JudgeInput, Refuses, Says, is_judged, message_refusal}
+use Rattle.answer_judge.specs.declared.verdict.Refusal.{Refusal}
+use Rattle.answer_judge.specs.declared.verdict.Refusal.TheVariants as r
+use Rattle.answer_judge.specs.Judged.{AnswersAs, judged, judged_bytes}
 use Rattle.answer_alike.proofs.GivenAnswers.{answers_given}
 use Rattle.answer_alike.specs.SeenAlike.{SeenAlike, is_covering, is_used_type}
 use Rattle.answer_alike.proofs.JudgedAlike.{answers_alike, keys_alike, uncovered_alike}

@@ -25,8 +25,8 @@ use Rattle.answer_shared.specs.GroupView.{GroupView, view_of}
 use Rattle.answer_shared.specs.Served.{Group, Served, answer_groups, soa, spelled_among}
 use Rattle.answer_shared.proofs.ZoneData.{low-owner_among, low-spelled_among}
 use Rattle.answer_zone.specs.ZoneAnswers.{answered, flags_for}
-use Rattle.answer_judge_keys.specs.Judging.{JudgeInput, is_judged}
-use Rattle.answer_judge_facts.specs.Judged.{judged}
+use Rattle.answer_judge.specs.Judging.{JudgeInput, is_judged}
+use Rattle.answer_judge.specs.Judged.{judged}
 use Rattle.answer_judge_facts.specs.Times.{proof_times}
 use Rattle.answer_judge_facts.specs.Verified.{verified_facts}
 use Rattle.answer_alike.specs.SeenAlike.{is_used}

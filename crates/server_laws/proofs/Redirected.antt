@@ -37,8 +37,8 @@ use Rattle.answer_zone_records.proofs.Targets.{spelled}
 use Rattle.answer_zone_records.proofs.ZoneInOrder.{records_in_order}
 use Rattle.alias_laws.proofs.Aliases.{targets}
 use Rattle.alias_laws.proofs.Leading.{Redirects, redirector}
-use Rattle.answer_judge_keys.specs.Judging.{JudgeInput}
-use Rattle.answer_judge_facts.specs.Judged.{judged}
+use Rattle.answer_judge.specs.Judging.{JudgeInput}
+use Rattle.answer_judge.specs.Judged.{judged}
 use Rattle.server_answers.specs.Aliases.{alias_in_place, alias_of, asks_all, asks_beside, for_type, may_lead}
 use Rattle.server_answers.specs.Composed.{IsWritten, joined, rrsig_of}
 use Rattle.server_answers.specs.Outcomes.{signed_by}

@@ -5,7 +5,7 @@ use Rattle.definitions.specs.Name.{strictly_above}
 use Rattle.messages.specs.Message.{Asked}
 use Rattle.messages.specs.WrittenLaws.{IsQuestion}
 use Rattle.answer_scheme.specs.Answers.{Answers}
-use Rattle.answer_judge_keys.specs.Judging.{JudgeInput}
+use Rattle.answer_judge.specs.Judging.{JudgeInput}
 use Rattle.server_queries.specs.Queries.{Queried}
 use Rattle.server_responses.specs.Redirects.{redirect_response}
 use Rattle.server_responses.specs.Responses.{error_response}

@@ -17,6 +17,7 @@ use crate::links::{push_links, shows_link};
 use crate::records::{
     Section, answer_section, authority_section, negative_ttl, pair_at, push_section,
 };
+use crate::transport::ResponseSizes;
 use crate::write::{Counts, push_zone_record, reply_octets};
 use messages::listed::read_message_into;
 use messages::record::ZoneRecord;
@@ -65,12 +66,11 @@ pub fn response(
     query: &Query<'_>,
     message: &[u8],
     additional: &[&ZoneRecord],
-    limit: u16,
-    udp_size: u16,
+    sizes: ResponseSizes,
 ) -> Result<Vec<u8>, ResponseError>
     ensures octets { let q = queried_of query.now in
         let more = map (λ r. handed_of r.now) additional.now in
-        IfOk result (λ v. AnswersQuery limit udp_size q message.now more v.items) }
+        IfOk result (λ v. AnswersQuery sizes.limit sizes.udp_size q message.now more v.items) }
     ensures error { IfErr result
         (λ e. e ≡ ResponseError.Unreadable → IsUnreadable message.now) }
 {
@@ -79,11 +79,11 @@ pub fn response(
         return Err(ResponseError::Unreadable);
     };
     listed?;
-    let found = limited_response(alloc, query, message, &records, additional, limit, udp_size)?;
+    let found = limited_response(alloc, query, message, &records, additional, sizes)?;
     if let Some(whole) = found {
         return Ok(whole);
     }
-    Ok(truncated_response(alloc, query, message, udp_size)?)
+    Ok(truncated_response(alloc, query, message, sizes.udp_size)?)
 }
 
 /// The response that has TC and no record but OPT (RFC 2181, 9).
@@ -107,20 +107,19 @@ fn limited_response(
     message: &[u8],
     records: &[ViewRecord<'_>],
     additional: &[&ZoneRecord],
-    limit: u16,
-    udp_size: u16,
+    sizes: ResponseSizes,
 ) -> Result<Option<Vec<u8>>, AllocError>
     ensures { let q = queried_of query.now in let rs = map spelled records.now in
         let more = map written_as_handed (map (λ r. handed_of r.now) additional.now) in
-        let whole = whole_response udp_size q message.now rs more in
+        let whole = whole_response sizes.udp_size q message.now rs more in
         IfOk result (λ o. option_map (λ v. v.items) o
-        ≡ (if nat_le (length whole) limit then Some whole else None)) }
+        ≡ (if nat_le (length whole) sizes.limit then Some whole else None)) }
 {
     if additional.len() > MOST_RECORDS {
         return Ok(None);
     }
-    let whole = whole_response(alloc, query, message, records, additional, udp_size)?;
-    if whole.len() <= usize::from(limit) {
+    let whole = whole_response(alloc, query, message, records, additional, sizes.udp_size)?;
+    if whole.len() <= usize::from(sizes.limit) {
         Ok(Some(whole))
     } else {
         Ok(None)

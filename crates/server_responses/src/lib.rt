@@ -12,4 +12,4 @@ mod write;
 pub use crate::composing::{ResponseError, error_response, is_dnssec_ok, response};
 pub use crate::links::is_link_hidden;
 pub use crate::redirects::redirect_response;
-pub use crate::transport::{Transport, size_limit};
+pub use crate::transport::{ResponseSizes, Transport, size_limit};

@@ -15,6 +15,7 @@ ghost use Rattle.answer_shared.specs.Redirection.{lead_seen};
 
 use crate::composing::{push_answers, push_authority, response_flags, truncated_response};
 use crate::records::{answer_section, pair_at};
+use crate::transport::ResponseSizes;
 use crate::write::{Counts, reply_octets};
 use answer_shared::redirection::{Lead, exchanged};
 use messages::listed::read_message_into;
@@ -48,12 +49,11 @@ pub fn redirect_response(
     alloc: Global,
     query: &Query<'_>,
     message: &[u8],
-    limit: u16,
-    udp_size: u16,
+    sizes: ResponseSizes,
 ) -> Result<Option<Vec<u8>>, AllocError>
     ensures { let q = queried_of query.now in
         IfOk result (λ o. option_map (λ v. v.items) o
-        ≡ redirect_response limit udp_size q message.now) }
+        ≡ redirect_response sizes.limit sizes.udp_size q message.now) }
 {
     let mut records = Vec::new(alloc);
     let Ok((_view, listed)) = read_message_into(message, &mut records) else {
@@ -63,7 +63,7 @@ pub fn redirect_response(
     let Some(redirect) = redirect_in(alloc, message, &records, &query.question.name)? else {
         return Ok(None);
     };
-    let octets = limited_redirect(alloc, query, message, &records, &redirect, limit, udp_size)?;
+    let octets = limited_redirect(alloc, query, message, &records, &redirect, sizes)?;
     Ok(Some(octets))
 }
 
@@ -138,19 +138,18 @@ fn limited_redirect(
     message: &[u8],
     records: &[ViewRecord<'_>],
     redirect: &Redirect<'_, '_>,
-    limit: u16,
-    udp_size: u16,
+    sizes: ResponseSizes,
 ) -> Result<Vec<u8>, AllocError>
     ensures { let q = queried_of query.now in let rs = map spelled records.now in
         let r = redirected_as redirect.now in
-        IfOk result (λ v. v.items ≡ redirect_of limit udp_size q message.now rs r) }
+        IfOk result (λ v. v.items ≡ redirect_of sizes.limit sizes.udp_size q message.now rs r) }
 {
     let mut octets = Vec::new(alloc);
     let answers = push_answers(&mut octets, query, message, records)?;
     let made = push_made(alloc, &mut octets, &query.question.name, redirect)?;
     let authority = push_authority(&mut octets, query, message, records)?;
-    if octets.len() > usize::from(limit) {
-        return truncated_response(alloc, query, message, udp_size);
+    if octets.len() > usize::from(sizes.limit) {
+        return truncated_response(alloc, query, message, sizes.udp_size);
     }
     let counts = Counts {
         answers: answers + made,
@@ -159,9 +158,9 @@ fn limited_redirect(
     };
     let flags = redirect_flags(pair_at(message, 2), &redirect.lead);
     let flags = response_flags(query.header, flags, false);
-    let whole = reply_octets(alloc, query, flags, counts, &octets, udp_size)?;
-    if whole.len() > usize::from(limit) {
-        return truncated_response(alloc, query, message, udp_size);
+    let whole = reply_octets(alloc, query, flags, counts, &octets, sizes.udp_size)?;
+    if whole.len() > usize::from(sizes.limit) {
+        return truncated_response(alloc, query, message, sizes.udp_size);
     }
     Ok(whole)
 }

@@ -13,6 +13,16 @@ pub enum Transport {
     Datagram { limit: u16 },
 }
 
+/// The sizes that a response is made by.
+#[derive(Clone, Copy, Debug, PartialEq, Eq)]
+pub struct ResponseSizes {
+    /// How many octets the response may have, as [`size_limit`] says.
+    pub limit: u16,
+    /// How many octets this server takes by UDP, as the OPT record of the response says (RFC 6891,
+    /// 6.2.3).
+    pub udp_size: u16,
+}
+
 /// How many octets a response may have: 65,535 by a stream; by a datagram no more than the server's
 /// limit and than what the OPT record of the query says, but at least 512 (RFC 1035, 2.3.4 and
 /// 4.2.2; RFC 6891, 6.2.3 to 6.2.5).

@@ -12,7 +12,7 @@ use crate::told::{CodeAndOctets, hand_out};
 use answer_scheme::Scheme;
 use denial_nsec3_hash::hasher::Nsec3Hasher;
 use keyset::UnixTime;
-use server_answers::{Response, ServerTerms, respond};
+use server_answers::{Request, Response, ServerTerms, respond};
 use server_responses::Transport;
 use server_zone::Zone;
 use std::alloc::{AllocError, Global};
@@ -92,7 +92,12 @@ fn reply_to<S: Scheme, H: Nsec3Hasher>(
         Ok(table) => table,
         Err(code) => return CodeAndOctets::only(alloc, code),
     };
-    let now = UnixTime::new(Duration::from_secs(handed.moment));
+    let request = Request {
+        octets: handed.request,
+        table: &table,
+        moment: UnixTime::new(Duration::from_secs(handed.moment)),
+        transport,
+    };
     let terms = ServerTerms {
         backdate: handed.backdate,
         udp_size: handed.udp_size,
@@ -101,10 +106,7 @@ fn reply_to<S: Scheme, H: Nsec3Hasher>(
         alloc,
         &mut zone.publisher,
         &zone.addresses,
-        &table,
-        handed.request,
-        &now,
-        transport,
+        &request,
         &terms,
     ) {
         Ok(response) => told_response(alloc, response),

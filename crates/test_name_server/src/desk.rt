@@ -7,9 +7,8 @@ use denial_nsec3_sha1::hasher::Sha1Hasher;
 use keyset::{Available, UnixTime};
 use messages::record::ZoneRecord;
 use numbers::algorithm::SecurityAlgorithm;
-use server_answers::{Response, ServerTerms, respond};
+use server_answers::{Request, Response, ServerTerms, respond};
 use server_glue::Addresses;
-use server_responses::Transport;
 use server_signatures::{DigestScheme, MadeSignature, SigningInput};
 use sha2::{Digest, Sha256};
 use std::alloc::Global;
@@ -105,12 +104,17 @@ impl Desk {
             backdate: backdate.parse::<u32>().ok()?,
             udp_size: UDP_SIZE,
         };
-        let request = octets_of(alloc, request)?;
-        let (now, carried) = (moment(seconds)?, transport(carried)?);
+        let octets = octets_of(alloc, request)?;
+        let request = Request {
+            octets: &octets,
+            table: &[],
+            moment: moment(seconds)?,
+            transport: transport(carried)?,
+        };
         let served = self.served.as_mut()?;
-        match served.respond(alloc, &[], &request, &now, carried, &terms)? {
+        match served.respond(alloc, &request, &terms)? {
             Response::Sign(inputs) => {
-                let said = signed(alloc, served, &inputs, &request, &now, carried, &terms)?;
+                let said = signed(alloc, served, &inputs, &request, &terms)?;
                 let count = inputs.len();
                 format!(in alloc; "{count} {said}").ok()
             }
@@ -123,28 +127,15 @@ impl Desk {
 }
 
 impl Served {
-    /// Answers a request by a table of signatures.
+    /// Answers a request.
     fn respond(
         &mut self,
         alloc: Global,
-        table: &[MadeSignature<'_>],
-        request: &[u8],
-        now: &UnixTime,
-        carried: Transport,
+        request: &Request<'_>,
         terms: &ServerTerms,
     ) -> Option<Response> {
         let addresses = &self.addresses;
-        respond(
-            alloc,
-            &mut self.publisher,
-            addresses,
-            table,
-            request,
-            now,
-            carried,
-            terms,
-        )
-        .ok()
+        respond(alloc, &mut self.publisher, addresses, request, terms).ok()
     }
 }
 
@@ -170,9 +161,7 @@ fn signed(
     alloc: Global,
     served: &mut Served,
     inputs: &[SigningInput],
-    request: &[u8],
-    now: &UnixTime,
-    carried: Transport,
+    request: &Request<'_>,
     terms: &ServerTerms,
 ) -> Option<String> {
     let mut signatures = Vec::new(alloc);
@@ -182,10 +171,11 @@ fn signed(
             .ok()?;
     }
     let table = table_of(alloc, inputs, &signatures)?;
-    told(
-        alloc,
-        served.respond(alloc, &table, request, now, carried, terms)?,
-    )
+    let request = Request {
+        table: &table,
+        ..*request
+    };
+    told(alloc, served.respond(alloc, &request, terms)?)
 }
 
 /// The table of some signatures.

@@ -2,7 +2,7 @@
 
 use crate::words::transport;
 use server_queries::{Query, read_query};
-use server_responses::{ResponseError, Transport, response, size_limit};
+use server_responses::{ResponseError, ResponseSizes, Transport, response, size_limit};
 use std::alloc::Global;
 use test_lines::{Answer, first_word, octets_of};
 
@@ -36,8 +36,11 @@ fn tell_response(
     carried: Transport,
     size: u16,
 ) -> Option<()> {
-    let limit = size_limit(carried, query.edns);
-    match response(alloc, query, message, &[], limit, size) {
+    let sizes = ResponseSizes {
+        limit: size_limit(carried, query.edns),
+        udp_size: size,
+    };
+    match response(alloc, query, message, &[], sizes) {
         Ok(octets) => answer.octets(&octets),
         Err(ResponseError::Unreadable) => answer.word("unreadable"),
         Err(ResponseError::Memory) => return None,

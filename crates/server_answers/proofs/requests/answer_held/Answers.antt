@@ -1,4 +1,4 @@
-use Rattle.std.proofs.Common.{[], Bool, subst}
+use Rattle.std.proofs.Common.{Bool, subst}
 use Rattle.std.proofs.lemmas.Result.{IfOk-weaker}
 use Rattle.answer_publisher.specs.World.{world_of}
 use Rattle.messages.specs.Message.{Asked}
@@ -7,7 +7,8 @@ use Rattle.server_queries.specs.Views.{queried_of}
 use Rattle.server_responses.specs.Responses.{is_dnssec_ok}
 use Rattle.server_answers.specs.MadeOf.{IsMadeOf}
 use Rattle.server_answers.specs.Messages.{Makes}
-use Rattle.server_answers.specs.Responding.{AnswersHeld, is_for_keys, serving}
+use Rattle.server_answers.specs.Responding.{AnswersHeld, is_for_keys}
+use Rattle.server_answers.specs.Servers.{serving_by}
 use Rattle.server_answers.proofs.Making.{held_answered, of_err, reads_whole, was_noted}
 use Rattle.server_answers.proofs.requests.answer_held.Goals as goal
 
@@ -15,7 +16,7 @@ pub response_with-requires : goal.response_with-requires
 response_with-requires g c =
     let p = c.args.publisher.now in
     let asked = asked_of c.args.question.now in
-    let s = serving (world_of g.S.Scheme.signature_of g.S.Scheme.verifies g.S.Scheme.digest_of g.H.Nsec3Hasher.hash_of p) p.keys c.args.table.now c.args.at.now 0 0 [] in
+    let s = serving_by (world_of g.S.Scheme.signature_of g.S.Scheme.verifies g.S.Scheme.digest_of g.H.Nsec3Hasher.hash_of p) p.keys c.args.server.now in
     reads_whole s asked (is_for_keys p.zone.apex asked) c.is_dnssec_ok.result p.latest c.message_for-made.new.publisher.latest c.message_for-made.result c.message_for-made.ensures.made
 
 pub returns-clause-response : goal.returns-clause-response
@@ -23,18 +24,18 @@ returns-clause-response g c =
     let p = c.args.publisher.now in
     let q = queried_of c.args.query.now in
     let asked = asked_of c.args.question.now in
-    let s = serving (world_of g.S.Scheme.signature_of g.S.Scheme.verifies g.S.Scheme.digest_of g.H.Nsec3Hasher.hash_of p) p.keys c.args.table.now c.args.at.now c.args.limit c.args.udp_size c.args.addresses.now in
+    let s = serving_by (world_of g.S.Scheme.signature_of g.S.Scheme.verifies g.S.Scheme.digest_of g.H.Nsec3Hasher.hash_of p) p.keys c.args.server.now in
     let new = c.message_for-made.new.publisher.latest in
     let made = c.message_for-made.result in
     let first : Makes s asked (is_for_keys p.zone.apex asked) (is_dnssec_ok q) p.latest new made =
     subst (λ (d : Bool). Makes s asked (is_for_keys p.zone.apex asked) d p.latest new made) c.is_dnssec_ok.ensures c.message_for-made.ensures.made in
     let makes : Makes s q.asked (is_for_keys p.zone.apex q.asked) (is_dnssec_ok q) p.latest new made =
     subst (λ (a : Asked). Makes s a (is_for_keys p.zone.apex a) (is_dnssec_ok q) p.latest new made) c.requires first in
-    IfOk-weaker c.response_with.result (IsMadeOf c.args.limit c.args.udp_size q c.args.addresses.now made) (AnswersHeld s q p.latest new) (λ r k. held_answered s q p.latest new made r makes k) c.response_with.ensures
+    IfOk-weaker c.response_with.result (IsMadeOf s.limit s.size q s.addresses made) (AnswersHeld s q p.latest new) (λ r k. held_answered s q p.latest new made r makes k) c.response_with.ensures
 
 pub returns-clause-memory : goal.returns-clause-memory
 returns-clause-memory g c =
     let p = c.args.publisher.now in
     let asked = asked_of c.args.question.now in
-    let s = serving (world_of g.S.Scheme.signature_of g.S.Scheme.verifies g.S.Scheme.digest_of g.H.Nsec3Hasher.hash_of p) p.keys c.args.table.now c.args.at.now 0 0 [] in
+    let s = serving_by (world_of g.S.Scheme.signature_of g.S.Scheme.verifies g.S.Scheme.digest_of g.H.Nsec3Hasher.hash_of p) p.keys c.args.server.now in
     of_err c.response_with.result (was_noted s asked (is_for_keys p.zone.apex asked) c.is_dnssec_ok.result p.latest c.message_for-made.new.publisher.latest c.message_for-made.result c.message_for-made.ensures.made)

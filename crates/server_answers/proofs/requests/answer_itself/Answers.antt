@@ -6,7 +6,8 @@ use Rattle.messages.specs.Questions.{asked_of}
 use Rattle.server_queries.specs.Views.{queried_of}
 use Rattle.server_answers.specs.Answering.{AnswersItself}
 use Rattle.server_answers.specs.Parameters.{AnswersParameters, is_for_parameters}
-use Rattle.server_answers.specs.Responding.{AnswersHeld, serving}
+use Rattle.server_answers.specs.Responding.{AnswersHeld}
+use Rattle.server_answers.specs.Servers.{serving_by}
 use Rattle.answer_publisher.specs.Aliases.{asks_all}
 use Rattle.server_answers.specs.Subset.{AnswersSubset}
 use Rattle.server_answers.specs.Unheld.{AnswersUnheld, is_unheld}
@@ -18,7 +19,7 @@ pub returns-then-is_unheld-clause-response : goal.returns-then-is_unheld-clause-
 returns-then-is_unheld-clause-response g c =
     let p = c.args.publisher.now in
     let q = queried_of c.args.query.now in
-    let s = serving (world_of g.S.Scheme.signature_of g.S.Scheme.verifies g.S.Scheme.digest_of g.H.Nsec3Hasher.hash_of p) p.keys c.args.table.now c.args.at.now c.args.limit c.args.udp_size c.args.addresses.now in
+    let s = serving_by (world_of g.S.Scheme.signature_of g.S.Scheme.verifies g.S.Scheme.digest_of g.H.Nsec3Hasher.hash_of p) p.keys c.args.server.now in
     let new = c.answer_unheld.new.publisher.latest in
     let here : is_unheld p.zone.apex p.zone.mode (asked_of c.args.question) ≡ true = search rules in
     let is : is_unheld p.zone.apex p.zone.mode q.asked ≡ true = subst (λ (a : Asked). is_unheld p.zone.apex p.zone.mode a ≡ true) c.requires here in
@@ -28,7 +29,7 @@ pub returns-then-asks_all-clause-response : goal.returns-then-asks_all-clause-re
 returns-then-asks_all-clause-response g c =
     let p = c.args.publisher.now in
     let q = queried_of c.args.query.now in
-    let s = serving (world_of g.S.Scheme.signature_of g.S.Scheme.verifies g.S.Scheme.digest_of g.H.Nsec3Hasher.hash_of p) p.keys c.args.table.now c.args.at.now c.args.limit c.args.udp_size c.args.addresses.now in
+    let s = serving_by (world_of g.S.Scheme.signature_of g.S.Scheme.verifies g.S.Scheme.digest_of g.H.Nsec3Hasher.hash_of p) p.keys c.args.server.now in
     let new = c.answer_subset.new.publisher.latest in
     let unheld : is_unheld p.zone.apex p.zone.mode (asked_of c.args.question) ≡ false = search rules in
     let held : is_unheld p.zone.apex p.zone.mode q.asked ≡ false = subst (λ (a : Asked). is_unheld p.zone.apex p.zone.mode a ≡ false) c.requires unheld in
@@ -40,7 +41,7 @@ pub returns-clause-response : goal.returns-clause-response
 returns-clause-response g c =
     let p = c.args.publisher.now in
     let q = queried_of c.args.query.now in
-    let s = serving (world_of g.S.Scheme.signature_of g.S.Scheme.verifies g.S.Scheme.digest_of g.H.Nsec3Hasher.hash_of p) p.keys c.args.table.now c.args.at.now c.args.limit c.args.udp_size c.args.addresses.now in
+    let s = serving_by (world_of g.S.Scheme.signature_of g.S.Scheme.verifies g.S.Scheme.digest_of g.H.Nsec3Hasher.hash_of p) p.keys c.args.server.now in
     let new = c.answer_held.new.publisher.latest in
     let unheld : is_unheld p.zone.apex p.zone.mode (asked_of c.args.question) ≡ false = search rules in
     let held : is_unheld p.zone.apex p.zone.mode q.asked ≡ false = subst (λ (a : Asked). is_unheld p.zone.apex p.zone.mode a ≡ false) c.requires unheld in
@@ -54,7 +55,7 @@ pub returns-then-is_for_parameters-clause-response : goal.returns-then-is_for_pa
 returns-then-is_for_parameters-clause-response g c =
     let p = c.args.publisher.now in
     let q = queried_of c.args.query.now in
-    let s = serving (world_of g.S.Scheme.signature_of g.S.Scheme.verifies g.S.Scheme.digest_of g.H.Nsec3Hasher.hash_of p) p.keys c.args.table.now c.args.at.now c.args.limit c.args.udp_size c.args.addresses.now in
+    let s = serving_by (world_of g.S.Scheme.signature_of g.S.Scheme.verifies g.S.Scheme.digest_of g.H.Nsec3Hasher.hash_of p) p.keys c.args.server.now in
     let unheld : is_unheld p.zone.apex p.zone.mode (asked_of c.args.question) ≡ false = search rules in
     let held : is_unheld p.zone.apex p.zone.mode q.asked ≡ false = subst (λ (a : Asked). is_unheld p.zone.apex p.zone.mode a ≡ false) c.requires unheld in
     let here : asks_all (asked_of c.args.question) ≡ false = search rules in

@@ -1,4 +1,4 @@
-use Rattle.std.proofs.Common.{[], ◌≡◌, ◌∙◌, Bool, subst, ap}
+use Rattle.std.proofs.Common.{◌≡◌, ◌∙◌, Bool, subst, ap}
 use Rattle.std.proofs.lemmas.Result.{IfOk-weaker}
 use Rattle.answer_publisher.specs.World.{world_of}
 use Rattle.messages.specs.Message.{Asked}
@@ -6,7 +6,8 @@ use Rattle.messages.specs.Questions.{asked_of}
 use Rattle.server_queries.specs.Views.{queried_of}
 use Rattle.server_responses.specs.Responses.{is_dnssec_ok}
 use Rattle.server_answers.specs.Messages.{Makes}
-use Rattle.server_answers.specs.Responding.{is_for_keys, serving}
+use Rattle.server_answers.specs.Responding.{is_for_keys}
+use Rattle.server_answers.specs.Servers.{serving_by}
 use Rattle.server_answers.specs.Unheld.{AnswersUnheld, IsMadeUnheld, reserved}
 use Rattle.server_answers.proofs.Making.{of_err, reads_whole, unheld_answered, was_noted}
 use Rattle.server_answers.proofs.unheld.answer_unheld.Goals as goal
@@ -15,7 +16,7 @@ pub unheld_response-requires : goal.unheld_response-requires
 unheld_response-requires g c =
     let p = c.args.publisher.now in
     let asked = asked_of c.reserved_question-reserved.result in
-    let s = serving (world_of g.S.Scheme.signature_of g.S.Scheme.verifies g.S.Scheme.digest_of g.H.Nsec3Hasher.hash_of p) p.keys c.args.table.now c.args.at.now 0 0 [] in
+    let s = serving_by (world_of g.S.Scheme.signature_of g.S.Scheme.verifies g.S.Scheme.digest_of g.H.Nsec3Hasher.hash_of p) p.keys c.args.server.now in
     reads_whole s asked (is_for_keys p.zone.apex asked) c.is_dnssec_ok.result p.latest c.message_for-made.new.publisher.latest c.message_for-made.result c.message_for-made.ensures.made
 
 pub returns-clause-response : goal.returns-clause-response
@@ -23,7 +24,7 @@ returns-clause-response g c =
     let p = c.args.publisher.now in
     let q = queried_of c.args.query.now in
     let asked = asked_of c.reserved_question-reserved.result in
-    let s = serving (world_of g.S.Scheme.signature_of g.S.Scheme.verifies g.S.Scheme.digest_of g.H.Nsec3Hasher.hash_of p) p.keys c.args.table.now c.args.at.now c.args.limit c.args.udp_size c.args.addresses.now in
+    let s = serving_by (world_of g.S.Scheme.signature_of g.S.Scheme.verifies g.S.Scheme.digest_of g.H.Nsec3Hasher.hash_of p) p.keys c.args.server.now in
     let new = c.message_for-made.new.publisher.latest in
     let made = c.message_for-made.result in
     let asked_is : asked ≡ reserved q.asked = c.reserved_question-reserved.ensures ∙ ap reserved c.requires in
@@ -31,11 +32,11 @@ returns-clause-response g c =
     subst (λ (d : Bool). Makes s asked (is_for_keys p.zone.apex asked) d p.latest new made) c.is_dnssec_ok.ensures c.message_for-made.ensures.made in
     let makes : Makes s (reserved q.asked) (is_for_keys p.zone.apex (reserved q.asked)) (is_dnssec_ok q) p.latest new made =
     subst (λ (a : Asked). Makes s a (is_for_keys p.zone.apex a) (is_dnssec_ok q) p.latest new made) asked_is first in
-    IfOk-weaker c.unheld_response.result (IsMadeUnheld c.args.limit c.args.udp_size q c.args.addresses.now made) (AnswersUnheld s q p.latest new) (λ r k. unheld_answered s q p.latest new made r makes k) c.unheld_response.ensures
+    IfOk-weaker c.unheld_response.result (IsMadeUnheld s.limit s.size q s.addresses made) (AnswersUnheld s q p.latest new) (λ r k. unheld_answered s q p.latest new made r makes k) c.unheld_response.ensures
 
 pub returns-clause-memory : goal.returns-clause-memory
 returns-clause-memory g c =
     let p = c.args.publisher.now in
     let asked = asked_of c.reserved_question-reserved.result in
-    let s = serving (world_of g.S.Scheme.signature_of g.S.Scheme.verifies g.S.Scheme.digest_of g.H.Nsec3Hasher.hash_of p) p.keys c.args.table.now c.args.at.now 0 0 [] in
+    let s = serving_by (world_of g.S.Scheme.signature_of g.S.Scheme.verifies g.S.Scheme.digest_of g.H.Nsec3Hasher.hash_of p) p.keys c.args.server.now in
     of_err c.unheld_response.result (was_noted s asked (is_for_keys p.zone.apex asked) c.is_dnssec_ok.result p.latest c.message_for-made.new.publisher.latest c.message_for-made.result c.message_for-made.ensures.made)

@@ -19,9 +19,9 @@ returns-in-Some-clause-octets c =
     let more : List Written = map written_as_handed added in
     let records : rs ≡ c.in-Ok._view.records = search rules in
     let found = ap (option_map (λ v. v.items)) (sym c.in-Some.is) ∙ c.in_ok-found.ensures in
-    let is : c.in-Some.whole.items ≡ response_of c.args.limit c.args.udp_size q m rs more =
-    when_whole c.args.limit (whole_response c.args.udp_size q m rs more) (truncated_response c.args.udp_size q m) c.in-Some.whole.items found in
-    (c.in-Ok._view, c.in-Ok.ensures.exact, is ∙ ap (λ (xs : List Spelled). response_of c.args.limit c.args.udp_size q m xs more) records)
+    let is : c.in-Some.whole.items ≡ response_of c.args.sizes.limit c.args.sizes.udp_size q m rs more =
+    when_whole c.args.sizes.limit (whole_response c.args.sizes.udp_size q m rs more) (truncated_response c.args.sizes.udp_size q m) c.in-Some.whole.items found in
+    (c.in-Ok._view, c.in-Ok.ensures.exact, is ∙ ap (λ (xs : List Spelled). response_of c.args.sizes.limit c.args.sizes.udp_size q m xs more) records)
 
 pub returns-clause-octets : goal.returns-clause-octets
 returns-clause-octets c =
@@ -32,7 +32,7 @@ returns-clause-octets c =
     let more : List Written = map written_as_handed added in
     let records : rs ≡ c.in-Ok._view.records = search rules in
     let found = ap (option_map (λ v. v.items)) (sym c.in_default-found.is) ∙ c.in_ok-found.ensures in
-    let cut : c.in_ok-truncated_response.field-0.items ≡ truncated_response c.args.udp_size q m = search rules in
-    let is : truncated_response c.args.udp_size q m ≡ response_of c.args.limit c.args.udp_size q m rs more =
-    when_cut c.args.limit (whole_response c.args.udp_size q m rs more) (truncated_response c.args.udp_size q m) found in
-    (c.in-Ok._view, c.in-Ok.ensures.exact, cut ∙ is ∙ ap (λ (xs : List Spelled). response_of c.args.limit c.args.udp_size q m xs more) records)
+    let cut : c.in_ok-truncated_response.field-0.items ≡ truncated_response c.args.sizes.udp_size q m = search rules in
+    let is : truncated_response c.args.sizes.udp_size q m ≡ response_of c.args.sizes.limit c.args.sizes.udp_size q m rs more =
+    when_cut c.args.sizes.limit (whole_response c.args.sizes.udp_size q m rs more) (truncated_response c.args.sizes.udp_size q m) found in
+    (c.in-Ok._view, c.in-Ok.ensures.exact, cut ∙ is ∙ ap (λ (xs : List Spelled). response_of c.args.sizes.limit c.args.sizes.udp_size q m xs more) records)
