@@ -104,9 +104,15 @@ enum zermuita_reply {
     ZERMUITA_BAD_MESSAGES = 40,   /* the messages are not messages behind the names that they are of */
 
     /* Limits of zermuita_resolve, which say why there is no verdict, too. */
-    ZERMUITA_TOO_MANY_CUTS = 48,    /* more delegations are on the way to the name than are allowed */
-    ZERMUITA_TOO_MANY_ALIASES = 49, /* more aliases are on the way to the name than are allowed */
-    ZERMUITA_TOO_MANY_MESSAGES = 50 /* more messages are wanted than the evidence may have */
+    ZERMUITA_TOO_MANY_CUTS = 48,     /* more delegations are on the way to the name than are allowed */
+    ZERMUITA_TOO_MANY_ALIASES = 49,  /* more aliases are on the way to the name than are allowed */
+    ZERMUITA_TOO_MANY_MESSAGES = 50, /* more messages are wanted than the evidence may have */
+
+    /*
+     * One more refusal, with `ede` 12. Nothing is proved, and the answer is not bogus: records of it verify, but not all that the RFCs
+     * ask for are there. docs/use/CALLING.md has the valid answers that bring it, and what to do then.
+     */
+    ZERMUITA_INCOMPLETE_DENIAL = 51 /* denial records verify, but one that the proof needs is missing */
 };
 
 /* Octets. Where there are none, `len` is 0, and `data` may be null. */
@@ -286,9 +292,9 @@ static inline enum zermuita_reply zermuita_judge(const struct zermuita_case *han
  *   ZERMUITA_DNAME                           nothing: secure, and the name that a DNAME record leads to would be too long: YXDOMAIN
  *   ZERMUITA_INSECURE                        the name of the delegation below which nothing is signed
  *   ZERMUITA_OPTOUT                          the name of the zone whose opt-out leaves the name open: insecure
- *   refusals up to 27, ZERMUITA_NOTHING_TOLD the zone, the name and the type of the answer that is refused, or that tells nothing, in
- *                                            the form of a message that is wanted; with ZERMUITA_OUT_OF_MEMORY nothing. With 17 and
- *                                            19 to 21 the zone's DNSKEY answer is refused, by which that answer is judged
+ *   refusals up to 27,                       the zone, the name and the type of the answer that is refused, or that tells nothing, in
+ *   ZERMUITA_INCOMPLETE_DENIAL,              the form of a message that is wanted; with ZERMUITA_OUT_OF_MEMORY nothing. With 17 and
+ *   ZERMUITA_NOTHING_TOLD                    19 to 21 the zone's DNSKEY answer is refused, by which that answer is judged
  *   others                                   nothing
  *
  * With each reply that says something of the name, the names that aliases led through stand in front of that (zermuita_take_aliases):
@@ -298,8 +304,9 @@ static inline enum zermuita_reply zermuita_judge(const struct zermuita_case *han
  * the second `until`: both are the least of each zone's step of the way, through all aliases. With other replies they are 0.
  * `verifications` and `hashes` are those of all judgements of the walk, in this call, also of those before ZERMUITA_WANT, ZERMUITA_ASK
  * and ZERMUITA_TOO_MANY_SIGNATURES; with ZERMUITA_OUT_OF_MEMORY, ZERMUITA_MESSAGE_TOO_LONG and where octets cannot be read they are 0.
- * With a refusal up to 27 `ede` says why, as with zermuita_judge of that answer; with ZERMUITA_INSECURE it is that of zermuita_judge
- * beside the delegation's DS records: 0 where it is proved that there is none. `delegates` is 0.
+ * With a refusal up to 27 and with ZERMUITA_INCOMPLETE_DENIAL `ede` says why, as with zermuita_judge of that answer; with
+ * ZERMUITA_INSECURE it is that of zermuita_judge beside the delegation's DS records: 0 where it is proved that there is none.
+ * `delegates` is 0.
  */
 static inline enum zermuita_reply zermuita_resolve(const struct zermuita_evidence *handed, uint8_t *out, size_t out_len,
                                                    struct zermuita_report *report) {

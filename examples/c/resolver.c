@@ -1,7 +1,6 @@
 /*
- * A resolver's loop: reads names and numbers of types, and prints what zones say of them, for how many seconds that may be kept,
- * and an extended error. It asks the zones' own servers, from the root down by referrals, and goes from alias to alias. The arguments
- * are the address of a server of the root, and a file with the root's DS records, the data of each behind its length in two octets.
+ * A resolver's loop: prints what zones say of names and types, for how many seconds that may be kept, and an extended error. It goes
+ * from the root down, and from alias to alias. Arguments: a server of the root, and a file of the root's DS set as a case has it.
  * To build it: cc resolver.c $(pkg-config --cflags --libs zermuita) -lcrypto -lresolv
  */
 #include "server.h"
@@ -71,8 +70,9 @@ static const struct kept *answered(struct zone zone, struct zermuita_octets name
         bool has_cut = (it->reply == ZERMUITA_REFERRAL || it->reply == ZERMUITA_DELEGATED) && zermuita_next_name(&rest, &cut);
         const size_t first = rtype == DS_TYPE && cut.len == name.len ? 1 + (size_t)name.data[0] : 0;
         struct zermuita_octets at = {cut.data + first, cut.len - first};
-        /* A server may hide the zone below or answer from it: then DS sets tell. Aliases of shorter names lead elsewhere. */
-        while ((ds->reply == ZERMUITA_DELEGATED || ds->reply == ZERMUITA_NOT_PROVEN) && at.len > zone.apex.len && judged < most) {
+        /* A server may hide the zone below, answer from it or deny too little: DS tells. Aliases of shorter names lead elsewhere. */
+        while (at.len > zone.apex.len && judged < most && (ds->reply == ZERMUITA_DELEGATED || ds->reply == ZERMUITA_NOT_PROVEN
+                                                           || ds->reply == ZERMUITA_INCOMPLETE_DENIAL)) {
             ds = said(&zone, cut = at, DS_TYPE);
             rest = (struct zermuita_octets){ds->octets, ds->report.len};
             at = (struct zermuita_octets){at.data + 1 + at.data[0], at.len - 1 - at.data[0]};

@@ -46,9 +46,10 @@ static int usage(void) {
           "Prints a line: records, wildcard, NODATA, wildcard NODATA, NXDOMAIN, delegated, opt-out, insecure, alias, wildcard alias,\n"
           "DNAME or referral, with records or names; or bogus or refused, with the reason. An answer is bogus that is not proven, if\n"
           "another server of the zone and a zone below have no better one, and opt-out doesn't leave its alias open, none of which is\n"
-          "looked for. One that is refused is not bogus: it cannot be read, two keys have one tag, the iterations of NSEC3 are over the\n"
-          "limit, or it takes more work than is done. The status is 0 where the answer proves what the line says, 1 where it is bogus\n"
-          "or refused, and 2 where there is no answer, the question is not judged or the call cannot be read.\n",
+          "looked for. One that is refused is not bogus: it cannot be read, a record of its denial is missing, two keys have one tag, the\n"
+          "iterations of NSEC3 are over the limit, or it takes more work than is done. The status is 0 where the answer proves what the\n"
+          "line says, 1 where it is bogus or refused, and 2 where there is no answer, the question is not judged or the call cannot be\n"
+          "read.\n",
           stderr);
     return FAILED;
 }

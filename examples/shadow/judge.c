@@ -198,6 +198,8 @@ static enum finding finding_of(uint32_t reply) {
         return FOUND_ITERATIONS;
     case ZERMUITA_OUT_OF_MEMORY:
         return FOUND_NOTHING;
+    case ZERMUITA_INCOMPLETE_DENIAL:
+        return FOUND_BOGUS; /* nothing is proved, which the corpus calls bogus: AD is wrong then, and SERVFAIL is right */
     default:
         return is_bogus(reply) ? FOUND_BOGUS : zermuita_is_refusal(reply) ? FOUND_REFUSED : FOUND_NOTHING;
     }

@@ -22,7 +22,7 @@ enum finding {
     FOUND_OPTOUT,
     FOUND_ALIAS,    /* the name leads to another, which is to be asked for */
     FOUND_DEAD_END, /* the name that it leads to would be too long (RFC 6672, 2.2) */
-    FOUND_BOGUS,
+    FOUND_BOGUS,      /* nothing is proved, also where a denial lacks a record */
     FOUND_BOGUS_KEYS, /* no key of the zone is trusted */
     FOUND_LEFT_OUT,   /* the library does not judge the question */
     FOUND_ITERATIONS, /* more iterations than are allowed, which is a matter of policy (RFC 9276, 3.2) */

@@ -57,7 +57,7 @@ error_by none late verified =
     if none then e.NsecMissing
     else elim late [
       | Some error ↦ error
-      | None ↦ if verified then e.NsecMissing else e.DnssecBogus
+      | None ↦ if verified then e.IncompleteDenial else e.DnssecBogus
     ]
 
 module _ (w : Trusting) (m : List ℕ) (rs : List Spelled) (is : RrsetTest) (gs : List Group) (those : AreThose m rs is gs) where

@@ -4,10 +4,10 @@ use Rattle.std.specs.Prelude.{Option, Some, None, Result, Ok, Err}
 use Rattle.messages.specs.Message.{Message, Spelled, message}
 use Rattle.messages.specs.declared.error.MessageError.{MessageError}
 use Rattle.answer_scheme.specs.Answers.{Answers}
-use Rattle.answer_judge_keys.specs.Judging.{JudgeInput, signatures_in}
+use Rattle.answer_judge.specs.Judging.{JudgeInput, signatures_in}
 use Rattle.answer_judge_keys.specs.Trusted.{is_signature}
-use Rattle.answer_judge_keys.specs.declared.verdict.Refusal.{Refusal}
-use Rattle.answer_judge_keys.specs.declared.verdict.Refusal.TheVariants as r
+use Rattle.answer_judge.specs.declared.verdict.Refusal.{Refusal}
+use Rattle.answer_judge.specs.declared.verdict.Refusal.TheVariants as r
 use Rattle.answer_extended_errors.specs.Extended.{extended_error_of, plain_error, records_in, unproven, unproven_beside, untrusted, untrusted_keys}
 use Rattle.answer_extended_errors.specs.declared.error.ExtendedError.{ExtendedError}
 use Rattle.answer_extended_errors.specs.declared.error.ExtendedError.TheVariants as e

@@ -13,4 +13,5 @@ code_of e.SignatureNotYetValid = 8
 code_of e.DnskeyMissing = 9
 code_of e.RrsigsMissing = 10
 code_of e.NsecMissing = 12
+code_of e.IncompleteDenial = 12
 code_of e.UnsupportedNsec3Iterations = 27

@@ -7,11 +7,12 @@ use Rattle.definitions.specs.Serial.{serial_le}
 use Rattle.definitions.specs.Signing.{Fields, in_time}
 use Rattle.messages.specs.Message.{Asked, Spelled, if_true, message, rrsig_at}
 use Rattle.answer_scheme.specs.Answers.{Answers}
-use Rattle.answer_judge_keys.specs.Judging.{JudgeInput, keys_in}
+use Rattle.answer_judge.specs.Judging.{JudgeInput}
+use Rattle.answer_judge_keys.specs.DnskeyAnswer.{keys_in}
 use Rattle.answer_judge_keys.specs.Trusted.{is_signature, is_trusted, is_usable}
-use Rattle.answer_judge_keys.specs.declared.verdict.Refusal.{Refusal}
-use Rattle.answer_judge_keys.specs.declared.verdict.Refusal.TheVariants as r
-use Rattle.answer_judge_facts.specs.Judged.{trusting}
+use Rattle.answer_judge.specs.declared.verdict.Refusal.{Refusal}
+use Rattle.answer_judge.specs.declared.verdict.Refusal.TheVariants as r
+use Rattle.answer_judge.specs.Judged.{trusting}
 use Rattle.answer_judge_facts.specs.Sought.{is_alone, keys_sought}
 use Rattle.answer_judge_facts.specs.Verified.{Trusting, is_hash_alone, is_verified, rrset_in}
 use Rattle.answer_extended_errors.specs.declared.error.ExtendedError.{ExtendedError}
@@ -93,14 +94,14 @@ abbrev pub is_of_verified : Trusting → ℕ → List ℕ → List Spelled → R
 is_of_verified w k m rs is r = is_of_rrset is r && is_verified w k m rs r.owner r.rtype (rrset_in k m rs r.owner r.rtype)
 
 -- The requested data are missing, and so are NSEC and NSEC3 records; or the apex signed none of the RRsets, or no signature of
--- them is presently valid. If one is verified and there is no verdict, the record is missing that shows that a name or a wildcard
--- does not exist. Else signatures fail, or are of other keys.
+-- them is presently valid. If one is verified and there is no verdict, the denial is incomplete: a record is missing that the proof
+-- needs beside it. Else signatures fail, or are of other keys.
 abbrev pub resting_on : Trusting → ℕ → List ℕ → List Spelled → RrsetTest → ExtendedError
 resting_on w k m rs is =
     if not (list_any (is_of_rrset is) rs) then e.NsecMissing
     else elim (untimely w.now (signatures_of k m w.apex is rs)) [
       | Some error ↦ error
-      | None ↦ if list_any (is_of_verified w k m rs is) rs then e.NsecMissing else e.DnssecBogus
+      | None ↦ if list_any (is_of_verified w k m rs is) rs then e.IncompleteDenial else e.DnssecBogus
     ]
 
 abbrev pub unproven_under : Trusting → ℕ → List ℕ → List Spelled → Asked → ExtendedError

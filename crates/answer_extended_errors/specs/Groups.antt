@@ -24,5 +24,5 @@ groups_error w m gs rs =
     if length gs == 0 then e.NsecMissing
     else elim (untimely w.now (signatures_of pointer_limit m w.apex (is_among gs) rs)) [
       | Some error ↦ error
-      | None ↦ if list_any (is_marked w m rs) gs then e.NsecMissing else e.DnssecBogus
+      | None ↦ if list_any (is_marked w m rs) gs then e.IncompleteDenial else e.DnssecBogus
     ]

@@ -5,7 +5,6 @@ ghost use Rattle.definitions.specs.Limits.{pointer_limit};
 ghost use Rattle.messages.specs.Questions.{asked_of};
 ghost use Rattle.messages.specs.Record.{spelled};
 ghost use Rattle.answer_scheme.specs.Answers.{EachAgreeing, SignatureTest};
-ghost use Rattle.answer_judge_keys.specs.KeyOrder.{Ranks};
 ghost use Rattle.answer_judge_keys.specs.Trusted.{is_signature};
 ghost use Rattle.answer_judge_facts.specs.Marked.{held_by};
 ghost use Rattle.answer_judge_facts.specs.Ranked.{AreRanked};
@@ -32,7 +31,6 @@ pub(crate) fn unproven_under<C: Checks>(
     trust: &Trust,
     check_run: &mut CheckRun<C>,
 ) -> Result<ExtendedError, AllocError>
-    requires index { Ranks trust.now.keys.now trust.now.ranked.now }
     requires room { check_run.old.count + length records.now < 2 ^ 32 }
     ensures exact { EachAgreeing (C.answers check_run.old.checks.now)
         (C.agrees check_run.new.checks.now) (λ a. let w = held_by a trust.now in
@@ -70,7 +68,6 @@ fn error_of_groups<C: Checks>(
     groups: &mut [Group],
     check_run: &mut CheckRun<C>,
 ) -> Result<ExtendedError, AllocError>
-    requires index { Ranks trust.now.keys.now trust.now.ranked.now }
     requires room { check_run.old.count + length records.now < 2 ^ 32 }
     requires ranked { AreRanked groups.old }
     ensures exact { EachAgreeing (C.answers check_run.old.checks.now)
@@ -96,7 +93,7 @@ fn error_of_groups<C: Checks>(
     }
     verify_groups(message, records, trust, groups, check_run)?;
     if is_one_verified(groups) {
-        return Ok(ExtendedError::NsecMissing);
+        return Ok(ExtendedError::IncompleteDenial);
     }
     Ok(ExtendedError::DnssecBogus)
 }

@@ -8,27 +8,30 @@ use std::fmt;
 #[derive(Clone, Copy, Debug, PartialEq, Eq)]
 pub enum ExtendedError {
     /// None of the others.
-    Other = 0,
+    Other,
     /// The zone's DS records name keys of algorithms alone that are not checked. A judge knows no
     /// list of algorithms, so [`extended_error`](crate::extended_error) never says it: it is for
     /// callers who leave out such DS records.
-    UnsupportedDnskeyAlgorithm = 1,
+    UnsupportedDnskeyAlgorithm,
     /// The DS records have digests alone of types that are not made.
-    UnsupportedDsDigestType = 2,
+    UnsupportedDsDigestType,
     /// There is no other reason than that nothing which ought to be verified is.
-    DnssecBogus = 6,
+    DnssecBogus,
     /// No signature holds now, and one has expired.
-    SignatureExpired = 7,
+    SignatureExpired,
     /// No signature holds now, and none has expired.
-    SignatureNotYetValid = 8,
+    SignatureNotYetValid,
     /// No key of the zone is named by a DS record.
-    DnskeyMissing = 9,
+    DnskeyMissing,
     /// There is no signature.
-    RrsigsMissing = 10,
+    RrsigsMissing,
     /// There is no record that shows that something does not exist.
-    NsecMissing = 12,
+    NsecMissing,
+    /// Records are verified, and a denial record that the proof needs beside them is missing. Its
+    /// code is that of [`NsecMissing`](ExtendedError::NsecMissing): RFC 8914 has one for both.
+    IncompleteDenial,
     /// NSEC3 records have more iterations than are allowed (RFC 9276, 3.2).
-    UnsupportedNsec3Iterations = 27,
+    UnsupportedNsec3Iterations,
 }
 
 impl ExtendedError {
@@ -36,7 +39,18 @@ impl ExtendedError {
     pub fn code(self) -> u16
         ensures { result ≡ code_of self }
     {
-        self as u16
+        match self {
+            ExtendedError::Other => 0,
+            ExtendedError::UnsupportedDnskeyAlgorithm => 1,
+            ExtendedError::UnsupportedDsDigestType => 2,
+            ExtendedError::DnssecBogus => 6,
+            ExtendedError::SignatureExpired => 7,
+            ExtendedError::SignatureNotYetValid => 8,
+            ExtendedError::DnskeyMissing => 9,
+            ExtendedError::RrsigsMissing => 10,
+            ExtendedError::NsecMissing | ExtendedError::IncompleteDenial => 12,
+            ExtendedError::UnsupportedNsec3Iterations => 27,
+        }
     }
 }
 
@@ -52,7 +66,7 @@ impl fmt::Display for ExtendedError {
             ExtendedError::SignatureNotYetValid => "Signature Not Yet Valid",
             ExtendedError::DnskeyMissing => "DNSKEY Missing",
             ExtendedError::RrsigsMissing => "RRSIGs Missing",
-            ExtendedError::NsecMissing => "NSEC Missing",
+            ExtendedError::NsecMissing | ExtendedError::IncompleteDenial => "NSEC Missing",
             ExtendedError::UnsupportedNsec3Iterations => "Unsupported NSEC3 Iterations Value",
         })
     }

@@ -4,7 +4,7 @@ ghost use Rattle.std.specs.Option.{option_map};
 ghost use Rattle.definitions.specs.Limits.{pointer_limit};
 ghost use Rattle.messages.specs.Record.{spelled};
 ghost use Rattle.answer_scheme.specs.Answers.{EachAgreeing, SignatureTest};
-ghost use Rattle.answer_judge_keys.specs.Judging.{signatures_in};
+ghost use Rattle.answer_judge.specs.Judging.{signatures_in};
 ghost use Rattle.answer_extended_errors.specs.Extended.{extended_error_of, plain_error, records_in, unproven, untrusted};
 
 use crate::answer::unproven_under;
@@ -12,7 +12,8 @@ use crate::delegation::untrusted_keys;
 use crate::error::ExtendedError;
 use answer_judge::{Case, Refusal};
 use answer_judge_keys::check_run::CheckRun;
-use answer_judge_keys::keys::{ranked_keys, read_keys, usable_keys};
+use answer_judge_keys::key_index::KeyIndex;
+use answer_judge_keys::keys::{read_keys, usable_keys};
 use answer_judge_keys::trust::Trust;
 use answer_scheme::checks::Checks;
 use messages::names::ZoneName;
@@ -88,12 +89,11 @@ fn unproven<C: Checks>(
         return Ok(ExtendedError::DnssecBogus);
     };
     let keys = usable_keys(read_keys(alloc, case.apex, case.dnskey, &key_records)?);
-    let by_tag = ranked_keys(alloc, &keys)?;
+    let index = KeyIndex::new(alloc, &keys)?;
     let trust = Trust {
         apex: case.apex,
         depth: case.apex.depth(),
-        keys: &keys,
-        ranked: &by_tag,
+        keys: &index,
         moment: case.moment.timestamp(),
     };
     unproven_under(case.answer, &records, case.question, &trust, check_run)

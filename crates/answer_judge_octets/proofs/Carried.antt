@@ -13,13 +13,14 @@ use Rattle.messages.specs.Message.{Asked, Message, Spelled, behind, fits, if_tru
 use Rattle.messages.specs.declared.error.MessageError.{MessageError}
 use Rattle.answer_scheme.specs.Answers.{Answers}
 use Rattle.answer_judge_facts.specs.Asked as asked
+use Rattle.answer_judge.specs.Tried as tried
 use Rattle.answer_judge_facts.specs.Counted.{is_tried}
-use Rattle.answer_judge_facts.specs.Judged.{ds_authenticates_keys, keys_of, trusting}
+use Rattle.answer_judge.specs.Judged.{ds_authenticates_keys, keys_of, trusting}
 use Rattle.answer_judge_facts.specs.Sought.{Sought, answer_sought, keys_sought}
 use Rattle.answer_judge_facts.specs.Verified.{Trusting}
-use Rattle.answer_judge_keys.specs.Judging.{JudgeInput, first_refusal}
+use Rattle.answer_judge.specs.Judging.{JudgeInput, first_refusal}
 use Rattle.answer_judge_keys.specs.Trusted.{is_trusted, is_usable}
-use Rattle.answer_judge_keys.specs.declared.verdict.Refusal.{Refusal}
+use Rattle.answer_judge.specs.declared.verdict.Refusal.{Refusal}
 use Rattle.answer_findings.specs.Asking.{AreAsked, IsTriedBy}
 use Rattle.answer_findings.specs.Table.{Checked, Tried, answers_with, may_pass_in}
 use Rattle.answer_findings.specs.Judgements.{AreAskedAside, aside, first_question}
@@ -116,28 +117,28 @@ module _ (a : Answers) (h : JudgeInput) (key : Dnskey) (octets signature : List 
   abbrev Stands : Type 0
   Stands = (stands_in h.dnskey_bytes signature || stands_in h.answer_bytes signature) ≡ true
 
-  by_keys : (keys : Message) → asked.is_tried_of_keys a pointer_limit h keys key octets signature ≡ true → stands_in h.dnskey_bytes signature ≡ true
+  by_keys : (keys : Message) → tried.is_tried_of_keys a pointer_limit h keys key octets signature ≡ true → stands_in h.dnskey_bytes signature ≡ true
   by_keys keys t =
       let ks = keys_of h keys in
       tried_among (trusting a h (filter (is_trusted a h.apex h.ds) ks)) pointer_limit h.dnskey_bytes (keys_sought h.apex ks) key octets signature [] keys.records t
 
-  by_answer : (keys answer : Message) → asked.is_tried_of_answer a pointer_limit h keys answer key octets signature ≡ true → stands_in h.answer_bytes signature ≡ true
+  by_answer : (keys answer : Message) → tried.is_tried_of_answer a pointer_limit h keys answer key octets signature ≡ true → stands_in h.answer_bytes signature ≡ true
   by_answer keys answer t =
       tried_among (trusting a h (filter is_usable (keys_of h keys))) pointer_limit h.answer_bytes
       (answer_sought pointer_limit h.answer_bytes h.apex answer.records h.asked.name h.asked.rtype) key octets signature [] answer.records t
 
-  in_messages : (keys answer : Message) → asked.is_tried_in_messages a pointer_limit h keys answer key octets signature ≡ true → Stands
-  in_messages keys answer t = go (asked.is_tried_of_keys a pointer_limit h keys key octets signature) refl t
+  in_messages : (keys answer : Message) → tried.is_tried_in_messages a pointer_limit h keys answer key octets signature ≡ true → Stands
+  in_messages keys answer t = go (tried.is_tried_of_keys a pointer_limit h keys key octets signature) refl t
     where
-      go : (b : Bool) → asked.is_tried_of_keys a pointer_limit h keys key octets signature ≡ b
-          → (b || (ds_authenticates_keys a pointer_limit h keys && asked.is_tried_of_answer a pointer_limit h keys answer key octets signature)) ≡ true → Stands
+      go : (b : Bool) → tried.is_tried_of_keys a pointer_limit h keys key octets signature ≡ b
+          → (b || (ds_authenticates_keys a pointer_limit h keys && tried.is_tried_of_answer a pointer_limit h keys answer key octets signature)) ≡ true → Stands
       go true e both = either_left (stands_in h.dnskey_bytes signature) (stands_in h.answer_bytes signature) (by_keys keys e)
       go false e both =
-          let later = and_parts (ds_authenticates_keys a pointer_limit h keys) (asked.is_tried_of_answer a pointer_limit h keys answer key octets signature) both in
+          let later = and_parts (ds_authenticates_keys a pointer_limit h keys) (tried.is_tried_of_answer a pointer_limit h keys answer key octets signature) both in
           either_right (stands_in h.dnskey_bytes signature) (stands_in h.answer_bytes signature) (by_answer keys answer later.1)
 
   abbrev of_answer : Message → Result Message MessageError → Bool
-  of_answer keys r = elim r [ Err e ↦ false | Ok answer ↦ asked.is_tried_in_messages a pointer_limit h keys answer key octets signature ]
+  of_answer keys r = elim r [ Err e ↦ false | Ok answer ↦ tried.is_tried_in_messages a pointer_limit h keys answer key octets signature ]
 
   abbrev of_both : Result Message MessageError → Bool
   of_both r = elim r [ Err e ↦ false | Ok keys ↦ of_answer keys (message pointer_limit h.answer_bytes) ]
@@ -150,10 +151,10 @@ module _ (a : Answers) (h : JudgeInput) (key : Dnskey) (octets signature : List 
   in_both (Err e) t = absurd (false≢true t)
   in_both (Ok keys) t = in_answer keys (message pointer_limit h.answer_bytes) t
 
-  pub tried_stands : asked.is_tried_signature a pointer_limit h key octets signature ≡ true → Stands
+  pub tried_stands : tried.is_tried_signature a pointer_limit h key octets signature ≡ true → Stands
   tried_stands t =
-      let beyond = unless_refused (first_refusal pointer_limit h) (if nat_eq (length h.ds) 0 then false else asked.is_tried_in_bytes a pointer_limit h key octets signature) t in
-      in_both (message pointer_limit h.dnskey_bytes) (unless_empty (nat_eq (length h.ds) 0) (asked.is_tried_in_bytes a pointer_limit h key octets signature) beyond)
+      let beyond = unless_refused (first_refusal pointer_limit h) (if nat_eq (length h.ds) 0 then false else tried.is_tried_in_bytes a pointer_limit h key octets signature) t in
+      in_both (message pointer_limit h.dnskey_bytes) (unless_empty (nat_eq (length h.ds) 0) (tried.is_tried_in_bytes a pointer_limit h key octets signature) beyond)
 
 -- ---- they count from then on
 

@@ -7,11 +7,11 @@ use Rattle.definitions.specs.Name.{Name, strictly_above}
 use Rattle.definitions.specs.Zone.{Verdict, Records, StarRecords, NoType, NoName, StarNoType, Delegated, Open, Unsigned}
 use Rattle.denial_laws.specs.Leading.{exchanged}
 use Rattle.messages.specs.Message.{Asked}
-use Rattle.answer_judge_keys.specs.Judging.{Answer, Says, Refuses, JudgeInput, answer_of}
-use Rattle.answer_judge_keys.specs.declared.verdict.Lasting.{Lasting}
-use Rattle.answer_judge_keys.specs.declared.verdict.Refusal.{Refusal}
-use Rattle.answer_judge_keys.specs.declared.verdict.Refusal.TheVariants as r
-use Rattle.answer_judge_facts.specs.Judged.{AnswersAs, judged}
+use Rattle.answer_judge.specs.Judging.{Answer, Says, Refuses, JudgeInput, answer_of}
+use Rattle.answer_judge_facts.specs.declared.lasting.Lasting.{Lasting}
+use Rattle.answer_judge.specs.declared.verdict.Refusal.{Refusal}
+use Rattle.answer_judge.specs.declared.verdict.Refusal.TheVariants as r
+use Rattle.answer_judge.specs.Judged.{AnswersAs, judged}
 use Rattle.answer_findings.specs.Found.{IsFound, IsFoundBy}
 use Rattle.answer_findings.specs.Judgements.{is_not_proven, question_of}
 use Rattle.answer_findings.specs.Seen.{Seen, SeesAlias, SeesDname, SeesOpen, SeesStarAlias, answer_found, first_found, found_by, found_or, lead_found, lead_said, named_lead, one_name, open_lead, own_lead, referral_found, referral_said, refusal_found, seen, star_lead}

@@ -13,7 +13,7 @@ use Rattle.std.proofs.lemmas.Grind.{flat_map-append}
 use Rattle.definitions.specs.Name.{Name}
 use Rattle.names_rdata.specs.Composing.{with_length}
 use Rattle.definitions.specs.Dnskey.{dnskey_data}
-use Rattle.answer_judge_keys.specs.Judging.{JudgeInput}
+use Rattle.answer_judge.specs.Judging.{JudgeInput}
 use Rattle.answer_judge_octets.specs.declared.octets.OctetCase.{OctetCase}
 use Rattle.answer_judge_octets.specs.EntryLaws.{once_checked, once_ds, some_checked, some_ds}
 use Rattle.answer_judge_octets.specs.Laws.{ListsGrow, OctetsSpellOneCase, answered_entry}

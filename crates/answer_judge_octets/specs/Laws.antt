@@ -11,7 +11,7 @@ use Rattle.messages_canonical.specs.InForm.{has_form, is_record_in_form}
 use Rattle.answer_shared.specs.Accepting.{zone_of}
 use Rattle.answer_shared.specs.Served.{Group, Served}
 use Rattle.answer_shared.specs.Told.{TellsAnswer, TellsKeys}
-use Rattle.answer_judge_keys.specs.Judging.{JudgeInput}
+use Rattle.answer_judge.specs.Judging.{JudgeInput}
 use Rattle.answer_judge_octets.specs.declared.octets.OctetCase.{OctetCase}
 use Rattle.answer_judge_octets.specs.Replying.{IsJudged, Spells, are_too_many, is_carried, most_of}
 use Rattle.answer_findings.specs.Found.{AreAskedFor}

@@ -9,7 +9,7 @@ use Rattle.definitions.specs.Sorting.{sort_by}
 use Rattle.definitions.specs.Zone.{Unsigned}
 use Rattle.answer_findings.specs.Judgements.{aside, asking}
 use Rattle.answer_findings.specs.Seen.{Seen, SeesVerdict, SeesDelegated, SeesNoDs, SeesAlias, SeesStarAlias, SeesOpen, SeesDname, SeesReferral}
-use Rattle.answer_judge_keys.specs.Judging.{JudgeInput}
+use Rattle.answer_judge.specs.Judging.{JudgeInput}
 use Rattle.answer_findings.specs.Table.{Checked, answers_with, passes_in}
 use Rattle.answer_verified_records.specs.Records.{SaysVerdict, verified_records}
 

@@ -1,5 +1,5 @@
 -- A case in octets that was read.
-use Rattle.answer_judge_keys.specs.Judging.{JudgeInput, handed_for}
+use Rattle.answer_judge.specs.Judging.{JudgeInput, handed_for}
 use Rattle.std.specs.Prelude.{◌≡◌, ◌*◌}
 use Rattle.std.specs.Cow.{cow_slice_items}
 use Rattle.messages.specs.Questions.{asked_of}

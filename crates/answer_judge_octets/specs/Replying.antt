@@ -10,10 +10,10 @@ use Rattle.messages_canonical.specs.InForm.{GrowsTooLong, IsInForm}
 use Rattle.names_rdata.specs.Composing.{with_length}
 use Rattle.messages.specs.Message.{Asked}
 use Rattle.messages.specs.NameOctets.{name_of_octets}
-use Rattle.answer_judge_keys.specs.declared.verdict.Lasting.{Lasting}
-use Rattle.answer_judge_keys.specs.declared.verdict.Refusal.{Refusal}
-use Rattle.answer_judge_keys.specs.declared.verdict.Refusal.TheVariants as r
-use Rattle.answer_judge_keys.specs.Judging.{JudgeInput}
+use Rattle.answer_judge_facts.specs.declared.lasting.Lasting.{Lasting}
+use Rattle.answer_judge.specs.declared.verdict.Refusal.{Refusal}
+use Rattle.answer_judge.specs.declared.verdict.Refusal.TheVariants as r
+use Rattle.answer_judge.specs.Judging.{JudgeInput}
 use Rattle.answer_findings.specs.declared.finding.Found.{Found}
 use Rattle.answer_findings.specs.declared.finding.Found.TheVariants as f
 use Rattle.answer_findings.specs.Found.{IsFound, IsFoundWithin}
@@ -22,6 +22,8 @@ use Rattle.answer_findings.specs.Seen.{Seen, SeesVerdict, SeesDelegated, SeesNoD
 use Rattle.answer_findings.specs.Truth.{FindsTruly}
 use Rattle.answer_extended_errors.specs.Codes.{code_of}
 use Rattle.answer_extended_errors.specs.Extended.{extended_error_of}
+use Rattle.answer_extended_errors.specs.declared.error.ExtendedError.{ExtendedError}
+use Rattle.answer_extended_errors.specs.declared.error.ExtendedError.TheVariants as x
 use Rattle.answer_judge_octets.specs.declared.reply.ReplyCode.{ReplyCode}
 use Rattle.answer_judge_octets.specs.declared.reply.ReplyCode.TheVariants as c
 use Rattle.answer_judge_octets.specs.declared.reply.Reply.{Reply}
@@ -164,6 +166,7 @@ number_of c.BadMessages = 40
 number_of c.TooManyCuts = 48
 number_of c.TooManyAliases = 49
 number_of c.TooManyMessages = 50
+number_of c.IncompleteDenial = 51
 
 abbrev pub code_of_verdict : Verdict → ReplyCode
 code_of_verdict (Records d) = c.Records
@@ -199,6 +202,11 @@ code_of_refusal r.HashFailed = c.HashFailed
 code_of_refusal r.NotProven = c.NotProven
 code_of_refusal r.MixedVersions = c.MixedVersions
 code_of_refusal r.Memory = c.OutOfMemory
+
+-- The code of a refusal with its extended error: where nothing is proven an incomplete denial has one of its own.
+abbrev pub code_refused : Refusal → ExtendedError → ReplyCode
+code_refused r.NotProven x.IncompleteDenial = c.IncompleteDenial
+code_refused refusal error = code_of_refusal refusal
 
 -- a code of a verdict
 abbrev pub is_verdict : ReplyCode → Bool
@@ -237,6 +245,7 @@ is_refusal c.Outside = true
 is_refusal c.TooManyCuts = true
 is_refusal c.TooManyAliases = true
 is_refusal c.TooManyMessages = true
+is_refusal c.IncompleteDenial = true
 is_refusal _ = false
 
 -- what is replied
@@ -332,21 +341,21 @@ found_reply second error s lasting = record {
 }
 
 -- Why a case is refused, as an extended error, of its own question: of signatures those pass that pass in the table (RFC 8914).
-abbrev pub own_error : JudgeInput → List Checked → Refusal → ℕ
-own_error h table refusal = code_of (extended_error_of (answers_with (passes_in table)) pointer_limit h refusal)
+abbrev pub own_error : JudgeInput → List Checked → Refusal → ExtendedError
+own_error h table refusal = extended_error_of (answers_with (passes_in table)) pointer_limit h refusal
 
 -- where nothing is proven, of the question that may prove more, if the answer suggests one
-abbrev pub unproven_error : JudgeInput → List Checked → Option Asked → ℕ
+abbrev pub unproven_error : JudgeInput → List Checked → Option Asked → ExtendedError
 unproven_error h table None = own_error h table r.NotProven
 unproven_error h table (Some asked) = own_error (aside h asked) table r.NotProven
 
-abbrev pub error_of : JudgeInput → List Checked → Refusal → ℕ
+abbrev pub error_of : JudgeInput → List Checked → Refusal → ExtendedError
 error_of h table r.NotProven = unproven_error h table (first_question pointer_limit h)
 error_of h table refusal = own_error h table refusal
 
 -- what is replied to a refusal with an error
-abbrev pub refusal_reply : Refusal → ℕ → Replied
-refusal_reply refusal error = record (only (code_of_refusal refusal)) { ede = error }
+abbrev pub refusal_reply : Refusal → ExtendedError → Replied
+refusal_reply refusal error = record (only (code_refused refusal error)) { ede = code_of error }
 
 -- ---- signatures that are asked for
 

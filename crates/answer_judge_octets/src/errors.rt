@@ -5,15 +5,15 @@ ghost use Rattle.answer_findings.specs.Judgements.{aside};
 ghost use Rattle.answer_judge_octets.specs.Replying.{error_of, own_error};
 
 use crate::table_alone::TableAlone;
-use answer_extended_errors::extended_error;
+use answer_extended_errors::{ExtendedError, extended_error};
 use answer_findings::{Case, CheckedSignature, Refusal, case_for, first_question};
 use messages::question::Question;
 use std::alloc::{AllocError, Global};
 use std::marker::Brand;
 use std::sync::ledger::{Blank, Ledger};
 
-/// The code of the extended error that says why a case is refused beside a table; 0 where no other
-/// says it than the first one, which says nothing.
+/// The extended error that says why a case is refused beside a table; the first one, which says
+/// nothing, where no other says it.
 ///
 /// Where nothing is proven it says why of the question that may prove more, if the answer suggests
 /// one: of an alias, or of DS at a cut.
@@ -25,7 +25,7 @@ pub fn error_of(
     case: &Case,
     table: &[CheckedSignature],
     refusal: Refusal,
-) -> Result<u16, AllocError>
+) -> Result<ExtendedError, AllocError>
     ensures { IfOk result (λ e. e ≡ error_of case.now table.now refusal) }
 {
     if refusal != Refusal::NotProven {
@@ -37,27 +37,27 @@ pub fn error_of(
     }
 }
 
-/// The code of the extended error that says why a case is refused, of another question.
+/// The extended error that says why a case is refused, of another question.
 fn error_aside(
     alloc: Global,
     case: &Case,
     question: &Question,
     table: &[CheckedSignature],
     refusal: Refusal,
-) -> Result<u16, AllocError>
+) -> Result<ExtendedError, AllocError>
     ensures { let h = aside case.now (asked_of question.now) in
         IfOk result (λ e. e ≡ own_error h table.now refusal) }
 {
     own_error(alloc, &case_for(case, question), table, refusal)
 }
 
-/// The code of the extended error that says why a case is refused, of its own question.
+/// The extended error that says why a case is refused, of its own question.
 fn own_error(
     alloc: Global,
     case: &Case,
     table: &[CheckedSignature],
     refusal: Refusal,
-) -> Result<u16, AllocError>
+) -> Result<ExtendedError, AllocError>
     ensures { IfOk result (λ e. e ≡ own_error case.now table.now refusal) }
 {
     let (first, second) = (Blank::new(1), Blank::new(1));
@@ -72,7 +72,7 @@ fn error_by<L: Ledger, M: Ledger>(
     refusal: Refusal,
     first: Blank,
     second: Blank,
-) -> Result<u16, AllocError>
+) -> Result<ExtendedError, AllocError>
     requires name { first.name ≡ L.name }
     requires parts { first.parts ≡ L.parts }
     requires some { 0 < L.parts }
@@ -82,6 +82,5 @@ fn error_by<L: Ledger, M: Ledger>(
     ensures { IfOk result (λ e. e ≡ own_error case.now table.now refusal) }
 {
     let mut checks = TableAlone::<L, M>::new(table, first, second);
-    let error = extended_error(alloc, case, refusal, &mut checks)?;
-    Ok(error.code())
+    extended_error(alloc, case, refusal, &mut checks)
 }

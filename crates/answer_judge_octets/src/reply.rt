@@ -12,13 +12,15 @@ ghost use Rattle.answer_findings.specs.Asking.{unchecked};
 ghost use Rattle.answer_judge_octets.specs.Written.{FitsChecked, IsLong, IsShort, checked_octets};
 ghost use Rattle.answer_judge_octets.specs.Written.{with_long_length};
 ghost use Rattle.answer_judge_octets.specs.Replying.{AsksOrStops, behind, code_of_refusal, code_of_verdict};
-ghost use Rattle.answer_judge_octets.specs.Replying.{code_found, counted, delegates_found};
+ghost use Rattle.answer_judge_octets.specs.Replying.{code_found, code_refused, counted};
+ghost use Rattle.answer_judge_octets.specs.Replying.{delegates_found};
 ghost use Rattle.answer_judge_octets.specs.Replying.{entries_of, error_beside, found_reply};
 ghost use Rattle.answer_judge_octets.specs.Replying.{is_refusal, is_verdict, number_of};
 ghost use Rattle.answer_judge_octets.specs.Replying.{octets_found, octets_of_dname};
 ghost use Rattle.answer_judge_octets.specs.Replying.{octets_of_verdict, only, refusal_reply};
 ghost use Rattle.answer_judge_octets.specs.Replying.{reply_seen, ttl_of, until_of};
 
+use answer_extended_errors::ExtendedError;
 use answer_findings::{Ask, DataList, Finding, Lasting, Lead, Refusal, Verdict};
 use answer_shared::dnskey::ZoneKey;
 use denial_data::Dnskey;
@@ -99,6 +101,8 @@ pub enum ReplyCode {
     TooManyAliases = 49,
     /// More messages are wanted than the evidence may have.
     TooManyMessages = 50,
+    /// Nothing is proven: records of the denial verify, and one that the proof needs is missing.
+    IncompleteDenial = 51,
 }
 
 impl ReplyCode {
@@ -155,6 +159,7 @@ impl ReplyCode {
             48 => Some(ReplyCode::TooManyCuts),
             49 => Some(ReplyCode::TooManyAliases),
             50 => Some(ReplyCode::TooManyMessages),
+            51 => Some(ReplyCode::IncompleteDenial),
             _ => None,
         }
     }
@@ -186,7 +191,7 @@ impl ReplyCode {
             ReplyCode::MessageTooLong | ReplyCode::TooManySignatures => true,
             ReplyCode::NothingTold | ReplyCode::Outside => true,
             ReplyCode::TooManyCuts | ReplyCode::TooManyAliases => true,
-            ReplyCode::TooManyMessages => true,
+            ReplyCode::TooManyMessages | ReplyCode::IncompleteDenial => true,
             _ => false,
         }
     }
@@ -270,11 +275,11 @@ pub(crate) fn reply_of_finding(
 }
 
 /// The reply to a refusal, with its extended error.
-pub(crate) fn reply_of_refusal(alloc: Global, refusal: Refusal, error: u16) -> Reply
+pub(crate) fn reply_of_refusal(alloc: Global, refusal: Refusal, error: ExtendedError) -> Reply
     ensures { reply_seen result ≡ refusal_reply refusal error }
 {
-    let mut reply = Reply::only(alloc, code_of_refusal(refusal));
-    reply.ede = error;
+    let mut reply = Reply::only(alloc, code_refused(refusal, error));
+    reply.ede = error.code();
     reply
 }
 
@@ -367,8 +372,19 @@ pub fn code_of_verdict(verdict: &Verdict) -> ReplyCode
     }
 }
 
-/// The code of a refusal.
-pub fn code_of_refusal(refusal: Refusal) -> ReplyCode
+/// The code of a refusal with its extended error: where nothing is proven an incomplete denial has
+/// one of its own.
+pub fn code_refused(refusal: Refusal, error: ExtendedError) -> ReplyCode
+    ensures { result ≡ code_refused refusal error }
+{
+    match (refusal, error) {
+        (Refusal::NotProven, ExtendedError::IncompleteDenial) => ReplyCode::IncompleteDenial,
+        _ => code_of_refusal(refusal),
+    }
+}
+
+/// The code of a refusal by itself.
+fn code_of_refusal(refusal: Refusal) -> ReplyCode
     ensures { result ≡ code_of_refusal refusal }
 {
     match refusal {

@@ -2,6 +2,7 @@
 
 ghost use Rattle.std.specs.Prelude.{◌≡◌, ◌<◌};
 
+use crate::primitives::Primitives;
 use answer_extended_errors::{ExtendedError, extended_error};
 use answer_findings::{Case, Refusal};
 use answer_scheme::counting::SchemeChecks;
@@ -27,18 +28,11 @@ impl fmt::Display for ErrorReason {
     }
 }
 
-/// The extended error that says why a judge refused a case; none where that tells a client nothing.
-pub(crate) fn error_of<S: Scheme, H: Nsec3Hasher>(
+/// What is said of an extended error; nothing where it tells a client nothing.
+pub(crate) fn error_reason(
     alloc: Global,
-    scheme: &S,
-    hasher: &H,
-    case: &Case,
-    refusal: Refusal,
+    error: ExtendedError,
 ) -> Result<Option<ErrorReason>, AllocError> {
-    let (first, second) = (Blank::new(1), Blank::new(1));
-    let error = error_by::<S, H, Brand, Brand>(
-        alloc, scheme, hasher, case, refusal, first, second,
-    )?;
     if error == ExtendedError::Other {
         return Ok(None);
     }
@@ -46,11 +40,21 @@ pub(crate) fn error_of<S: Scheme, H: Nsec3Hasher>(
     Ok(Some(ErrorReason { code, name }))
 }
 
+/// The extended error that says why a judge refused a case.
+pub(crate) fn error_of<S: Scheme, H: Nsec3Hasher>(
+    alloc: Global,
+    primitives: &Primitives<S, H>,
+    case: &Case,
+    refusal: Refusal,
+) -> Result<ExtendedError, AllocError> {
+    let (first, second) = (Blank::new(1), Blank::new(1));
+    error_by::<S, H, Brand, Brand>(alloc, primitives, case, refusal, first, second)
+}
+
 /// The extended error of a refusal. Calls are counted from 0 on.
 fn error_by<S: Scheme, H: Nsec3Hasher, L: Ledger, M: Ledger>(
     alloc: Global,
-    scheme: &S,
-    hasher: &H,
+    primitives: &Primitives<S, H>,
     case: &Case,
     refusal: Refusal,
     first: Blank,
@@ -63,6 +67,7 @@ fn error_by<S: Scheme, H: Nsec3Hasher, L: Ledger, M: Ledger>(
     requires second_parts { second.parts ≡ M.parts }
     requires second_some { 0 < M.parts }
 {
+    let (scheme, hasher) = (primitives.scheme, primitives.hasher);
     let mut checks = SchemeChecks::<S, H, L, M>::new(scheme, hasher, first, second);
     extended_error(alloc, case, refusal, &mut checks)
 }

@@ -1,11 +1,13 @@
 //! A judgement explained: what it comes to, and why.
 
-use crate::errors::error_of;
+use crate::errors::{error_of, error_reason};
 use crate::findings::{Said, said_in};
+use crate::primitives::Primitives;
 use crate::reasons::{Reasoned, Reasons, reasons_of};
 use crate::words::tell_outcome;
+use answer_extended_errors::ExtendedError;
 use answer_findings::{Case, Finding, Lasting, Refusal, case_for, first_question};
-use answer_judge_keys::verdict::{Judgement, Refused};
+use answer_judge::verdict::{Judgement, Refused};
 use answer_scheme::scheme::Scheme;
 use denial_nsec3_hash::hasher::Nsec3Hasher;
 use explain_messages::type_text::TypeText;
@@ -34,17 +36,21 @@ pub fn explanation_of<S: Scheme, H: Nsec3Hasher>(
     hasher: &H,
     case: &Case,
 ) -> Result<Explanation, AllocError> {
-    let own = reasons_of(alloc, scheme, hasher, case)?;
+    let primitives = Primitives { scheme, hasher };
+    let own = reasons_of(alloc, &primitives, case)?;
     let said = said_in(alloc, scheme, case)?;
-    let mut words = Vec::new(alloc);
-    tell_outcome(&mut words, &own.outcome, &said)?;
     let beside = question_beside(alloc, case, &own.outcome, &said)?;
-    let lasting = lasting_of(&own.outcome, &said);
     let refusal = refusal_of(&own.outcome, &said);
+    let error = error_beside(alloc, &primitives, case, &beside, refusal)?;
+    let mut words = Vec::new(alloc);
+    tell_outcome(&mut words, &own.outcome, &said, error)?;
+    let lasting = lasting_of(&own.outcome, &said);
+    let proves = refusal.is_none();
     let reasons = match &beside {
-        Some(question) => reasons_for(alloc, scheme, hasher, case, question, own.reasons, refusal)?,
-        None => with_error(alloc, scheme, hasher, case, own.reasons, refusal)?,
+        Some(question) => reasons_for(alloc, &primitives, case, question, own.reasons, proves)?,
+        None => own.reasons,
     };
+    let reasons = with_error(alloc, reasons, error)?;
     Ok(Explanation {
         words,
         reasons: with_times(reasons, case, lasting),
@@ -115,39 +121,53 @@ fn asking(
     Ok(Some(Question { name, rtype, class }))
 }
 
-/// Reasons of a refusal, if it is one, with its extended error.
-fn with_error<S: Scheme, H: Nsec3Hasher>(
+/// The extended error of a refusal, if it is one: of the question that the answer is judged for
+/// besides, if there is one.
+fn error_beside<S: Scheme, H: Nsec3Hasher>(
     alloc: Global,
-    scheme: &S,
-    hasher: &H,
+    primitives: &Primitives<S, H>,
     case: &Case,
-    reasons: Reasons,
+    beside: &Option<Question>,
     refusal: Option<Refusal>,
+) -> Result<Option<ExtendedError>, AllocError> {
+    let Some(refusal) = refusal else {
+        return Ok(None);
+    };
+    let error = match beside {
+        Some(question) => error_of(alloc, primitives, &case_for(case, question), refusal)?,
+        None => error_of(alloc, primitives, case, refusal)?,
+    };
+    Ok(Some(error))
+}
+
+/// Reasons with an extended error, where there is one.
+fn with_error(
+    alloc: Global,
+    reasons: Reasons,
+    error: Option<ExtendedError>,
 ) -> Result<Reasons, AllocError> {
     let mut reasons = reasons;
-    if let Some(refusal) = refusal {
-        reasons.extended_error = error_of(alloc, scheme, hasher, case, refusal)?;
+    if let Some(error) = error {
+        reasons.extended_error = error_reason(alloc, error)?;
     }
     Ok(reasons)
 }
 
 /// The reasons of a judgement that proves nothing, with those of the same messages' for another
-/// question, and the extended error of that one where it proves nothing either.
+/// question.
 fn reasons_for<S: Scheme, H: Nsec3Hasher>(
     alloc: Global,
-    scheme: &S,
-    hasher: &H,
+    primitives: &Primitives<S, H>,
     case: &Case,
     question: &Question,
     own: Reasons,
-    refusal: Option<Refusal>,
+    proves: bool,
 ) -> Result<Reasons, AllocError> {
     let case = case_for(case, question);
-    let Reasoned { reasons, .. } = reasons_of(alloc, scheme, hasher, &case)?;
+    let Reasoned { reasons, .. } = reasons_of(alloc, primitives, &case)?;
     let (name, rtype) = (question.name.fmt_with_dot(), TypeText(question.rtype));
     let heading = format!(in alloc; "the answer is judged for {name} {rtype} besides")?;
-    let joined = joined(own, reasons, heading, refusal.is_none())?;
-    with_error(alloc, scheme, hasher, &case, joined, refusal)
+    joined(own, reasons, heading, proves)
 }
 
 /// Reasons of two judgements of the same messages: sentences of both, or of the second alone where

@@ -9,6 +9,7 @@ pub mod errors;
 pub mod explanation;
 mod facts;
 mod findings;
+mod primitives;
 pub mod reasons;
 mod refusals;
 mod tell;

@@ -6,11 +6,12 @@ use crate::by_hashes::hash_reasons;
 pub use crate::by_hashes::{HashReason, HashState};
 use crate::errors::ErrorReason;
 use crate::facts::{Facts, read_facts};
+use crate::primitives::Primitives;
 use crate::refusals::{tell_keys, tell_messages, tell_records};
 use crate::{by_hashes, by_names};
 use answer_findings::Case;
+use answer_judge::verdict::{Judgement, Refusal, Refused, Verdict};
 use answer_judge_keys::keys::{TaggedKey, read_keys};
-use answer_judge_keys::verdict::{Judgement, Refusal, Refused, Verdict};
 use answer_scheme::counting::SchemeChecks;
 use answer_scheme::scheme::Scheme;
 use denial_nsec3_hash::hasher::Nsec3Hasher;
@@ -130,18 +131,16 @@ pub(crate) struct Reasoned {
 /// Judges a case, and says why it came out so. Its only error is out of memory.
 pub(crate) fn reasons_of<S: Scheme, H: Nsec3Hasher>(
     alloc: Global,
-    scheme: &S,
-    hasher: &H,
+    primitives: &Primitives<S, H>,
     case: &Case,
 ) -> Result<Reasoned, AllocError> {
-    recorded::<S, H, Brand, Brand>(alloc, scheme, hasher, Blank::new(1), Blank::new(1), case)
+    recorded::<S, H, Brand, Brand>(alloc, primitives, Blank::new(1), Blank::new(1), case)
 }
 
 /// A judgement whose calls are kept.
 fn recorded<S: Scheme, H: Nsec3Hasher, L: Ledger, M: Ledger>(
     alloc: Global,
-    scheme: &S,
-    hasher: &H,
+    primitives: &Primitives<S, H>,
     first: Blank,
     second: Blank,
     case: &Case,
@@ -153,6 +152,7 @@ fn recorded<S: Scheme, H: Nsec3Hasher, L: Ledger, M: Ledger>(
     requires second_parts { second.parts ≡ M.parts }
     requires second_some { 0 < M.parts }
 {
+    let (scheme, hasher) = (primitives.scheme, primitives.hasher);
     let checks = SchemeChecks::<S, H, L, M>::new(scheme, hasher, first, second);
     let mut recording = Recording::new(alloc, checks);
     let outcome = case.judge(alloc, &mut recording);
@@ -190,28 +190,17 @@ fn explained<S: Scheme>(
     if tell_messages(&mut reasons.because, case, outcome)? {
         return Ok(reasons);
     }
-    let (mut key_records, mut records) = (Vec::new(alloc), Vec::new(alloc));
-    let _keys = read_message_into(case.dnskey, &mut key_records);
-    let _answer = read_message_into(case.answer, &mut records);
-    let keys = read_keys(alloc, case.apex, case.dnskey, &key_records)?;
-    reasons.ds = ds_reasons(alloc, scheme, case.apex, case.ds, &keys)?;
-    reasons.keys = key_reasons(alloc, &keys, &reasons.ds)?;
-    let seen = seen_in(
-        alloc,
-        case,
-        &key_records,
-        &records,
-        &keys,
-        &reasons.keys,
-        &calls.tried,
-    )?;
+    let read = read_case(alloc, case)?;
+    reasons.ds = ds_reasons(alloc, scheme, case.apex, case.ds, &read.keys)?;
+    reasons.keys = key_reasons(alloc, &read.keys, &reasons.ds)?;
+    let seen = seen_in(alloc, case, &read, &reasons.keys, &calls.tried)?;
     reasons.agrees = tried_count(&seen) == calls.tried.len();
     reasons.signatures = signature_reasons(alloc, &seen)?;
-    if tell_keys(&mut reasons.because, &keys, outcome)? {
+    if tell_keys(&mut reasons.because, &read.keys, outcome)? {
         return Ok(reasons);
     }
     let asked = asked_in(case);
-    let facts = read_facts(alloc, case.answer, &records, &asked, &seen)?;
+    let facts = read_facts(alloc, case.answer, &read.records, &asked, &seen)?;
     reasons.hashes = hash_reasons(alloc, &facts.hash_links, &calls.hashed)?;
     if tell_records(&mut reasons.because, case, &facts, &seen, outcome)? {
         return Ok(reasons);
@@ -219,6 +208,30 @@ fn explained<S: Scheme>(
     let told = told_of(alloc, &mut reasons.because, &asked, &facts, &calls.hashed)?;
     reasons.agrees = reasons.agrees && told == told_by(outcome);
     Ok(reasons)
+}
+
+/// What is read in both messages of a case.
+#[derive(Drop)]
+struct ReadCase<'m> {
+    /// The records of the DNSKEY answer.
+    key_records: Vec<ViewRecord<'m>>,
+    /// The keys among them.
+    keys: Vec<TaggedKey<'m>>,
+    /// The records of the answer.
+    records: Vec<ViewRecord<'m>>,
+}
+
+/// Reads both messages of a case.
+fn read_case<'m>(alloc: Global, case: &Case<'m>) -> Result<ReadCase<'m>, AllocError> {
+    let (mut key_records, mut records) = (Vec::new(alloc), Vec::new(alloc));
+    let _keys = read_message_into(case.dnskey, &mut key_records);
+    let _answer = read_message_into(case.answer, &mut records);
+    let keys = read_keys(alloc, case.apex, case.dnskey, &key_records)?;
+    Ok(ReadCase {
+        key_records,
+        keys,
+        records,
+    })
 }
 
 /// What a case asks.
@@ -232,26 +245,24 @@ fn asked_in<'a>(case: &Case<'a>) -> Asked<'a> {
 }
 
 /// The signatures of both messages.
-fn seen_in<'s, 'm>(
+fn seen_in<'m>(
     alloc: Global,
     case: &Case<'m>,
-    key_records: &'s [ViewRecord<'m>],
-    records: &'s [ViewRecord<'m>],
-    keys: &'s [TaggedKey<'m>],
-    named: &'s [KeyReason],
-    tried: &'s [Tried],
+    read: &ReadCase<'m>,
+    named: &[KeyReason],
+    tried: &[Tried],
 ) -> Result<Vec<Seen>, AllocError> {
     let mut seen = Vec::new(alloc);
     for (source, message, records) in [
-        (Source::Dnskey, case.dnskey, key_records),
-        (Source::Answer, case.answer, records),
+        (Source::Dnskey, case.dnskey, &read.key_records),
+        (Source::Answer, case.answer, &read.records),
     ] {
         let scope = Scope {
             source,
             message,
             records,
             asked: asked_in(case),
-            keys,
+            keys: &read.keys,
             named,
             moment: case.moment.timestamp(),
             tried,

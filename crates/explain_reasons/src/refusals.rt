@@ -4,8 +4,8 @@
 use crate::facts::Facts;
 use crate::tell::tell;
 use answer_findings::Case;
+use answer_judge::verdict::{Judgement, Refusal, Refused, Verdict};
 use answer_judge_keys::keys::TaggedKey;
-use answer_judge_keys::verdict::{Judgement, Refusal, Refused, Verdict};
 use explain_messages::date::Date;
 use explain_messages::type_text::TypeText;
 use explain_signatures::signatures::{Seen, SignatureState, Source};

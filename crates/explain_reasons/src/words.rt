@@ -2,17 +2,19 @@
 
 use crate::findings::Said;
 use crate::tell::tell;
+use answer_extended_errors::ExtendedError;
 use answer_findings::{Finding, Lead, Refusal, Verdict};
-use answer_judge_keys::verdict::{Judgement, Refused};
+use answer_judge::verdict::{Judgement, Refused};
 use messages::names::{Name, ToName};
 use std::alloc::AllocError;
 
 /// Says what a judgement comes to: the judge's verdict and what is found beside it, where the
-/// answer leads for want of a verdict, or why there is none.
+/// answer leads for want of a verdict, or why there is none, which has an extended error.
 pub(crate) fn tell_outcome(
     words: &mut Vec<String>,
     outcome: &Result<Judgement, Refused>,
     said: &Option<Said>,
+    error: Option<ExtendedError>,
 ) -> Result<(), AllocError> {
     match (outcome, said) {
         (Ok(judgement), None) => tell(words, verdict_words(&judgement.verdict)),
@@ -20,7 +22,7 @@ pub(crate) fn tell_outcome(
             tell(words, verdict_words(&judgement.verdict))?;
             tell_beside(words, &said.finding)
         }
-        (Err(refused), None) => tell_refusal(words, refused.refusal),
+        (Err(refused), None) => tell_refusal(words, refused.refusal, error),
         (Err(_), Some(said)) => tell_lead(words, &said.finding),
     }
 }
@@ -126,9 +128,17 @@ fn tell_dname(
     }
 }
 
-/// Says why there is no verdict, and whether that is bogus.
-fn tell_refusal(words: &mut Vec<String>, refusal: Refusal) -> Result<(), AllocError> {
+/// Says why there is no verdict, and whether that is bogus: an incomplete denial is not.
+fn tell_refusal(
+    words: &mut Vec<String>,
+    refusal: Refusal,
+    error: Option<ExtendedError>,
+) -> Result<(), AllocError> {
     match refusal {
+        Refusal::NotProven if error == Some(ExtendedError::IncompleteDenial) => tell(
+            words,
+            "incomplete denial: records verify, but a denial record that the proof needs is missing",
+        ),
         Refusal::NotProven => tell(
             words,
             format_args!(

@@ -2,7 +2,7 @@
 use Rattle.std.proofs.Common.{◌≡◌, ℕ, ◌+◌, ◌*◌, ◌≤◌, Some, sym, ap, subst, ◌∙◌, arith}
 use Rattle.std.specs.Prelude.{min}
 use Rattle.messages.specs.Message.{Asked}
-use Rattle.answer_judge_keys.specs.declared.verdict.Lasting.{Lasting}
+use Rattle.answer_judge_facts.specs.declared.lasting.Lasting.{Lasting}
 use Rattle.answer_judge_octets.specs.Replying.{Replied, until_of}
 use Rattle.resolution_tree.specs.Tree.{Said}
 use Rattle.resolution_evidence.specs.Given.{Given}

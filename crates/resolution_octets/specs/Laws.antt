@@ -1,7 +1,7 @@
 -- What octets of evidence spell is one thing; what is replied to them stays proved.
 use Rattle.std.specs.Prelude.{◌≡◌, ℕ, ◌*◌, ◌≤◌, Some}
 use Rattle.messages.specs.Message.{Asked}
-use Rattle.answer_judge_keys.specs.declared.verdict.Lasting.{Lasting}
+use Rattle.answer_judge_facts.specs.declared.lasting.Lasting.{Lasting}
 use Rattle.answer_judge_octets.specs.Replying.{Replied}
 use Rattle.resolution_tree.specs.Tree.{Said}
 use Rattle.resolution_evidence.specs.Given.{Given}

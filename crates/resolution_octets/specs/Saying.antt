@@ -5,11 +5,14 @@ use Rattle.std.specs.List.{flat_map}
 use Rattle.definitions.specs.Dnskey.{Ds}
 use Rattle.definitions.specs.Name.{Name, wire}
 use Rattle.messages.specs.Message.{Asked}
-use Rattle.answer_judge_keys.specs.Judging.{JudgeInput}
-use Rattle.answer_judge_keys.specs.declared.verdict.Refusal.{Refusal}
+use Rattle.answer_judge.specs.Judging.{JudgeInput}
+use Rattle.answer_judge.specs.declared.verdict.Refusal.{Refusal}
 use Rattle.answer_judge_rules.specs.Rules.{verdict_of}
 use Rattle.answer_shared.specs.declared.redirection.Lead.TheVariants as lead
-use Rattle.answer_judge_octets.specs.Replying.{IsAskReplied, Replied, code_of_refusal, code_of_verdict, counted, error_of, octets_of_verdict, only, ttl_of, until_of}
+use Rattle.answer_extended_errors.specs.Codes.{code_of}
+use Rattle.answer_extended_errors.specs.declared.error.ExtendedError.{ExtendedError}
+use Rattle.answer_extended_errors.specs.declared.error.ExtendedError.TheVariants as x
+use Rattle.answer_judge_octets.specs.Replying.{IsAskReplied, Replied, code_of_verdict, code_refused, counted, error_of, octets_of_verdict, only, ttl_of, until_of}
 use Rattle.answer_judge_octets.specs.declared.reply.ReplyCode.{ReplyCode}
 use Rattle.answer_judge_octets.specs.declared.reply.ReplyCode.TheVariants as c
 use Rattle.resolution_evidence.specs.Given.{Given, IsOf}
@@ -31,21 +34,21 @@ wanted_octets w = question_octets w.zone w.name w.rtype
 abbrev pub names_octets : List Name → List ℕ
 names_octets ns = to_be_bytes w32 (length ns) ++ flat_map wire ns
 
--- the code of an end
-abbrev pub code_of_end : Ending → ReplyCode
-code_of_end (ends.Secure zone v) = code_of_verdict (verdict_of v)
-code_of_end (ends.Leads (lead.To n)) = c.Alias
-code_of_end (ends.Leads lead.TooLong) = c.Dname
-code_of_end (ends.Unsigned cut datas) = c.Unsigned
-code_of_end (ends.LeftOpen zone) = c.Open
-code_of_end (ends.Untold zone ds name t (Some e)) = code_of_refusal e
-code_of_end (ends.Untold zone ds name t None) = c.NothingTold
-code_of_end (ends.Asks asks) = c.Ask
-code_of_end (ends.Wants ws) = c.Want
-code_of_end ends.TooManyCuts = c.TooManyCuts
-code_of_end ends.TooManyAliases = c.TooManyAliases
-code_of_end ends.TooManyMessages = c.TooManyMessages
-code_of_end ends.Outside = c.Outside
+-- the code of an end, of a refusal with its extended error
+abbrev pub code_of_end : Ending → ExtendedError → ReplyCode
+code_of_end (ends.Secure zone v) error = code_of_verdict (verdict_of v)
+code_of_end (ends.Leads (lead.To n)) error = c.Alias
+code_of_end (ends.Leads lead.TooLong) error = c.Dname
+code_of_end (ends.Unsigned cut datas) error = c.Unsigned
+code_of_end (ends.LeftOpen zone) error = c.Open
+code_of_end (ends.Untold zone ds name t (Some refusal)) error = code_refused refusal error
+code_of_end (ends.Untold zone ds name t None) error = c.NothingTold
+code_of_end (ends.Asks asks) error = c.Ask
+code_of_end (ends.Wants ws) error = c.Want
+code_of_end ends.TooManyCuts error = c.TooManyCuts
+code_of_end ends.TooManyAliases error = c.TooManyAliases
+code_of_end ends.TooManyMessages error = c.TooManyMessages
+code_of_end ends.Outside error = c.Outside
 
 -- The zone of a verdict and its data; the name that an alias leads to; the delegation below which nothing is signed, or the zone that
 -- leaves the name open; of an answer that tells nothing the zone and what it was asked.
@@ -77,35 +80,40 @@ are_too_many most checked more = nat_lt (most_of most) (checked + more)
 abbrev pub sought_of : Asked → Name → ℕ → Asked
 sought_of asked name t = record { name = name; rtype = t; class = asked.class }
 
--- Why a zone's answer to a question is refused, as a judgement of its messages says it (RFC 8914); 0 where these are not there.
-abbrev pub IsErrorOf : Given → Name → List Ds → Asked → Refusal → ℕ → Type 0
+-- Why a zone's answer to a question is refused, as a judgement of its messages says it (RFC 8914); where these are not there, the
+-- error that says nothing.
+abbrev pub IsErrorOf : Given → Name → List Ds → Asked → Refusal → ExtendedError → Type 0
 IsErrorOf e zone ds sought refusal error =
-    ((h : JudgeInput) × IsOf e zone ds sought h × (error ≡ error_of h e.table refusal)) ⊎ ((is_lacking e zone sought ≡ true) × (error ≡ 0))
+    ((h : JudgeInput) × IsOf e zone ds sought h × (error ≡ error_of h e.table refusal)) ⊎ ((is_lacking e zone sought ≡ true) × (error ≡ x.Other))
 
--- an end that is a refusal brings its error, one at a delegation that is not signed that of its DS records, and no other end one
-abbrev pub IsErrorOfEnd : Given → Asked → Ending → ℕ → Type 0
+-- an end that is a refusal has its error, and every other end the one that says nothing
+abbrev pub IsErrorOfEnd : Given → Asked → Ending → ExtendedError → Type 0
 IsErrorOfEnd e asked (ends.Untold zone ds name t (Some refusal)) error = IsErrorOf e zone ds.items (sought_of asked name t) refusal error
-IsErrorOfEnd e asked (ends.Unsigned cut datas) error = error ≡ error_of_cut datas
-IsErrorOfEnd e asked _ error = error ≡ 0
+IsErrorOfEnd e asked _ error = error ≡ x.Other
+
+-- the code of that error; at a delegation that is not signed that of its DS records
+abbrev pub ede_of_end : Ending → ExtendedError → ℕ
+ede_of_end (ends.Unsigned cut datas) error = error_of_cut datas
+ede_of_end ending error = code_of error
 
 -- ---- replies
 
 -- What is replied to an end with an error: what it says behind the names that aliases lead through, how long that lasts from a moment
 -- in seconds on, and how often was verified and hashed.
-abbrev pub end_reply : ℕ → Walk → ℕ → Replied
+abbrev pub end_reply : ℕ → Walk → ExtendedError → Replied
 end_reply second w error = record {
-  code = code_of_end w.ending;
+  code = code_of_end w.ending error;
   octets = names_octets w.through.items ++ octets_of_end w.ending;
   verifications = w.counts.verifications;
   hashes = w.counts.hashes;
   ttl = ttl_of w.lasting;
   until = until_of second w.lasting;
-  ede = error;
+  ede = ede_of_end w.ending error;
   delegates = 0;
 }
 
 pub record IsEndReplied (second : ℕ) (e : Given) (asked : Asked) (w : Walk) (said : Replied) : Type 0 where
-  pub error : ℕ
+  pub error : ExtendedError
   pub is_error : IsErrorOfEnd e asked w.ending error
   pub is : said ≡ end_reply second w error
 

@@ -8,7 +8,7 @@ ghost use Rattle.resolution_octets.specs.Spelling.{HasDs, IsAnchor, LacksDs, Unr
 ghost use Rattle.resolution_octets.specs.ReadEvidence.{ReadsAs, asked_in, given_of};
 
 use crate::handed::{IN, ReadMessage, are_crowded, handed, read_messages};
-use crate::said::reply_of_walk;
+use crate::said::{SignatureCounts, reply_of_walk};
 use answer_judge_octets::ds::judged_ds;
 use answer_judge_octets::list::read_list;
 use answer_judge_octets::octets::{REPORT_SIZE, hand_out, read_name};
@@ -185,15 +185,8 @@ fn resolved(
     let walk = resolve(alloc, &evidence, &read.question, limits_of(handed_in))?;
     let (second, most) = (handed_in.moment, handed_in.max_signatures);
     let checked = read.table.len();
-    reply_of_walk(
-        alloc,
-        second,
-        most,
-        checked,
-        &evidence,
-        &read.question,
-        &walk,
-    )
+    let counts = SignatureCounts { most, checked };
+    reply_of_walk(alloc, second, counts, &evidence, &read.question, &walk)
 }
 
 /// The limits of evidence.

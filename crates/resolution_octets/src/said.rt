@@ -5,17 +5,18 @@ ghost use Rattle.definitions.specs.Name.{wire};
 ghost use Rattle.messages.specs.Questions.{asked_of};
 ghost use Rattle.answer_judge_octets.specs.Replying.{IsAskReplied, counted, only, reply_seen};
 ghost use Rattle.resolution_octets.specs.Saying.{IsEndReplied, IsErrorOf, IsErrorOfEnd, IsSaid};
-ghost use Rattle.resolution_octets.specs.Saying.{are_too_many, code_of_end, most_of};
+ghost use Rattle.resolution_octets.specs.Saying.{are_too_many, code_of_end, ede_of_end, most_of};
 ghost use Rattle.resolution_octets.specs.Saying.{names_octets};
 ghost use Rattle.resolution_octets.specs.Saying.{octets_of_end, question_octets, sought_of};
 ghost use Rattle.resolution_octets.specs.Saying.{wanted_octets};
 
 use crate::cuts::error_of_cut;
+use answer_extended_errors::ExtendedError;
 use answer_findings::Lead;
 use answer_judge_octets::ReplyCode;
 use answer_judge_octets::errors::error_of;
 use answer_judge_octets::reply::{
-    Reply, code_of_refusal, code_of_verdict, octets_of_verdict, reply_of_asks, ttl_of, until_of,
+    Reply, code_of_verdict, code_refused, octets_of_verdict, reply_of_asks, ttl_of, until_of,
 };
 use denial_data::Ds;
 use messages::names::{Name, ZoneName, copy_name};
@@ -27,22 +28,40 @@ use std::alloc::{AllocError, Global};
 /// How many signatures may be checked where a caller says no number.
 const MOST_SIGNATURES: u32 = 256;
 
-/// The reply to what a walk over evidence says of a question, at a moment in seconds and beside a
-/// table of so many signatures.
+/// How many signatures a caller lets be checked, and how many the table has.
+#[derive(Clone, Copy)]
+pub(crate) struct SignatureCounts {
+    pub(crate) most: u32,
+    pub(crate) checked: usize,
+}
+
+/// An answer of a zone that is refused: the zone, the DS records that it is judged by, the name and
+/// the type that it was asked, and why.
+#[derive(Clone, Copy)]
+struct RefusedAnswer<'a> {
+    zone: &'a Name<Vec<u8>>,
+    ds: &'a [Ds<Vec<u8>>],
+    name: &'a Name<Vec<u8>>,
+    rtype: Rtype,
+    refusal: Refusal,
+}
+
+/// The reply to what a walk over evidence says of a question, at a moment in seconds and beside so
+/// many signatures.
 pub(crate) fn reply_of_walk(
     alloc: Global,
     second: u64,
-    most: u32,
-    checked: usize,
+    counts: SignatureCounts,
     evidence: &Evidence,
     question: &Question,
     walk: &Walk,
 ) -> Result<Reply, AllocError>
     ensures { let e = evidence.now in let asked = asked_of question.now in
-        IfOk result (λ r. IsSaid second most checked e asked walk.now (reply_seen r)) }
+        let said = IsSaid second counts.most counts.checked e asked walk.now in
+        IfOk result (λ r. said (reply_seen r)) }
 {
     match &walk.ending {
-        Ending::Asks(asks) => asked_for(alloc, most, checked, asks, walk.counts),
+        Ending::Asks(asks) => asked_for(alloc, counts.most, counts.checked, asks, walk.counts),
         Ending::Wants(wanted) => {
             let octets = octets_of_wanted(alloc, wanted)?;
             Ok(replied(alloc, ReplyCode::Want, octets, walk.counts))
@@ -63,27 +82,27 @@ fn end_replied(
         IfOk result (λ r. IsEndReplied second e asked walk.now (reply_seen r)) }
 {
     let octets = octets_of_walk(alloc, &walk.through, &walk.ending)?;
-    let ede = error_of_end(alloc, evidence, question, &walk.ending)?;
+    let error = error_of_end(alloc, evidence, question, &walk.ending)?;
     Ok(Reply {
-        code: code_of_end(&walk.ending),
+        code: code_of_end(&walk.ending, error),
         octets,
         verifications: walk.counts.verifications,
         hashes: walk.counts.hashes,
         ttl: ttl_of(walk.lasting),
         until: until_of(second, walk.lasting),
-        ede,
+        ede: ede_of_end(&walk.ending, error),
         delegates: 0,
     })
 }
 
-/// The extended error of an end that is a refusal, or a delegation whose DS records are of no known
-/// kind; 0 of another end.
+/// The extended error of an end that is a refusal; of another end the first one, which says
+/// nothing.
 fn error_of_end(
     alloc: Global,
     evidence: &Evidence,
     question: &Question,
     ending: &Ending,
-) -> Result<u16, AllocError>
+) -> Result<ExtendedError, AllocError>
     ensures { let e = evidence.now in let asked = asked_of question.now in
         IfOk result (IsErrorOfEnd e asked ending.now) }
 {
@@ -94,29 +113,51 @@ fn error_of_end(
             name,
             rtype,
             refusal: Some(refusal),
-        } => error_of_answer(alloc, evidence, question, zone, ds, name, *rtype, *refusal),
-        Ending::Unsigned { ds, .. } => Ok(error_of_cut(ds)),
-        _ => Ok(0),
+        } => {
+            let answer = RefusedAnswer {
+                zone,
+                ds,
+                name,
+                rtype: *rtype,
+                refusal: *refusal,
+            };
+            error_of_answer(alloc, evidence, question, answer)
+        }
+        _ => Ok(ExtendedError::Other),
     }
 }
 
-/// The extended error of a zone's answer to a question for a name and a type, of the class that was
-/// asked for.
+/// The code of an end's extended error; at a delegation whose DS records are of no known kind that
+/// of these.
+fn ede_of_end(ending: &Ending, error: ExtendedError) -> u16
+    ensures { result ≡ ede_of_end ending.now error }
+{
+    match ending {
+        Ending::Unsigned { ds, .. } => error_of_cut(ds),
+        _ => error.code(),
+    }
+}
+
+/// The extended error of a refused answer, judged for the class that was asked for.
 fn error_of_answer(
     alloc: Global,
     evidence: &Evidence,
     question: &Question,
-    zone: &Name<Vec<u8>>,
-    ds: &[Ds<Vec<u8>>],
-    name: &Name<Vec<u8>>,
-    rtype: Rtype,
-    refusal: Refusal,
-) -> Result<u16, AllocError>
-    ensures { let sought = sought_of (asked_of question.now) name.now rtype in
-        IfOk result (IsErrorOf evidence.now zone.now ds.now sought refusal) }
+    answer: RefusedAnswer,
+) -> Result<ExtendedError, AllocError>
+    ensures { let a = answer.entry in
+        let sought = sought_of (asked_of question.now) a.name.now a.rtype in
+        IfOk result (IsErrorOf evidence.now a.zone.now a.ds.now sought a.refusal) }
 {
-    let sought = sought_of(alloc, question, name, rtype)?;
-    refused(alloc, evidence, zone, ds, &sought, refusal)
+    let sought = sought_of(alloc, question, answer.name, answer.rtype)?;
+    refused(
+        alloc,
+        evidence,
+        answer.zone,
+        answer.ds,
+        &sought,
+        answer.refusal,
+    )
 }
 
 /// A question for a name and a type, of the class that was asked for.
@@ -144,13 +185,13 @@ fn refused(
     ds: &[Ds<Vec<u8>>],
     sought: &Question,
     refusal: Refusal,
-) -> Result<u16, AllocError>
+) -> Result<ExtendedError, AllocError>
     ensures { let asked = asked_of sought.now in
         IfOk result (IsErrorOf evidence.now zone.now ds.now asked refusal) }
 {
     match case_of(evidence, zone, ds, sought) {
         Some(case) => error_of(alloc, &case, evidence.table, refusal),
-        None => Ok(0),
+        None => Ok(ExtendedError::Other),
     }
 }
 
@@ -212,9 +253,10 @@ fn most_of(number: u32) -> usize
     most as usize
 }
 
-/// The code of an end that asks for nothing and wants nothing.
-fn code_of_end(ending: &Ending) -> ReplyCode
-    ensures { result ≡ code_of_end ending.now }
+/// The code of an end that asks for nothing and wants nothing, of a refusal with its extended
+/// error.
+fn code_of_end(ending: &Ending, error: ExtendedError) -> ReplyCode
+    ensures { result ≡ code_of_end ending.now error }
 {
     match ending {
         Ending::Secure { verdict, .. } => code_of_verdict(verdict),
@@ -225,7 +267,7 @@ fn code_of_end(ending: &Ending) -> ReplyCode
         Ending::Untold {
             refusal: Some(refusal),
             ..
-        } => code_of_refusal(*refusal),
+        } => code_refused(*refusal, error),
         Ending::Untold { refusal: None, .. } => ReplyCode::NothingTold,
         Ending::Asks(_) => ReplyCode::Ask,
         Ending::Wants(_) => ReplyCode::Want,

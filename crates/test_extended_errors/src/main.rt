@@ -9,7 +9,8 @@
 //!   `1054:2`; `keys OCTETS`: its DNSKEY answer.
 //! - `answer OCTETS`: holds an answer.
 //! - `error NAME TYPE MOMENT LIMIT`: judges the answer that is held, with a limit of iterations,
-//!   and says why it is refused, and how many signatures are verified to find that out.
+//!   and says why it is refused, with the code and its purpose; and behind the code that two have
+//!   whether the denial is incomplete.
 //! - `records NAME TYPE MOMENT LIMIT`: says which records of the answer that is held are verified,
 //!   by their numbers.
 //!

@@ -2,7 +2,7 @@
 ghost use Rattle.std.specs.Prelude.{◌≡◌, ◌<◌};
 
 use crate::scheme::Copying;
-use answer_extended_errors::extended_error;
+use answer_extended_errors::{ExtendedError, extended_error};
 use answer_judge::{Case, Refusal, judge_with};
 use answer_scheme::counting::SchemeChecks;
 use denial_nsec3_sha1::hasher::Sha1Hasher;
@@ -40,6 +40,14 @@ fn refused_as<L: Ledger, M: Ledger>(
     let (scheme, hasher) = (&Copying, &Sha1Hasher);
     let mut checks = SchemeChecks::<Copying, Sha1Hasher, L, M>::new(scheme, hasher, first, second);
     let error = extended_error(alloc, case, refusal, &mut checks).ok()?;
-    let code = error.code();
-    format!(in alloc; "{refusal}; {code} {error}").ok()
+    let (code, more) = (error.code(), incomplete_text(error));
+    format!(in alloc; "{refusal}; {code} {error}{more}").ok()
+}
+
+/// What is printed behind the purpose of a code that two extended errors have.
+fn incomplete_text(error: ExtendedError) -> &'static str {
+    match error {
+        ExtendedError::IncompleteDenial => ", incomplete denial",
+        _ => "",
+    }
 }

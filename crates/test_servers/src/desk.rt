@@ -77,7 +77,7 @@ impl Desk {
         let (zone, asked) = (self.zone.as_ref()?, self.asked.as_ref()?);
         let found = finding_of(alloc, &self.signatures, zone, asked, &self.answer)?;
         let flags = Flags::plain(alloc);
-        let case = self.case_with(zone, asked, &zone.ds, &self.answer, zone.moment, &flags);
+        let case = case_with(zone, asked, &zone.ds, &self.answer, zone.moment, &flags);
         let said = replied(alloc, &self.signatures, &case)?;
         if said == found {
             return format!(in alloc; "find: {found}").ok();
@@ -125,40 +125,8 @@ impl Desk {
         flags: &Flags,
     ) -> Option<Outcome> {
         let (zone, asked) = (self.zone.as_ref()?, self.asked.as_ref()?);
-        let case = self.case_with(zone, asked, ds, answer, moment, flags);
+        let case = case_with(zone, asked, ds, answer, moment, flags);
         outcome_of(alloc, &self.signatures, &case, &asked.verdict)
-    }
-
-    /// The case of an answer beside a DS set, at a moment, by flags.
-    fn case_with<'a>(
-        &self,
-        zone: &'a Zone,
-        asked: &'a Asked,
-        ds: &'a [u8],
-        answer: &'a [u8],
-        moment: u64,
-        flags: &'a Flags,
-    ) -> OctetCase<'a> {
-        OctetCase {
-            size: size_of::<OctetCase>(),
-            apex: &zone.apex,
-            ds,
-            dnskey: &zone.keys,
-            answer,
-            name: &asked.name,
-            checked: &[],
-            moment,
-            rtype: asked.rtype,
-            class: IN,
-            limit: zone.limit,
-            one_moment: u32::from(flags.one_moment),
-            as_received: u32::from(flags.as_received),
-            algorithms: &flags.algorithms,
-            max_signatures: flags.max_signatures,
-            other_question: u32::from(flags.other_question),
-            no_ds: u32::from(ds.is_empty()),
-            places: 0,
-        }
     }
 
     /// What is said of the answer that is held.
@@ -220,5 +188,36 @@ impl Desk {
     fn as_held_with(&self, alloc: Global, flags: &Flags) -> Option<Outcome> {
         let zone = self.zone.as_ref()?;
         self.outcome_with(alloc, &zone.ds, &self.answer, zone.moment, flags)
+    }
+}
+
+/// The case of an answer beside a DS set, at a moment, by flags.
+fn case_with<'a>(
+    zone: &'a Zone,
+    asked: &'a Asked,
+    ds: &'a [u8],
+    answer: &'a [u8],
+    moment: u64,
+    flags: &'a Flags,
+) -> OctetCase<'a> {
+    OctetCase {
+        size: size_of::<OctetCase>(),
+        apex: &zone.apex,
+        ds,
+        dnskey: &zone.keys,
+        answer,
+        name: &asked.name,
+        checked: &[],
+        moment,
+        rtype: asked.rtype,
+        class: IN,
+        limit: zone.limit,
+        one_moment: u32::from(flags.one_moment),
+        as_received: u32::from(flags.as_received),
+        algorithms: &flags.algorithms,
+        max_signatures: flags.max_signatures,
+        other_question: u32::from(flags.other_question),
+        no_ds: u32::from(ds.is_empty()),
+        places: 0,
     }
 }

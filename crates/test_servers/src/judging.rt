@@ -157,7 +157,7 @@ pub fn outcome_of(
 /// How often was verified and hashed, and the extended error, if any, where one judgement alone
 /// says it; else nothing.
 fn counts_text(alloc: Global, code: ReplyCode, report: &Report) -> Option<String> {
-    if is_beyond(code) || code == ReplyCode::NotProven || report.delegates != 0 {
+    if is_beyond(code) || is_unproven(code) || report.delegates != 0 {
         return Some(String::new(alloc));
     }
     let (verifications, hashes) = (report.verifications, report.hashes);
@@ -176,6 +176,11 @@ fn error_text(alloc: Global, ede: u16) -> Option<String> {
 /// Whether a reply rests on judgements for other questions too.
 fn is_beyond(code: ReplyCode) -> bool {
     code == ReplyCode::Delegated || code == ReplyCode::Referral || is_alias(code)
+}
+
+/// Whether a reply says that nothing is proven, which may rest on judgements for other questions.
+fn is_unproven(code: ReplyCode) -> bool {
+    code == ReplyCode::NotProven || code == ReplyCode::IncompleteDenial
 }
 
 fn is_alias(code: ReplyCode) -> bool {

@@ -84,10 +84,13 @@ fn secure_text(alloc: Global, code: ReplyCode, octets: &[u8]) -> Option<String> 
 fn untold_text(alloc: Global, code: ReplyCode, octets: &[u8]) -> Option<String> {
     let (wanted, _behind) = split_wanted(alloc, octets)?;
     let (zone, name, rtype) = (&wanted.zone, &wanted.name, wanted.rtype.to_int());
-    if code == ReplyCode::NothingTold {
-        return format!(in alloc; "nothing told {zone} {name} {rtype}").ok();
+    match code {
+        ReplyCode::NothingTold => format!(in alloc; "nothing told {zone} {name} {rtype}").ok(),
+        ReplyCode::IncompleteDenial => {
+            format!(in alloc; "incomplete denial {zone} {name} {rtype}").ok()
+        }
+        _ => format!(in alloc; "bogus {zone} {name} {rtype} {code:?}").ok(),
     }
-    format!(in alloc; "bogus {zone} {name} {rtype} {code:?}").ok()
 }
 
 fn wanted_text(alloc: Global, octets: &[u8]) -> Option<String> {

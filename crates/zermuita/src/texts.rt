@@ -85,5 +85,7 @@ fn text_of_code(code: ReplyCode) -> &'static [u8]
             b"ZERMUITA_TOO_MANY_ALIASES: more aliases are on the way to the name than are allowed\0",
         ReplyCode::TooManyMessages =>
             b"ZERMUITA_TOO_MANY_MESSAGES: more messages are wanted than the evidence may have\0",
+        ReplyCode::IncompleteDenial =>
+            b"ZERMUITA_INCOMPLETE_DENIAL: denial records verify, but one that the proof needs is missing\0",
     }
 }

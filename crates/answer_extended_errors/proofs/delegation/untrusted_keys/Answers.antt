@@ -3,7 +3,7 @@ use Rattle.std.specs.Prelude.{unwrap_or}
 use Rattle.std.specs.List.{list_any}
 use Rattle.definitions.specs.Limits.{pointer_limit}
 use Rattle.messages.specs.Record.{fields_of, spelled}
-use Rattle.answer_judge_keys.specs.Judging.{keys_in}
+use Rattle.answer_judge_keys.specs.DnskeyAnswer.{keys_in}
 use Rattle.answer_judge_keys.specs.Trusted.{is_trusted}
 use Rattle.answer_judge_facts.specs.Ranked.{AreRanked}
 use Rattle.answer_judge_facts.proofs.GroupPlaces.{one_ranked}

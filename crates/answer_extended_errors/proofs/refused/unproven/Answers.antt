@@ -1,10 +1,10 @@
-use Rattle.std.proofs.Common.{◌≡◌, filter, length, map, sym, ap, subst, ◌∙◌, arith}
+use Rattle.std.proofs.Common.{◌≡◌, filter, length, map, ap, subst, ◌∙◌, arith}
 use Rattle.std.specs.Prelude.{IfOk, IfSome, None, Some}
 use Rattle.definitions.specs.Limits.{pointer_limit}
 use Rattle.messages.specs.Record.{spelled}
 use Rattle.answer_scheme.specs.Answers.{with_test}
-use Rattle.answer_judge_keys.specs.Judging.{JudgeInput, keys_in, signatures_in}
-use Rattle.answer_judge_keys.specs.KeyOrder.{Ranks}
+use Rattle.answer_judge.specs.Judging.{JudgeInput, signatures_in}
+use Rattle.answer_judge_keys.specs.DnskeyAnswer.{keys_in}
 use Rattle.answer_judge_keys.specs.Trusted.{is_signature, is_usable}
 use Rattle.answer_judge_facts.specs.Verified.{Trusting}
 use Rattle.answer_extended_errors.specs.Extended.{records_in, unproven_under}
@@ -29,15 +29,10 @@ returns-in_default-2-clause-exact g c = λ test fits.
     let none : None ≡ records_in pointer_limit h.answer_bytes = rw c.in_default-2.is at c.in_ok-records.ensures.exact ∙ ap (λ (h : JudgeInput). records_in pointer_limit h.answer_bytes) is in
     no_answer a pointer_limit h keys first none
 
-pub unproven_under-requires-clause-index : goal.unproven_under-requires-clause-index
-unproven_under-requires-clause-index g c =
-    subst (λ ks. Ranks ks c.deref-4.result.now) (sym c.deref-3.ensures.value)
-    (subst (λ vs. Ranks c.usable_keys-keys.result.items vs) (sym c.deref-4.ensures.value) (subst (λ ks. Ranks ks c.in_ok-by_tag.by_tag.items) c.deref-2.ensures.value c.in_ok-by_tag.ensures))
-
-pub unproven_under-requires-clause-room : goal.unproven_under-requires-clause-room
-unproven_under-requires-clause-room g c =
+pub unproven_under-requires : goal.unproven_under-requires
+unproven_under-requires g c =
     let few = rw c.in-Some-2.is at c.in_ok-records.ensures.few in
-    omega (arith, c.requires, few, ap length c.deref-5.ensures.value)
+    record { room = omega (arith, c.requires, few, ap length c.deref-3.ensures.value) }
 
 pub returns-clause-exact : goal.returns-clause-exact
 returns-clause-exact g c = λ test fits.
@@ -50,8 +45,8 @@ returns-clause-exact g c = λ test fits.
     let first : Some keys ≡ records_in pointer_limit h.dnskey_bytes = rw c.in-Some.is at c.in_ok-key_records.ensures.exact ∙ ap (λ (h : JudgeInput). records_in pointer_limit h.dnskey_bytes) is in
     let second : Some rs ≡ records_in pointer_limit h.answer_bytes = rw c.in-Some-2.is at c.in_ok-records.ensures.exact ∙ ap (λ (h : JudgeInput). records_in pointer_limit h.answer_bytes) is in
     let spelled_keys : c.in_ok-read_keys.field-0.items ≡ keys_in h.dnskey_bytes h.apex keys = c.in_ok-read_keys.ensures ∙ (λ i. keys_in (is i).dnskey_bytes (is i).apex (map spelled (c.deref.ensures.value i))) in
-    let usable = c.deref-3.ensures.value ∙ c.usable_keys-keys.ensures ∙ ap (filter is_usable) spelled_keys in
-    let whole = ap (map spelled) c.deref-5.ensures.value in
+    let usable = c.in_ok-index.ensures ∙ c.deref-2.ensures.value ∙ c.usable_keys-keys.ensures ∙ ap (filter is_usable) spelled_keys in
+    let whole = ap (map spelled) c.deref-3.ensures.value in
     let path = (λ i. let w : Trusting = record { answers = a; apex = (is i).apex; keys = usable i; now = moment i } in unproven_under w pointer_limit (is i).answer_bytes (whole i) (is i).asked) ∙ both_read a pointer_limit h keys rs first second in
     subst (λ x. IfOk c.unproven_under.result (λ e. e ≡ x)) path (c.unproven_under.ensures.exact test fits)
 
@@ -66,6 +61,6 @@ returns-clause-bound g c =
       c.requires,
       c.unproven_under.ensures.counted,
       c.unproven_under.ensures.bound,
-      ap (λ vs. length (filter is_signature (map spelled vs))) c.deref-5.ensures.value,
+      ap (λ vs. length (filter is_signature (map spelled vs))) c.deref-3.ensures.value,
       signatures_read pointer_limit h.answer_bytes rs second,
     )

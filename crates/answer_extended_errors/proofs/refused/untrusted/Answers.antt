@@ -2,7 +2,7 @@ use Rattle.std.proofs.Common.{◌≡◌, map, ap, subst, ◌∙◌}
 use Rattle.std.specs.Prelude.{IfOk, None, Some}
 use Rattle.definitions.specs.Limits.{pointer_limit}
 use Rattle.messages.specs.Record.{spelled}
-use Rattle.answer_judge_keys.specs.Judging.{JudgeInput}
+use Rattle.answer_judge.specs.Judging.{JudgeInput}
 use Rattle.answer_extended_errors.specs.Extended.{records_in, untrusted_keys}
 use Rattle.answer_extended_errors.proofs.RefusalErrors.{keys_read, keys_unread}
 use Rattle.answer_extended_errors.proofs.refused.untrusted.Goals as goal

@@ -6,4 +6,5 @@ use Rattle.resolution_octets.proofs.said.error_of_answer.Goals as goal
 pub returns : goal.returns
 returns c =
     let e = c.args.evidence.now in
-    subst (λ (q : Asked). IfOk c.refused.result (IsErrorOf e c.args.zone.now c.args.ds.now q c.args.refusal)) c.in_ok-sought.ensures c.refused.ensures
+    let answer = c.args.answer in
+    subst (λ (q : Asked). IfOk c.refused.result (IsErrorOf e answer.zone.now answer.ds.now q answer.refusal)) c.in_ok-sought.ensures c.refused.ensures
