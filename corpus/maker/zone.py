@@ -13,7 +13,7 @@ from collections.abc import Iterable, Sequence
 
 from . import wire
 from .keys import Key, key
-from .wire import A, AAAA, CNAME, DNAME, DNSKEY, DS, MX, NS, NSEC, NSEC3, NSEC3PARAM, PTR, RRSIG, SOA, SRV, TXT, Name, Rrset
+from .wire import CNAME, DNSKEY, DS, NS, NSEC, NSEC3, NSEC3PARAM, RRSIG, SOA, Name, Rrset
 
 TTL = 3600
 # The moment of all cases that are not about time, 30 November 2026, and when signatures hold.

@@ -75,6 +75,16 @@ def verified(records, keys, apex, moment, sought):
     return tried, passed
 
 
+def is_incomplete(question, message, keys, apex, moment):
+    """Whether an RRset of an answer is verified that a verdict could rest on: that of the question, or where it is not there an NSEC or
+    NSEC3 record. Then it is a record beside it that is missing, where nothing is proven."""
+    found = rrsets(message.signed)
+    chain = [it for it, (rrset, _signatures) in found.items() if it[1] in (NSEC, NSEC3) and len(set(rrset)) == 1]
+    rests_on = [question] if question in found else chain
+    _tried, passed = verified(message.signed, keys, apex, moment, lambda *it: it in rests_on)
+    return bool(passed)
+
+
 def counts(question, message, keys, apex, moment):
     """How many signatures a judge tries of an answer, that of the keys counted, and how many names it hashes."""
     qname, rtype = question

@@ -93,13 +93,17 @@ class Deceits:
 
     def all(self):
         """Kinds and messages."""
-        yield from self.of_aliases() if self.zone.kind == "alias" else self.of_apex()
+        if self.zone.kind == "alias":
+            for kinds in (self.of_dropped, self.of_denials, self.of_expanded, self.of_moved):
+                yield from kinds()
+        else:
+            yield from self.of_apex()
         if self.private:
             yield from self.of_signers()
 
-    def of_aliases(self):
-        it, apex = self.named, self.zone.apex
-        # The alias dropped, so that what it leads to is left, or what denies that, as if it were said of the alias.
+    def of_dropped(self):
+        """The alias dropped, so that what it leads to is left, or what denies that, as if it were said of the alias."""
+        it = self.named
         for owner, rtype, *dropped in (
             ("alias", A, "alias"),
             ("alias", MX, "alias"),
@@ -121,43 +125,49 @@ class Deceits:
         yield "dname-dropped", self.without(it("x.dn"), A, (it("dn"), DNAME), (it("x.dn"), CNAME))
         yield "dname-dropped", self.without(it("any.dn"), MX, (it("dn"), DNAME), (it("any.dn"), CNAME))
         yield "dname-dropped", self.without(it("x.dn"), A, (it("dn"), DNAME))
-        # The alias's own record, with CNAME among its types, as proof that a type is missing.
+
+    def of_denials(self):
+        """Denials: by the alias's own record, which has CNAME among its types; by the wildcard's own record, in the place of its
+        alias; and without it."""
+        it, apex = self.named, self.zone.apex
         for owner, rtype in (("alias", A), ("here.w", TXT), ("c1", DS), ("out", NS), ("gone", A)):
             yield "own-record", self.made(it(owner), rtype, (), self.matching(it(owner)))
-        # The wildcard's own record in the place of its alias; and a denial that leaves it out.
         own = [] if self.zone.chain == "nsec" else self.matching(it("wild"))
         for rtype in (A, TXT, DS):
             records = [*own, *self.covering(it("any.wild")), *self.matching(it("*.wild"))]
             yield "wildcard-record", self.made(it("any.wild"), rtype, (), records)
         records = [*self.matching(apex), *self.covering(it("any.wild")), *self.covering(it("*"))]
         yield "wildcard-denied", self.made(it("any.wild"), A, (), records, 3)
-        # A wildcard's records for an alias below it.
+
+    def of_expanded(self):
+        """A wildcard's records for an alias below it; names below DNAME denied by the record above."""
+        it, apex = self.named, self.zone.apex
         expanded = self.renamed(it("*.w"), A, it("here.w"))
         yield "wildcard-expanded", self.made(it("here.w"), A, expanded, self.covering(it("no.here.w")))
         yield "wildcard-expanded", self.made(it("here.w"), A, expanded, self.matching(it("here.w")))
         expanded = [*self.renamed(it("*.wild"), CNAME, it("there.wild")), *self.signed(it("www"), A)]
         yield "wildcard-expanded", self.made(it("there.wild"), A, expanded, self.covering(it("any.wild")))
-        # Names below DNAME denied by the record above.
         for owner, rtype in (("any.dn", A), ("x.dn", A), ("a.b.dn", DS), ("any.far", TXT)):
             above = self.named(owner)[-len(apex) - 1 :]
             closer = self.named(owner)[-len(apex) - 2 :]
             records = [*self.matching(above), *self.denying(above, closer)]
             yield "below-dname-denied", self.made(it(owner), rtype, (), records, 3)
             yield "below-dname-denied", self.made(it(owner), rtype, (), self.matching(above))
-        # The target's records under the alias's name.
+
+    def of_moved(self):
+        """Records in the place of others: the target's under the alias's name, an alias without its signature or at another name, and
+        those of another zone."""
+        it = self.named
         yield "target-renamed", self.made(it("alias"), A, self.renamed(it("www"), A, it("alias")))
         yield "target-renamed", self.made(it("x.dn"), A, self.renamed(it("x.target"), A, it("x.dn")))
-        # An alias without its signature, and one that leads elsewhere, beside a denial.
         unsigned = self.rrsets[it("alias"), CNAME][0]
         yield "alias-unsigned", self.made(it("alias"), A, [*unsigned, *self.signed(it("www"), A)], self.matching(it("alias")))
         moved = self.renamed(it("alias"), CNAME, it("www"))
         yield "alias-renamed", self.made(it("www"), MX, [*moved, *self.signed(it("mail"), A)])
-        # Records of another zone.
-        owner = self.named("www")
         yield "other-zone", self.made(it("alias"), A, [record for record in self.other if record.owner[:1] == (b"www",)])
         links = [record for record in self.other if record.rtype in (NSEC, NSEC3)]
         links += [record for record in self.other if record.rtype == RRSIG and record.covered in (NSEC, NSEC3)]
-        yield "other-zone", self.made(owner, MX, (), links[:4] + links[-4:])
+        yield "other-zone", self.made(it("www"), MX, (), links[:4] + links[-4:])
 
     def of_apex(self):
         it, apex = self.named, self.zone.apex

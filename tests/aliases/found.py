@@ -23,16 +23,21 @@ def target(data):
     return tuple(labels)
 
 
-def lead(zone, qname):
-    """Where a name leads that is an alias: by the DNAME above it, by its own CNAME, or by a wildcard's."""
+def led(zone, qname):
+    """Where a name leads that is an alias, by the DNAME above it, by its own CNAME, or by a wildcard's: which, the owner of that, and the
+    name that it leads to."""
     for owner in zone.above(qname)[1:]:
         if owner in zone.dnames:
-            there = target(zone.records[owner][DNAME][0])
-            return f"Dname {text(owner)} to {text(qname[: len(qname) - len(owner)] + there)}"
-    if qname in zone.names:
-        return f"Alias {text(target(zone.records[qname][CNAME][0]))}"
+            return "Dname", owner, qname[: len(qname) - len(owner)] + target(zone.records[owner][DNAME][0])
     encloser = next(it for it in zone.above(qname) if it in zone.names)
-    return f"WildcardAlias {text(target(zone.records[(b'*', *encloser)][CNAME][0]))}"
+    word, owner = ("Alias", qname) if encloser == qname else ("WildcardAlias", (b"*", *encloser))
+    return word, owner, target(zone.records[owner][CNAME][0])
+
+
+def lead(zone, qname):
+    """The same in words."""
+    word, owner, there = led(zone, qname)
+    return f"{word} {text(owner)} to {text(there)}" if word == "Dname" else f"{word} {text(there)}"
 
 
 def found(zone, qname, rtype, says, judged):
@@ -44,7 +49,8 @@ def found(zone, qname, rtype, says, judged):
     if word == "Alias":
         return lead(zone, qname)
     if word == "Open":
-        return "Open" if judged.startswith("Open") else "refused NotProven"
+        more = "; in octets refused IncompleteDenial" if judged == "refused IncompleteDenial" else ""
+        return "Open" if judged.startswith("Open") else f"refused NotProven{more}"
     if word == "Delegated":
         cut = next(it for it in reversed(zone.above(qname)) if it in zone.cuts)
         return f"Referral {text(cut)} {DS_DATA.hex()}" if judged.startswith(("refused", "Referral")) else f"Delegated {text(cut)}"

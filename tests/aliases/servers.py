@@ -1,29 +1,17 @@
 """named of BIND, NSD and knotd of Knot on loopback, each with all zones as they were signed."""
 
-import re
+import contextlib
 import secrets
 import socket
 import struct
 import subprocess
+import sys
 import time
 
-from wire import SOA, Message, query
+from processes import HOST, NSD, end, free_port, version
+from wire import SOA, Message, query, text
 
-HOST = "127.0.0.1"
 AXFR = 252
-
-
-def free_port():
-    """A port that is free for UDP and TCP."""
-    while True:
-        with socket.socket() as tcp, socket.socket(socket.AF_INET, socket.SOCK_DGRAM) as udp:
-            tcp.bind((HOST, 0))
-            port = tcp.getsockname()[1]
-            try:
-                udp.bind((HOST, port))
-                return port
-            except OSError:
-                continue
 
 
 class Server:
@@ -35,6 +23,10 @@ class Server:
         (folder / "configuration").write_text(self.configuration())
         how = {"stdin": subprocess.DEVNULL, "stdout": (folder / "log").open("wb"), "stderr": subprocess.STDOUT}
         self.process = subprocess.Popen(self.COMMAND, cwd=folder, **how)
+
+    def configuration(self):
+        zones = "".join(self.ZONE.format(name=text(apex) or ".", file=file) for apex, file in self.zones)
+        return self.CONFIGURATION.format(folder=self.folder, host=self.host, port=self.port, zones=zones)
 
     def wait(self):
         for apex, _file in self.zones:
@@ -74,30 +66,19 @@ class Server:
         raise ConnectionError("no zone")
 
     def end(self):
-        self.process.terminate()
-        try:
-            self.process.wait(timeout=60)
-        except subprocess.TimeoutExpired:
-            self.process.kill()
-            self.process.wait()
+        end(self.process)
 
     def version(self):
-        ran = subprocess.run([self.COMMAND[0], self.VERSION], capture_output=True, text=True)
-        return f"{self.NAME} {re.search(r'[0-9]+[.][0-9][0-9.]*', ran.stdout + ran.stderr)[0]}"
+        return f"{self.NAME} {version(self.COMMAND[0], self.VERSION)}"
 
 
 class Named(Server):
-    NAME = "named"
-    COMMAND = ["named", "-g", "-c", "configuration"]
-    VERSION = "-v"
-
-    def configuration(self):
-        named = ((".".join(label.decode() for label in apex) or ".") for apex, _file in self.zones)
-        zones = "".join(f'zone {name} {{ type primary; file "{file}"; }};\n' for name, (_apex, file) in zip(named, self.zones))
-        return f"""
+    NAME, COMMAND, VERSION = "named", ["named", "-g", "-c", "configuration"], "-v"
+    ZONE = 'zone {name} {{ type primary; file "{file}"; }};\n'
+    CONFIGURATION = """
 options {{
-    directory "{self.folder}";
-    listen-on port {self.port} {{ {self.host}; }};
+    directory "{folder}";
+    listen-on port {port} {{ {host}; }};
     listen-on-v6 {{ none; }};
     pid-file none;
     session-keyfile none;
@@ -111,50 +92,26 @@ controls {{ }};
 
 
 class Nsd(Server):
-    NAME = "NSD"
-    COMMAND = ["nsd", "-d", "-c", "configuration"]
-    VERSION = "-v"
-
-    def configuration(self):
-        zones = "".join(
-            f'zone:\n    name: {".".join(label.decode() for label in apex)}\n    zonefile: "{file}"\n' for apex, file in self.zones
-        )
-        return f"""
-server:
-    ip-address: {self.host}@{self.port}
-    username: ""
-    zonesdir: "{self.folder}"
-    database: ""
-    pidfile: "{self.folder}/pid"
-    xfrdfile: "{self.folder}/xfrd"
-    xfrdir: "{self.folder}"
-    zonelistfile: "{self.folder}/zonelist"
-remote-control:
-    control-enable: no
-{zones}"""
+    NAME, COMMAND, VERSION = "NSD", ["nsd", "-d", "-c", "configuration"], "-v"
+    ZONE = 'zone:\n    name: {name}\n    zonefile: "{file}"\n'
+    CONFIGURATION = NSD
 
 
 class Knot(Server):
-    NAME = "Knot"
-    COMMAND = ["knotd", "-c", "configuration"]
-    VERSION = "--version"
-
-    def configuration(self):
-        zones = "".join(
-            f'  - domain: {".".join(label.decode() for label in apex)}\n    file: "{file}"\n' for apex, file in self.zones
-        )
-        return f"""
+    NAME, COMMAND, VERSION = "Knot", ["knotd", "-c", "configuration"], "--version"
+    ZONE = '  - domain: {name}\n    file: "{file}"\n'
+    CONFIGURATION = """
 server:
-    rundir: {self.folder}
-    listen: {self.host}@{self.port}
+    rundir: {folder}
+    listen: {host}@{port}
 log:
   - target: stderr
     any: info
 database:
-    storage: {self.folder}
+    storage: {folder}
 template:
   - id: default
-    storage: {self.folder}
+    storage: {folder}
     zonefile-sync: -1
     journal-content: none
 zone:
@@ -162,3 +119,24 @@ zone:
 
 
 SERVERS = (Named, Nsd, Knot)
+
+
+@contextlib.contextmanager
+def running(made):
+    """Servers, made one by one: they have their zones, and run while this lasts."""
+    servers = []
+    try:
+        servers += made
+        for it in servers:
+            it.wait()
+        yield servers
+    finally:
+        for it in servers:
+            it.end()
+
+
+def serve(made, are_told=slice(None)):
+    """Has servers run until the input ends, and prints the versions of some once they have their zones."""
+    with running(made) as servers:
+        print(", ".join(sorted({it.version() for it in servers[are_told]})), flush=True)
+        sys.stdin.read()

@@ -4,18 +4,11 @@ that hold from 2026 to 2036."""
 import base64
 import pathlib
 import re
-import subprocess
+
+from processes import run, version
 
 BEGIN, END = 1767225600, 2082758400  # 2026-01-01 and 2036-01-01
 DATES = ("20260101000000", "20360101000000")
-
-
-def run(folder, *words):
-    """Runs a program in a folder, and gives what it printed."""
-    ran = subprocess.run([str(it) for it in words], cwd=folder, stdin=subprocess.DEVNULL, capture_output=True, text=True)
-    if ran.returncode:
-        raise RuntimeError(f"{' '.join(map(str, words))}: {ran.stdout}{ran.stderr}")
-    return ran.stdout
 
 
 def keys(folder, apex):
@@ -40,9 +33,26 @@ def by_ldns(zone, folder):
     run(folder, "ldns-signzone", *dates, *hashed[zone.chain], "-o", zone.apex_text, "-f", "signed", "unsigned", *made)
 
 
+def knot_policy(name, chain, algorithm, ttl, **more):
+    """A policy of Knot, by which no key is rolled by itself."""
+    hashed, opt_out = (("off", "on")[it] for it in (chain != "nsec", chain == "optout"))
+    lines = "".join(f"    {option.replace('_', '-')}: {value}\n" for option, value in more.items())
+    return f"""  - id: {name}
+    algorithm: {algorithm}
+    nsec3: {hashed}
+    nsec3-opt-out: {opt_out}
+    nsec3-iterations: 0
+    nsec3-salt-length: 0
+    ksk-lifetime: 0
+    zsk-lifetime: 0
+    dnskey-ttl: {ttl}
+    zone-max-ttl: {ttl}
+{lines}"""
+
+
 def by_knot(zone, folder):
     apex = zone.apex_text
-    hashed, opt_out = (("off", "on")[it] for it in (zone.chain != "nsec", zone.chain == "optout"))
+    more = {"rrsig_lifetime": END - BEGIN, "cds_cdnskey_publish": "none"}
     (folder / f"{apex}.zone").write_text(zone.file())
     (folder / "knot.conf").write_text(f"""
 server:
@@ -50,19 +60,7 @@ server:
 database:
     storage: {folder}
 policy:
-  - id: made
-    algorithm: ecdsap256sha256
-    nsec3: {hashed}
-    nsec3-opt-out: {opt_out}
-    nsec3-iterations: 0
-    nsec3-salt-length: 0
-    ksk-lifetime: 0
-    zsk-lifetime: 0
-    dnskey-ttl: 3600
-    zone-max-ttl: 3600
-    rrsig-lifetime: {END - BEGIN}
-    cds-cdnskey-publish: none
-template:
+{knot_policy("made", zone.chain, "ecdsap256sha256", 3600, **more)}template:
   - id: default
     storage: {folder}
     file: "%s.zone"
@@ -82,8 +80,7 @@ SIGNERS = {"bind": by_bind, "ldns": by_ldns, "knot": by_knot}
 def versions():
     said = {"BIND": ["dnssec-signzone", "-V"], "ldns": ["ldns-signzone", "-v"], "Knot": ["kzonesign", "-V"]}
     for name, words in said.items():
-        ran = subprocess.run(words, capture_output=True, text=True)
-        yield f"{name} {re.findall(r'[0-9]+[.][0-9][0-9.]*', ran.stdout + ran.stderr)[0]}"
+        yield f"{name} {version(*words)}"
 
 
 def sign(zone, folder):

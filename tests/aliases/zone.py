@@ -1,6 +1,7 @@
 """The zones: aliases in all places, their questions, and what each zone says of a question by RFC 1034, 4.3.2, RFC 4592, RFC 5155 and
 RFC 6672. Nothing here looks at an answer, or at what the judge says."""
 
+import socket
 import typing
 
 from wire import CNAME, DNAME, DS, NS, TYPES, name, wire
@@ -187,6 +188,32 @@ class Records:
         if (b"*", *encloser) not in self.names:
             return Said("NoName")
         return Said("StarRecords", tuple(sorted(types[rtype]))) if rtype in types else Said("StarNoType")
+
+
+class ZoneOfLines(Records):
+    """A zone by the lines of its file: owner, TTL, type and data. An opt-out chain leaves out its delegations without DS records."""
+
+    def __init__(self, apex_text, lines, is_open):
+        rows = [(owner, *rest) for owner, _ttl, *rest in map(str.split, lines.splitlines())]
+        super().__init__(apex_text, "optout" if is_open else "other", rows)
+        if is_open:
+            self.left_out = {it for it in self.cuts if DS not in self.records[it]}
+            seen = [it for it in self.records if not any(above in self.left_out for above in self.above(it))]
+            self.names = {owner[at:] for owner in seen for at in range(len(owner) - len(self.apex) + 1)}
+
+    def data(self, rtype, fields):
+        match rtype:
+            case "A":
+                return socket.inet_aton(fields[0])
+            case "TXT":
+                return bytes([len(fields[0])]) + fields[0].encode()
+            case "DS":
+                tag, algorithm, digest = map(int, fields[:3])
+                return tag.to_bytes(2, "big") + bytes([algorithm, digest]) + bytes.fromhex("".join(fields[3:]))
+            case "SOA":
+                numbers = (int(it).to_bytes(4, "big") for it in fields[2:])
+                return b"".join([wire(self.named(fields[0])), wire(self.named(fields[1])), *numbers])
+        return super().data(rtype, fields)
 
 
 class Zone(Records):

@@ -16,9 +16,9 @@ REFUSALS = [
     *("MixedNsec3Parameters", "IterationsOverLimit", "HashFailed", "NotProven", "OutOfMemory", "MixedVersions"),
     *("MessageTooLong", "TooManySignatures"),
 ]
-NUMBERS = {word: at for at, word in enumerate(VERDICTS)} | {word: 16 + at for at, word in enumerate(REFUSALS)}
+NUMBERS = {word: at for at, word in enumerate(VERDICTS)} | {word: 16 + at for at, word in enumerate(REFUSALS)} | {"IncompleteDenial": 51}
 RECORDS, NODATA, WILDCARD, DELEGATED, OPTOUT, INSECURE, ALIAS, WILDCARD_ALIAS, DNAME, REFERRAL = 0, 1, 3, 5, 6, 7, 8, 9, 10, 11
-NOT_PROVEN = 25
+NOT_PROVEN, INCOMPLETE_DENIAL = 25, 51
 CNAME_TYPE, DNAME_TYPE, NS_TYPE, DS_TYPE = 5, 39, 2, 43
 
 
@@ -158,7 +158,7 @@ def found(printed: str) -> Reply:
             return Reply(NODATA, b"", 1 if rest == ["a", "delegation"] else 2)
         case ["Records" | "StarRecords" as word, data]:
             return Reply(NUMBERS[word], b"".join(part(bytes.fromhex(it)) for it in data.split(",")))
-        case ["refused", word] | [word]:
+        case ["refused", "NotProven;", "in", "octets", "refused", word] | ["refused", word] | [word]:
             return Reply(NUMBERS[word])
     raise ValueError(printed)
 

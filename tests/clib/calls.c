@@ -439,8 +439,8 @@ int main(void) {
     for (int reply = 0; reply < 64; reply++) {
         uint32_t number = (uint32_t)reply;
         expect(zermuita_is_verdict(number) == (number <= ZERMUITA_REFERRAL), "verdicts");
-        int of_walks = ZERMUITA_TOO_MANY_CUTS <= number && number <= ZERMUITA_TOO_MANY_MESSAGES;
-        expect(zermuita_is_refusal(number) == ((16 <= number && number <= ZERMUITA_OUTSIDE) || of_walks), "refusals");
+        int is_further = ZERMUITA_TOO_MANY_CUTS <= number && number <= ZERMUITA_INCOMPLETE_DENIAL;
+        expect(zermuita_is_refusal(number) == ((16 <= number && number <= ZERMUITA_OUTSIDE) || is_further), "refusals");
         printf("%d %s\n", reply, zermuita_strerror((enum zermuita_reply)reply));
     }
     expect(!zermuita_is_verdict((uint32_t)-1) && !zermuita_is_refusal((uint32_t)-1), "a number that no reply has");

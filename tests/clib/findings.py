@@ -8,11 +8,11 @@ import dataclasses
 import functools
 import pathlib
 import sys
-from collections.abc import Iterator
+from collections.abc import Container, Iterator
 
-from answers import ALIAS, CNAME_TYPE, DELEGATED, DNAME, DNAME_TYPE, DS_TYPE, INSECURE, NODATA, NOT_PROVEN, NS_TYPE, OPTOUT, RECORDS
-from answers import REFERRAL, WILDCARD, WILDCARD_ALIAS, Answered, Reply, above, beyond, entries, found, labels, part
-from lasting import IN, Passing, Record, records
+from answers import ALIAS, CNAME_TYPE, DELEGATED, DNAME, DNAME_TYPE, DS_TYPE, INCOMPLETE_DENIAL, INSECURE, NODATA, NOT_PROVEN, NS_TYPE
+from answers import OPTOUT, RECORDS, REFERRAL, WILDCARD, WILDCARD_ALIAS, Answered, Reply, above, beyond, entries, found, labels, part
+from lasting import IN, NSEC, NSEC3, Passing, Record, Signature, is_sought, records
 
 sys.path.append(str(pathlib.Path(__file__).resolve().parents[1] / "aliases"))
 import found as aliases  # noqa: E402
@@ -130,9 +130,52 @@ def hinted_cut(it: Answered) -> bytes | None:
     return next((owner for owner in owners if is_below(owner, it.apex) and owner in above(it.name.lower())), None)
 
 
+def rests_on(it: Answered) -> dict[tuple[bytes, int], list[Record]]:
+    """The RRsets that a verdict would rest on: that of the question where it is there, else those of the chain."""
+    sets = rrsets(it.answer)
+    asked = it.name.lower(), it.rtype
+    if asked in sets:
+        return {asked: sets[asked]}
+    return {key: rrset for key, rrset in sets.items() if key[1] in (NSEC, NSEC3) and is_sought(it, *key, rrset)}
+
+
+def told_of(it: Answered) -> Answered:
+    """The case of which it is told why nothing is proven: of the DNAME, the CNAME or DS at the cut that the answer suggests, else the
+    case itself."""
+    sets, name, apex = rrsets(it.answer), it.name.lower(), it.apex.lower()
+    dnames = (owner for owner, rtype in sets if rtype == DNAME_TYPE)
+    dname = next((owner for owner in dnames if is_below(name, owner) and apex in above(owner)), None)
+    if dname is not None:
+        return dataclasses.replace(it, name=dname, rtype=DNAME_TYPE)
+    if it.rtype != CNAME_TYPE and (name, CNAME_TYPE) in sets and apex in above(name):
+        return dataclasses.replace(it, rtype=CNAME_TYPE)
+    cut = hinted_cut(it)
+    return it if cut is None else dataclasses.replace(it, name=cut, rtype=DS_TYPE)
+
+
+def over(message: bytes, apex: bytes, sets: Container[tuple[bytes, int]]) -> list[Signature]:
+    """The zone's signatures over some RRsets."""
+    found = [it for _, it in records(message) if it]
+    return [it for it in found if (it.owner, it.covered) in sets and it.fields[18:] == apex.lower()]
+
+
+def is_incomplete(case: Answered, passing: Passing) -> bool:
+    """Whether one of the RRsets that an answer rests on is verified: where nothing is proven, a record is missing beside it then. Of
+    answers that are judged as they stand none is: they are refused here because data are not in the form in which they were signed."""
+    it = told_of(case)
+    sets = rests_on(it)
+    holding = [one for one in over(it.answer, it.apex, sets) if one.inception <= it.now <= one.expiration]
+    return not it.as_received and any(passing.has(one, sets[one.owner, one.covered]) for one in holding)
+
+
+def unproven(it: Answered, passing: Passing) -> Reply:
+    """What is to be replied where nothing is proven."""
+    return Reply(INCOMPLETE_DENIAL if is_incomplete(it, passing) else NOT_PROVEN)
+
+
 def replied_to(it: Answered, said: Reply | None, zone: Zone, passing: Passing) -> Reply:
     """What is to be replied, by what the judge itself says."""
-    judged = NOT_PROVEN if it.told[0] in (ALIAS, WILDCARD_ALIAS, DNAME, REFERRAL) else it.told[0]
+    judged = NOT_PROVEN if it.told[0] in (ALIAS, WILDCARD_ALIAS, DNAME, REFERRAL, INCOMPLETE_DENIAL) else it.told[0]
     if said:
         return said
     if judged == INSECURE or judged > INSECURE and judged != NOT_PROVEN:
@@ -140,11 +183,11 @@ def replied_to(it: Answered, said: Reply | None, zone: Zone, passing: Passing) -
     if judged == NOT_PROVEN:
         dname = next((owner for owner, rtype in rrsets(it.answer) if rtype == DNAME_TYPE and is_below(it.name, owner)), None)
         if dname is not None:
-            return zone.lead(it.name) if signed(it, passing, dname, DNAME_TYPE) else Reply(NOT_PROVEN)
+            return zone.lead(it.name) if signed(it, passing, dname, DNAME_TYPE) else unproven(it, passing)
         if signed(it, passing, it.name.lower(), CNAME_TYPE):
             return zone.lead(it.name)
         cut = hinted_cut(it)
-        return referral(zone, cut) if cut is not None and signed(it, passing, cut, DS_TYPE) else Reply(NOT_PROVEN)
+        return referral(zone, cut) if cut is not None and signed(it, passing, cut, DS_TYPE) else unproven(it, passing)
     if judged == DELEGATED:
         return Reply(DELEGATED, hinted_cut(it) or b"")
     if judged == NODATA and it.rtype == DS_TYPE:
@@ -161,6 +204,8 @@ def replied(judged: list[tuple[Answered, Reply | None]]) -> Iterator[Answered]:
         line = beyond(it.said) if it.said.endswith(", as the zone says") else None
         if line and (line.number, line.octets.lower()) != (reply.number, reply.octets.lower()):
             raise ValueError(f"{it.said}, and by the zone {reply}")
+        if it.told[0] in (NOT_PROVEN, INCOMPLETE_DENIAL) and it.told[0] != reply.number:
+            raise ValueError(f"{it.said}, for {it.name!r} {it.rtype}, and by the message {reply}")
         yield dataclasses.replace(it, reply=reply, may_be=tuple(sorted(set(may_be(it, zone)))))
 
 

@@ -88,17 +88,22 @@ def signature_of(message: bytes, owner: bytes, begin: int, end: int) -> Signatur
     return Signature(owner, covered, ttl, expiration, inception, message[begin : begin + 18] + signer, message[behind:end])
 
 
+def parts_of(entry: bytes) -> list[bytes]:
+    """The DNSKEY data, the octets and the signature of an entry."""
+    found = []
+    for width in (2, 4, 2):
+        end = width + int.from_bytes(entry[:width], "big")
+        found.append(entry[width:end])
+        entry = entry[end:]
+    return found
+
+
 class Passing:
     """The signatures that pass, each with the owner and the data that it is made over, letters in lower case."""
 
     def __init__(self, entries: list[bytes]) -> None:
         self.found: set[tuple[bytes, bytes, bytes, frozenset[bytes]]] = set()
-        for entry in entries:
-            parts = []
-            for width in (2, 4, 2):
-                end = width + int.from_bytes(entry[:width], "big")
-                parts.append(entry[width:end])
-                entry = entry[end:]
+        for parts in map(parts_of, entries):
             signer, at = name_at(parts[1], 18)
             owner = name_at(parts[1], at)[0]
             self.found.add((parts[2], parts[1][:18] + signer, owner, frozenset(self.data(parts[1], at))))

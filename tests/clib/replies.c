@@ -19,27 +19,24 @@ static void print_reply(struct zermuita_case handed, size_t room, enum zermuita_
     printf("%d\n", (int)reply);
 }
 
-static struct zermuita_octets of(const uint8_t *data, size_t len) {
-    return (struct zermuita_octets){data, len};
-}
-
-static const uint8_t unread[] = {3, 'a'};
-
 /* Octets that are no name, no set, no entry; a size that is none. */
 static void print_unread(struct zermuita_case good) {
+    static const uint8_t unread[] = {3, 'a'};
     struct zermuita_case handed = good;
-    handed.apex = of(unread, sizeof unread);
-    print_reply(handed, 0, ZERMUITA_BAD_APEX);
-    handed = good;
-    handed.ds = of(unread, sizeof unread);
-    print_reply(handed, 0, ZERMUITA_BAD_DS_SET);
-    handed = good;
-    handed.name = of(unread, sizeof unread);
-    print_reply(handed, 0, ZERMUITA_BAD_NAME);
-    handed = good;
-    handed.checked = of(unread, sizeof unread);
-    print_reply(handed, 0, ZERMUITA_BAD_SIGNATURES);
-    handed = good;
+    const struct {
+        struct zermuita_octets *part;
+        enum zermuita_reply reply;
+    } parts[] = {
+        {&handed.apex, ZERMUITA_BAD_APEX},
+        {&handed.ds, ZERMUITA_BAD_DS_SET},
+        {&handed.name, ZERMUITA_BAD_NAME},
+        {&handed.checked, ZERMUITA_BAD_SIGNATURES},
+    };
+    for (size_t i = 0; i < sizeof parts / sizeof *parts; i++) {
+        *parts[i].part = (struct zermuita_octets){unread, sizeof unread};
+        print_reply(handed, 0, parts[i].reply);
+        handed = good;
+    }
     handed.size = 128;
     print_reply(handed, 0, ZERMUITA_BAD_CASE);
 }

@@ -6,13 +6,12 @@ import dataclasses
 import functools
 import pathlib
 import re
-import socket
-import struct
 import sys
 
-from answers import CNAME_TYPE, DNAME, DNAME_TYPE, DS_TYPE, INSECURE, NS_TYPE, NUMBERS, OPTOUT
+import copies
+from answers import DNAME, DS_TYPE, INCOMPLETE_DENIAL, INSECURE, NS_TYPE, NUMBERS, OPTOUT
 from answers import Reply, above, ds_set, labels, part, wire
-from errors import SIGNS, key_tag, rows
+from errors import NO_DENIAL, rows
 from findings import first_name, rrsets
 from lasting import DNSKEY, NSEC, RRSIG, records
 
@@ -23,12 +22,12 @@ import found as aliases  # noqa: E402
 import zones as made  # noqa: E402
 from wire import text  # noqa: E402
 from wire import wire as wire_of  # noqa: E402
-from zone import Records  # noqa: E402
+from zone import ZoneOfLines  # noqa: E402
 
 # Replies of zermuita_resolve alone, by the words that are printed for them; and words of others.
 TOO_MANY = {"too many cuts": 48, "too many aliases": 49, "too many messages": 50}
 NOTHING_TOLD, OUTSIDE, WANT = 30, 31, 33
-SOA_TYPE = 6
+A_TYPE, SOA_TYPE = 1, 6
 # Types that are not judged.
 NOT_JUDGED = {0, 41, RRSIG, NSEC, DNSKEY, 50, 51, *range(128, 256)}
 # The algorithm of all zones that are not insecure or bogus, and of one that is insecure where it is not checked; zones that are bogus.
@@ -114,6 +113,8 @@ def replied(said: str) -> Reply:
             return Reply(DNAME, led)
         case ["bogus", *words, word]:
             return Reply(NUMBERS[word], led + question(words))
+        case ["incomplete", "denial", *words]:
+            return Reply(INCOMPLETE_DENIAL, led + question(words))
         case ["wants", *_words]:
             wanted = ending.removeprefix("wants ").split(", ")
             return Reply(WANT, b"".join(question(it.split(" ")) for it in wanted))
@@ -177,76 +178,60 @@ def lines() -> tuple[list[Message], list[Walk]]:
     return messages, list(walks.values())
 
 
-def denied(question: bytes, rtypes: tuple[int, ...], signer: bytes) -> bytes:
-    """A message with an NSEC record of the name below the first label, which has these types, and its signature: what that is made
-    over (RFC 4034, 4.1 and 3.1)."""
-    owner = above(question)[1]
-    bits = bytearray(6)
-    for rtype in rtypes:
-        bits[rtype // 8] |= 0x80 >> rtype % 8
-    data = wire("zz.example") + b"\0" + part(bytes(bits), 1)
-    rrset = owner + struct.pack(">HHIH", NSEC, 1, 300, len(data)) + data
-    fields = struct.pack(">HBBIIIH", NSEC, SIGNED_BY, len(labels(owner)), 300, 4000, 500, key_tag(signer)) + wire("example")
-    signature = fields + fields + rrset
-    records = rrset + owner + struct.pack(">HHIH", RRSIG, 1, 300, len(signature)) + signature
-    return struct.pack(">6H", 0, 0x8400, 1, 0, 2, 0) + question + struct.pack(">HH", 1, 1) + records
+def denied(question: bytes, owner: str, rtype: int) -> bytes:
+    """A message with the NSEC record of a name, which has a type."""
+    return copies.message(question, A_TYPE, [], copies.signed(wire(owner), NSEC, copies.nsec("zz.example", rtype)))
+
+
+def in_one_zone(
+    said: str, name: bytes, told: Reply, ede: int, asked: list[tuple[bytes, int, bytes]]
+) -> tuple[list[bytes], list[Message], Walk]:
+    """A walk in one zone, for a name's address, by answers to names and types, and what it is refused for. In front of it the
+    signatures that pass, and the messages."""
+    first = next(rows()).case
+    zone = first.apex
+    messages = [Message(zone, zone, DNSKEY, first.dnskey), *(Message(zone, *it) for it in asked)]
+    keys = {copies.key_tag(it.raw): it.raw for it in rrsets(first.dnskey)[zone, DNSKEY]}
+    passing = []
+    for it in [signature for message in messages for _, signature in records(message.octets) if signature]:
+        passing.append(part(keys[int.from_bytes(it.fields[16:18], "big")]) + part(it.signature, 4) + part(it.signature))
+    reply = dataclasses.replace(told, octets=bytes(4) + zone + told.octets)
+    return passing, messages, Walk(said, name, A_TYPE, zone, tuple(first.ds), 1500, reply, len(messages), ede=ede)
 
 
 def untold() -> tuple[list[bytes], list[Message], Walk]:
     """A walk in a zone that changes between its answers, which so tell nothing: the name is below a delegation, and then there is
-    none. In front of it the signatures that pass, and the messages."""
-    first = next(rows()).case
-    zone, name = first.apex, wire("x.cut.example")
-    below, none = denied(name, (NS_TYPE, RRSIG, NSEC), SIGNS), denied(name, (1, RRSIG, NSEC), SIGNS)
-    messages = [Message(zone, zone, DNSKEY, first.dnskey), Message(zone, name, 1, below)]
-    messages += [Message(zone, it, DS_TYPE, none) for it in (name, above(name)[1])]
-    keys = {key_tag(it.raw): it.raw for it in rrsets(first.dnskey)[zone, DNSKEY]}
-    passing = []
-    for it in [signature for octets in (first.dnskey, below, none) for _, signature in records(octets) if signature]:
-        passing.append(part(keys[int.from_bytes(it.fields[16:18], "big")]) + part(it.signature, 4) + part(it.signature))
-    reply = Reply(NOTHING_TOLD, bytes(4) + zone + name + bytes([0, 1]))
-    return passing, messages, Walk("a zone that changes", name, 1, zone, tuple(first.ds), 1500, reply, len(messages), ede=0)
+    none."""
+    name = wire("x.cut.example")
+    below, none = denied(name, "cut.example", NS_TYPE), denied(name, "cut.example", A_TYPE)
+    asked = [(name, A_TYPE, below), *((it, DS_TYPE, none) for it in (name, above(name)[1]))]
+    return in_one_zone("a zone that changes", name, Reply(NOTHING_TOLD, name + bytes([0, A_TYPE])), 0, asked)
 
 
-class Zone(Records):
+def incomplete() -> list[tuple[list[bytes], list[Message], Walk]]:
+    """Walks in a zone whose server denies another name: in its answer to the question, where the one for DS shows that there is no
+    delegation; and in both."""
+    name = wire("a.example")
+    other, own = denied(name, "m.example", A_TYPE), denied(name, "a.example", A_TYPE)
+    found = []
+    for what, rtype, of_ds in (("the answer", A_TYPE, own), ("the answer for DS", DS_TYPE, other)):
+        told = Reply(INCOMPLETE_DENIAL, name + bytes([0, rtype]))
+        found.append(in_one_zone(f"{what} denies another name", name, told, NO_DENIAL, [(name, A_TYPE, other), (name, DS_TYPE, of_ds)]))
+    return found
+
+
+def zone_of(apex: str, cuts: dict[str, list[bytes]]) -> ZoneOfLines:
     """A zone of tests/walk, by the lines of its file, and by its delegations with their DS sets."""
-
-    def __init__(self, apex: str, cuts: dict[str, list[bytes]]):
-        rows = [(owner, *rest) for owner, _ttl, *rest in map(str.split, made.ZONES[apex].splitlines())]
-        rows += [(f"{cut}.", "NS", "ns.test.") for cut in cuts]
-        rows += [(f"{cut}.", "DS", it.hex()) for cut, records in cuts.items() for it in records]
-        is_open = "-A" in made.HOW.get(apex, made.How()).chain
-        super().__init__(apex.rstrip("."), "optout" if is_open else "other", rows)
-        if is_open:
-            self.left_out = {it for it in self.cuts if DS_TYPE not in self.records[it]}
-            seen = [it for it in self.records if not any(above in self.left_out for above in self.above(it))]
-            self.names = {owner[at:] for owner in seen for at in range(len(owner) - len(self.apex) + 1)}
-
-    def data(self, rtype, fields):
-        match rtype:
-            case "A":
-                return socket.inet_aton(fields[0])
-            case "TXT":
-                return part(fields[0].encode(), 1)
-            case "DS":
-                return bytes.fromhex(fields[0])
-            case "SOA":
-                numbers = (int(it).to_bytes(4, "big") for it in fields[2:])
-                return b"".join([wire_of(self.named(fields[0])), wire_of(self.named(fields[1])), *numbers])
-        return super().data(rtype, fields)
-
-    def lead(self, qname):
-        """Where a name leads that is an alias."""
-        for owner in self.above(qname)[1:]:
-            if owner in self.dnames:
-                return qname[: len(qname) - len(owner)] + aliases.target(self.records[owner][DNAME_TYPE][0])
-        encloser = next(it for it in self.above(qname) if it in self.names)
-        owner = qname if encloser == qname else (b"*", *encloser)
-        return aliases.target(self.records[owner][CNAME_TYPE][0])
+    lines = made.ZONES[apex]
+    for cut, ds in cuts.items():
+        lines += f"{cut}. {made.DS_TTL} NS ns.test.\n"
+        for it in ds:
+            lines += f"{cut}. {made.DS_TTL} DS {int.from_bytes(it[:2], 'big')} {it[2]} {it[3]} {it[4:].hex()}\n"
+    return ZoneOfLines(apex.rstrip("."), lines, "-A" in made.HOW.get(apex, made.How()).chain)
 
 
 @functools.cache
-def zones() -> dict[tuple[bytes, ...], Zone]:
+def zones() -> dict[tuple[bytes, ...], ZoneOfLines]:
     """All zones, by their labels; DS sets are those that the servers of the zone above have."""
     ds: dict = {}
     for message in lines()[0]:
@@ -254,7 +239,7 @@ def zones() -> dict[tuple[bytes, ...], Zone]:
             if rtype == DS_TYPE:
                 ds[labels(owner)] = sorted({it.raw for it in rrset})
     cuts = {apex: {cut: ds.get(made.name(cut), []) for cut in made.cuts_of(apex)} for apex in made.ZONES}
-    return {made.name(apex): Zone(apex, cuts[apex]) for apex in made.ZONES}
+    return {made.name(apex): zone_of(apex, cuts[apex]) for apex in made.ZONES}
 
 
 def insecure_with(algorithms: bytes) -> set[tuple[bytes, ...]]:
@@ -274,7 +259,7 @@ def told(name: bytes, rtype: int, algorithms: bytes = bytes([SIGNED_BY])) -> Rep
         front = len(led).to_bytes(4, "big") + b"".join(map(wire_of, led))
         zone, word, data = down(qname, rtype, insecure_with(algorithms))
         if word == "Alias":
-            qname = zone.lead(qname)
+            qname = aliases.led(zone, qname)[-1]
             if len(wire_of(qname)) > 255:
                 return Reply(DNAME, front)
             led.append(qname)

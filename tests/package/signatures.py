@@ -11,6 +11,7 @@ from collections.abc import Iterator
 TOP = pathlib.Path(__file__).resolve().parents[2]
 sys.path[:0] = [str(TOP / "tests/clib"), str(TOP / "examples/python")]
 import answers  # noqa: E402
+import lasting  # noqa: E402
 import validate  # noqa: E402
 from cryptography.hazmat.primitives import hashes, serialization  # noqa: E402
 from cryptography.hazmat.primitives.asymmetric import ed448, padding, rsa  # noqa: E402
@@ -18,13 +19,7 @@ from zermuita import Ask  # noqa: E402
 
 
 def of_servers() -> Iterator[Ask]:
-    for entry in answers.entries():
-        parts = []
-        for width in (2, 4, 2):
-            end = width + int.from_bytes(entry[:width], "big")
-            parts.append(entry[width:end])
-            entry = entry[end:]
-        yield Ask(*parts)
+    return (Ask(*lasting.parts_of(it)) for it in answers.entries())
 
 
 def made_here() -> Iterator[Ask]:

@@ -2,17 +2,21 @@
 
 import base64
 import concurrent.futures
-import re
+import contextlib
+import pathlib
 import secrets
-import socket
 import subprocess
+import sys
 import time
 import typing
 
+sys.path.append(str(pathlib.Path(__file__).resolve().parents[1] / "aliases"))
+
 from messages import ask, data_of
+from processes import HOST, NSD, end, free_port, run, version
+from signers import knot_policy
 from zone import TTL, file_of
 
-HOST = "127.0.0.1"
 # How long it may take until all servers have what one of them has, in seconds.
 PROPAGATION = 5
 ALGORITHMS = {13: "ecdsap256sha256", 15: "ed25519"}
@@ -28,19 +32,6 @@ class Policy(typing.NamedTuple):
     @property
     def name(self):
         return f"{self.chain}-{self.algorithm}-{'csk' if self.is_single else 'ksk'}"
-
-
-def free_port():
-    """A port that is free for UDP and TCP."""
-    while True:
-        with socket.socket() as tcp, socket.socket(socket.AF_INET, socket.SOCK_DGRAM) as udp:
-            tcp.bind((HOST, 0))
-            port = tcp.getsockname()[1]
-            try:
-                udp.bind((HOST, port))
-                return port
-            except OSError:
-                continue
 
 
 class Server:
@@ -89,24 +80,15 @@ class Server:
 
     def call(self, *words):
         """Runs a command of the server's."""
-        how = {"stdin": subprocess.DEVNULL, "capture_output": True, "text": True, "timeout": 30}
-        ran = subprocess.run(words, cwd=self.folder, **how)
-        if ran.returncode:
-            raise RuntimeError(f"{' '.join(words)}: {ran.stdout}{ran.stderr}")
+        run(self.folder, *words, timeout=30)
 
     def version(self):
-        ran = subprocess.run([self.COMMAND[0], self.VERSION], capture_output=True, text=True)
-        return self.NAME + " " + re.search(r"\d+\.\d[\d.]*", ran.stdout + ran.stderr)[0]
+        return f"{self.NAME} {version(self.COMMAND[0], self.VERSION)}"
 
     def end(self):
         concurrent.futures.wait(self.commands)
         if self.process:
-            self.process.terminate()
-            try:
-                self.process.wait(timeout=60)
-            except subprocess.TimeoutExpired:
-                self.process.kill()
-                self.process.wait()
+            end(self.process)
 
     def check(self):
         """Raises what the first command that failed has raised."""
@@ -248,26 +230,9 @@ zone:
 
     @staticmethod
     def policy(policy):
-        single, hashed, opt_out = (
-            "on" if it else "off" for it in (policy.is_single, policy.chain != "nsec", policy.chain == "optout")
-        )
-        return f"""  - id: {policy.name}
-    algorithm: {ALGORITHMS[policy.algorithm]}
-    single-type-signing: {single}
-    nsec3: {hashed}
-    nsec3-opt-out: {opt_out}
-    nsec3-iterations: 0
-    nsec3-salt-length: 0
-    ksk-lifetime: 0
-    zsk-lifetime: 0
-    dnskey-ttl: {TTL}
-    zone-max-ttl: {TTL}
-    propagation-delay: {PROPAGATION}
-    rrsig-lifetime: 10m
-    rrsig-refresh: 520
-    rrsig-pre-refresh: 10
-    ksk-submission: parent
-"""
+        more = {"propagation_delay": PROPAGATION, "rrsig_lifetime": "10m", "rrsig_refresh": 520, "rrsig_pre_refresh": 10}
+        more |= {"single_type_signing": "on" if policy.is_single else "off", "ksk_submission": "parent"}
+        return knot_policy(policy.name, policy.chain, ALGORITHMS[policy.algorithm], TTL, **more)
 
     def knotc(self, *words):
         self.call("knotc", "-c", "knot.conf", *words)
@@ -310,17 +275,19 @@ zone:
             for it in self.primaries
             for zone in it.zones
         )
-        return f"""
-server:
-    ip-address: {HOST}@{self.port}
-    username: ""
-    zonesdir: "{self.folder}"
-    database: ""
-    pidfile: "{self.folder}/pid"
-    xfrdfile: "{self.folder}/xfrd"
-    xfrdir: "{self.folder}"
-    zonelistfile: "{self.folder}/zonelist"
-    ipv4-edns-size: 4096
-remote-control:
-    control-enable: no
-{zones}"""
+        wide = "server:\n    ipv4-edns-size: 4096\n"
+        return NSD.format(host=HOST, port=self.port, folder=self.folder, zones=wide + zones)
+
+
+@contextlib.contextmanager
+def running(servers):
+    """Has servers run, with all their zones signed, while this lasts."""
+    try:
+        for it in servers:
+            it.start()
+        for it in servers:
+            it.wait()
+        yield
+    finally:
+        for it in servers:
+            it.end()

@@ -1,10 +1,10 @@
 """Instructions that programs take, by valgrind's callgrind: the same whatever else the machine does."""
 
-import asyncio
 import re
 import subprocess
 
 from recorded import Capture, record
+from resolvers import unanswered
 
 # LuaJIT, of which Knot Resolver is made, writes code as it runs.
 VALGRIND = ["valgrind", "--tool=callgrind", "--callgrind-out-file=/dev/null", "--smc-check=all-non-file"]
@@ -21,13 +21,8 @@ def counting(kind):
         def command(self):
             return [*VALGRIND, f"--log-file={self.folder}/callgrind", *super().command()]
 
-        async def is_up(self):
-            for _ in range(9):
-                try:
-                    return await super().is_up()
-                except TimeoutError:
-                    pass
-            await super().is_up()
+        async def is_up(self, seconds=2000):
+            await super().is_up(seconds)
 
         def end(self):
             if self.process and self.process.poll() is None:
@@ -48,15 +43,7 @@ async def of_resolver(kind, folder, address, key, questions, is_logging):
     resolver.is_logging = is_logging
     capture = Capture(resolver.folder) if is_logging else None
     try:
-        await resolver.start()
-        await resolver.is_up()
-        gate = asyncio.Semaphore(20)
-
-        async def ask(question):
-            async with gate:
-                return await resolver.client.ask(*question)
-
-        missing = sum(it is None for it in await asyncio.gather(*map(ask, questions)))
+        missing = await unanswered(resolver, questions)
     finally:
         resolver.end()
         if capture:

@@ -1,12 +1,12 @@
 """A network namespace with the addresses of the servers and resolvers, and the servers in it."""
 
 import contextlib
-import os
 import pathlib
 import subprocess
 import sys
 
 import resolvers
+from runners import network
 
 HERE = pathlib.Path(__file__).resolve().parent
 SERVERS = ["198.51.100.1", "198.51.100.2", "192.0.2.1"]
@@ -15,14 +15,7 @@ VALIDATORS = {name: f"198.51.100.{21 + at}" for at, name in enumerate(resolvers.
 
 def enter(program, words, servers=SERVERS):
     """Runs a program again, in a network namespace of its own, unless it is in one."""
-    if "SHADOW_NAMESPACE" in os.environ:
-        return
-    addresses = [*servers, *VALIDATORS.values(), resolvers.DISTRIBUTOR]
-    add = "".join(f"ip address add {it}/32 dev lo; " for it in addresses)
-    user = [] if os.geteuid() == 0 else ["--map-root-user"]
-    os.environ["SHADOW_NAMESPACE"] = "1"
-    command = f"ip link set lo up; {add}exec \"$@\""
-    os.execvp("unshare", ["unshare", "--net", *user, "sh", "-ec", command, "sh", sys.executable, program, *words])
+    network.enter(program, words, [*servers, *VALIDATORS.values(), resolvers.DISTRIBUTOR])
 
 
 @contextlib.contextmanager

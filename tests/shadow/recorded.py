@@ -10,7 +10,7 @@ import re
 import subprocess
 import time
 
-from resolvers import Shadow
+from resolvers import Shadow, unanswered
 
 CONTENT = "protobuf:dnstap.Dnstap"
 
@@ -33,15 +33,7 @@ async def record(kind, folder, address, key, questions):
     resolver, file = kind(folder, address, key), folder / "frames"
     capture = Capture(resolver.folder, file)
     try:
-        await resolver.start()
-        await resolver.is_up()
-        gate = asyncio.Semaphore(20)
-
-        async def ask(question):
-            async with gate:
-                await resolver.client.ask(*question)
-
-        await asyncio.gather(*map(ask, questions))
+        await unanswered(resolver, questions)
         await asyncio.sleep(2)
     finally:
         resolver.end()

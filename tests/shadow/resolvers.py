@@ -13,6 +13,7 @@ import time
 sys.path.insert(0, str(pathlib.Path(__file__).resolve().parents[1] / "validators"))
 
 import validators
+from runners.programs import end
 from validators import Client
 
 DISTRIBUTOR = "198.51.100.30"
@@ -25,11 +26,11 @@ class RootKey:
         line = next(it.read_text() for it in folder.glob("K*.key") if " 257 3 " in it.read_text()).splitlines()[-1]
         self.algorithm, self.base64 = re.search(r"DNSKEY 257 3 (\d+) (.*)$", line).groups()
         self.base64 = self.base64.replace(" ", "")
-        tag, self.ds_algorithm, digest_type, digest = re.search(r"DS (\d+) (\d+) (\d+) (\S+)", anchor.read_text()).groups()
-        self.tag, self.digest = int(tag), bytes([0, 0, int(self.ds_algorithm), int(digest_type)]) + bytes.fromhex(digest)
+        tag, algorithm, kind, digest = re.search(r"DS (\d+) (\d+) (\d+) (\S+)", anchor.read_text()).groups()
+        self.data = int(tag).to_bytes(2, "big") + bytes([int(algorithm), int(kind)]) + bytes.fromhex(digest)
 
     def ds(self, _owner):
-        return self.digest
+        return self.data
 
 
 class Shadow:
@@ -182,15 +183,24 @@ addResponseAction(AllRule(), DnstapLogResponseAction("dnsdist", log))
 
     def end(self):
         if self.distributor:
-            self.distributor.terminate()
-            try:
-                self.distributor.wait(timeout=20)
-            except subprocess.TimeoutExpired:
-                self.distributor.kill()
+            end(self.distributor)
         super().end()
 
 
 ALL = {"unbound": Unbound, "named": Named, "knot": Knot, "powerdns": PowerDns}
+
+
+async def unanswered(resolver, questions):
+    """Starts a resolver and asks it all questions: how many had no answer."""
+    await resolver.start()
+    await resolver.is_up()
+    gate = asyncio.Semaphore(20)
+
+    async def ask(question):
+        async with gate:
+            return await resolver.client.ask(*question)
+
+    return sum(it is None for it in await asyncio.gather(*map(ask, questions)))
 
 
 async def asked(kind, folder, address, key, questions, program, anchor, more=(), is_validating=True, environment=None):
@@ -202,15 +212,7 @@ async def asked(kind, folder, address, key, questions, program, anchor, more=(),
     asks = resolver.asks or (() if is_validating else (f"--ask={address}@53",))
     shadow = Shadow(program, resolver.folder, anchor, (*asks, *more), environment)
     try:
-        await resolver.start()
-        await resolver.is_up()
-        gate = asyncio.Semaphore(20)
-
-        async def ask(question):
-            async with gate:
-                return await resolver.client.ask(*question)
-
-        missing = sum(it is None for it in await asyncio.gather(*map(ask, questions)))
+        missing = await unanswered(resolver, questions)
         await shadow.settled(len(questions) - missing)
         resolver.end()
         disagreements, counts = shadow.end()

@@ -2,11 +2,10 @@
 import os
 import pty
 import re
-import socket
 import subprocess
-import threading
 
-from servers import HOST, free_port
+from processes import HOST, free_port
+from relay import Relay
 
 
 def lost(answer, number):
@@ -22,36 +21,17 @@ def failed(answer, _number):
     return answer[:3] + bytes([answer[3] & 0xF0 | 2]) + answer[4:]
 
 
-class Between:
-    """A server that sends, over UDP, what it makes of the answers of another. It ends with the program."""
+class Between(Relay):
+    """A server that sends, over UDP, what it makes of the answers of another, by their numbers."""
 
     def __init__(self, server, sent):
-        self.server, self.sent, self.port = (server.host, server.port), sent, free_port()
-        self.udp = socket.socket(socket.AF_INET, socket.SOCK_DGRAM)
-        self.udp.bind((HOST, self.port))
-        self.tcp = socket.create_server((HOST, self.port))
-        for serve in (self.serve_udp, self.serve_tcp):
-            threading.Thread(target=serve, daemon=True).start()
+        super().__init__((server.host, server.port))
+        self.sent, self.number = sent, 0
 
-    def answer_of(self, query):
-        with socket.socket(socket.AF_INET, socket.SOCK_DGRAM) as it:
-            it.connect(self.server)
-            it.send(query)
-            return it.recv(65535)
-
-    def serve_udp(self):
-        number = 0
-        while True:
-            query, asker = self.udp.recvfrom(65535)
-            if sent := self.sent(self.answer_of(query), number):
-                self.udp.sendto(sent, asker)
-            number += 1
-
-    def serve_tcp(self):
-        while True:
-            with self.tcp.accept()[0] as it:
-                answer = self.answer_of(it.recv(65535)[2:])
-                it.sendall(len(answer).to_bytes(2, "big") + answer)
+    def send(self, answer, asker):
+        if sent := self.sent(answer, self.number):
+            self.udp.sendto(sent, asker)
+        self.number += 1
 
 
 def told_on_terminal(words):

@@ -7,7 +7,6 @@ usage: tests/trace/served.py make FOLDER     signs the zones; FOLDER/anchor, FOL
 import base64
 import json
 import pathlib
-import socket
 import sys
 import tempfile
 
@@ -16,13 +15,13 @@ sys.path[1:1] = [str(HERE.parent / it) for it in ("aliases", "walk", "shadow")]
 
 import asked
 from addresses import SERVERS
-from found import lead
+from found import led
 from plan import ZONES
 from questions import QUESTIONS
-from servers import Knot, Named, Nsd
+from servers import Knot, Named, Nsd, serve
 from tree import changed
-from wire import DNSKEY, DS, TYPES, name, text, wire
-from zone import Records
+from wire import DNSKEY, TYPES, name, text, wire
+from zone import ZoneOfLines
 from zones import sign
 
 KINDS = {"named": Named, "NSD": Nsd, "Knot": Knot}
@@ -38,32 +37,16 @@ WORDS = {"Records": "secure records", "NoType": "secure NODATA", "NoName": "secu
          "StarNoType": "secure NODATA", "Open": "insecure", "Alias": "Alias"}
 
 
-class Zone(Records):
-    """A zone, by the lines of its file."""
+class Zone(ZoneOfLines):
+    """A zone with its keys, and the name of its server."""
 
     def __init__(self, apex_text, lines, is_open):
-        rows = [(owner, *rest) for owner, _ttl, *rest in map(str.split, lines.splitlines())]
-        super().__init__(apex_text, "optout" if is_open else "other", rows)
-        self.server = self.named(rows[2][0])
-        if is_open:
-            self.left_out = {it for it in self.cuts if DS not in self.records[it]}
-            seen = [it for it in self.records if not any(above in self.left_out for above in self.above(it))]
-            self.names = {owner[at:] for owner in seen for at in range(len(owner) - len(self.apex) + 1)}
+        super().__init__(apex_text, lines, is_open)
+        self.server = self.named(self.rows[2][0])
 
     def data(self, rtype, fields):
-        match rtype:
-            case "A":
-                return socket.inet_aton(fields[0])
-            case "TXT":
-                return bytes([len(fields[0])]) + fields[0].encode()
-            case "DS":
-                tag, algorithm, digest = map(int, fields[:3])
-                return tag.to_bytes(2, "big") + bytes([algorithm, digest]) + bytes.fromhex("".join(fields[3:]))
-            case "DNSKEY":
-                return int(fields[0]).to_bytes(2, "big") + bytes(map(int, fields[1:3])) + base64.b64decode("".join(fields[3:]))
-            case "SOA":
-                numbers = (int(it).to_bytes(4, "big") for it in fields[2:])
-                return b"".join([wire(self.named(fields[0])), wire(self.named(fields[1])), *numbers])
+        if rtype == "DNSKEY":
+            return int(fields[0]).to_bytes(2, "big") + bytes(map(int, fields[1:3])) + base64.b64decode("".join(fields[3:]))
         return super().data(rtype, fields)
 
 
@@ -130,7 +113,7 @@ class Tree:
             word, zone, data = self.down(qname, rtype)
             if word != "Alias":
                 return said(word, through, data)
-            qname = name(lead(zone, qname).split(" ")[-1])
+            qname = led(zone, qname)[-1]
             if len(wire(qname)) > 255:
                 return said("secure YXDOMAIN", through, ())
             through.append(text(qname) or ".")
@@ -149,19 +132,13 @@ class Tree:
                 state = "right"
         return state, zone, ()
 
-    def serve(self):
+    def servers(self):
+        """The servers, as they are made."""
         logs = pathlib.Path(tempfile.mkdtemp(prefix="servers-", dir=self.folder))
         logs.chmod(0o755)
-        started = []
-        try:
-            for server, (kind, address) in SERVERS.items():
-                zones = [(name(apex), self.file(apex)) for apex, it in ZONES.items() if it.server == server]
-                started.append(KINDS[kind](logs / server, zones, address, 53))
-        except BaseException:
-            for it in started:
-                it.end()
-            raise
-        return started
+        for server, (kind, address) in SERVERS.items():
+            zones = [(name(apex), self.file(apex)) for apex, it in ZONES.items() if it.server == server]
+            yield KINDS[kind](logs / server, zones, address, 53)
 
 
 # What tests/walk has for these, by its last word, or in full.
@@ -215,15 +192,7 @@ def main(words):
     if words[:1] == ["make"] and len(words) == 2:
         Tree(words[1]).make()
     elif words[:1] == ["serve"] and len(words) == 2:
-        servers = Tree(words[1]).serve()
-        try:
-            for server in servers:
-                server.wait()
-            print(", ".join(sorted({it.version() for it in servers})), flush=True)
-            sys.stdin.read()
-        finally:
-            for server in servers:
-                server.end()
+        serve(Tree(words[1]).servers())
     else:
         sys.exit(__doc__.split("\n\n")[1])
 

@@ -14,6 +14,7 @@ import struct
 import typing
 
 import wire
+from runners.programs import by_stream
 from served import dotted
 from static import Static
 from wire import A, DS, NS, OPT, Record
@@ -42,13 +43,7 @@ class Relay(typing.NamedTuple):
             return await asyncio.wait_for(loop.sock_recv(it, 65535), PATIENCE)
 
     async def by_stream(self, octets):
-        reader, writer = await asyncio.open_connection(dotted(self.address), 53)
-        try:
-            writer.write(len(octets).to_bytes(2, "big") + octets)
-            length = int.from_bytes(await reader.readexactly(2), "big")
-            return await reader.readexactly(length)
-        finally:
-            writer.close()
+        return await by_stream((dotted(self.address), 53), octets)
 
 
 class Packed(typing.NamedTuple):

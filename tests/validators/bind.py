@@ -10,19 +10,12 @@ import wire
 from authority import Missing, packed
 from cases import Zoned
 from keys import ds_of
+from processes import end, run
 from wire import A, AAAA, DNSKEY, DS, NS, SOA
 from zones import LONG, octets
 
 ADDRESS = "127.0.0.1", 5300
 ALGORITHMS = {13: ["-a", "ECDSAP256SHA256"], 8: ["-a", "RSASHA256", "-b", "2048"]}
-
-
-def run(folder, *words):
-    how = {"cwd": folder, "stdin": subprocess.DEVNULL, "capture_output": True, "text": True, "timeout": 120}
-    ran = subprocess.run(words, **how)
-    if ran.returncode:
-        raise RuntimeError(f"{' '.join(map(str, words))}: {ran.stdout}{ran.stderr}")
-    return ran.stdout
 
 
 def line(owner, rtype, ttl, data):
@@ -149,12 +142,7 @@ controls {{ }};
 
     def end(self):
         if self.process:
-            self.process.terminate()
-            try:
-                self.process.wait(timeout=30)
-            except subprocess.TimeoutExpired:
-                self.process.kill()
-                self.process.wait()
+            end(self.process)
 
 
 @contextlib.contextmanager

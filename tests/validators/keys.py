@@ -2,26 +2,18 @@
 
 import base64
 import hashlib
-import math
-import random
 import struct
 
 from cryptography.hazmat.primitives import hashes, serialization
-from cryptography.hazmat.primitives.asymmetric import ec, padding, rsa, utils
+from cryptography.hazmat.primitives.asymmetric import ec, utils
 
 import wire
-
-RSA, ECDSA = 8, 13
-ZONE, POINT = 256, 257
-ORDER = 0xFFFFFFFF00000000FFFFFFFFFFFFFFFFBCE6FAADA7179E84F3B9CAC2FC632551
-SMALL = [n for n in range(3, 2000, 2) if all(n % d for d in range(3, math.isqrt(n) + 1, 2))]
-
-
-def octets_of(seed):
-    return hashlib.sha512(seed.encode()).digest()
+from maker.keys import ECDSA, ORDER, POINT, RSA, ZONE, Rsa, octets_of  # noqa: F401
 
 
 class Ecdsa:
+    """A key that OpenSSL can be given: that of the corpus signs by itself."""
+
     def __init__(self, seed):
         self.secret = ec.derive_private_key(int.from_bytes(octets_of(seed), "big") % (ORDER - 1) + 1, ec.SECP256R1())
         public = self.secret.public_key().public_numbers()
@@ -30,30 +22,6 @@ class Ecdsa:
     def sign(self, octets):
         r, s = utils.decode_dss_signature(self.secret.sign(octets, ec.ECDSA(hashes.SHA256())))
         return r.to_bytes(32, "big") + s.to_bytes(32, "big")
-
-
-class Rsa:
-    """2,048 bits, with the exponent 65,537."""
-
-    def __init__(self, seed):
-        drawn = random.Random(seed)
-        p, q = self.prime(drawn), self.prime(drawn)
-        private = pow(65537, -1, (p - 1) * (q - 1))
-        public = rsa.RSAPublicNumbers(65537, p * q)
-        halves = rsa.rsa_crt_dmp1(private, p), rsa.rsa_crt_dmq1(private, q), rsa.rsa_crt_iqmp(p, q)
-        self.secret = rsa.RSAPrivateNumbers(p, q, private, *halves, public).private_key()
-        self.public = b"\3\1\0\1" + (p * q).to_bytes(256, "big")
-
-    @staticmethod
-    def prime(drawn):
-        """A prime of 1,024 bits, the upper two of which are set."""
-        while True:
-            it = drawn.getrandbits(1024) | 3 << 1022 | 1
-            if all(it % d for d in SMALL) and (it - 1) % 65537 and all(pow(base, it - 1, it) == 1 for base in (2, 3, 5)):
-                return it
-
-    def sign(self, octets):
-        return self.secret.sign(octets, padding.PKCS1v15(), hashes.SHA256())
 
 
 def ds_of(owner, data):

@@ -4,16 +4,14 @@ import asyncio
 import ipaddress
 import pathlib
 import re
-import secrets
 import shutil
 import struct
-import subprocess
 import typing
 
 import wire
 from authority import FORWARD, ROOT, dotted
+from runners import programs
 
-PATIENCE = 20
 # In seconds, when a program is ended.
 ENDLESS = 60
 ALIASES = wire.CNAME, wire.DNAME
@@ -38,83 +36,22 @@ def heard(octets, rtype):
     return Heard(status, bool(message.flags & wire.AD), tuple(data), tuple(sorted(links)))
 
 
-def query(number, name, rtype):
-    """A question with EDNS, DO (RFC 3225) and AD (RFC 6840, 5.7)."""
-    header = struct.pack(">6H", number, wire.RD | wire.AD, 1, 0, 0, 1)
-    return header + name + struct.pack(">HH", rtype, 1) + b"\0" + struct.pack(">HHIH", wire.OPT, 4096, 0x8000, 0)
+class Client(programs.Client):
+    patience, times = 20, 2
+    rests = 0.5, 1, 2
 
 
-class Client(asyncio.DatagramProtocol):
-    """Asks a resolver; over TCP what it cuts off."""
-
-    def __init__(self, address):
-        self.address, self.waiting = address, {}
-
-    async def open(self):
-        loop = asyncio.get_running_loop()
-        self.transport, _ = await loop.create_datagram_endpoint(lambda: self, remote_addr=self.address)
-
-    def datagram_received(self, data, _peer):
-        waiting = self.waiting.pop(int.from_bytes(data[:2], "big"), None)
-        if waiting and not waiting.done():
-            waiting.set_result(data)
-
-    def error_received(self, _error):
-        pass
-
-    async def ask(self, name, rtype):
-        """The octets of the answer; none, where none came."""
-        for _ in range(2):
-            number = next(it for it in iter(lambda: secrets.randbelow(1 << 16), None) if it not in self.waiting)
-            self.waiting[number] = asyncio.get_running_loop().create_future()
-            self.transport.sendto(query(number, name, rtype))
-            try:
-                answer = await asyncio.wait_for(self.waiting[number], PATIENCE)
-            except asyncio.TimeoutError:
-                self.waiting.pop(number, None)
-                continue
-            if not int.from_bytes(answer[2:4], "big") & wire.TC:
-                return answer
-            return await self.ask_by_stream(name, rtype)
-        return None
-
-    async def ask_by_stream(self, name, rtype):
-        """Asks over TCP, again where a connection is closed, since resolvers take few at a time."""
-        for pause in (0.5, 1, 2):
-            try:
-                return await asyncio.wait_for(self.asked_by_stream(query(1, name, rtype)), PATIENCE)
-            except (OSError, asyncio.IncompleteReadError, asyncio.TimeoutError):
-                await asyncio.sleep(pause)
-        return None
-
-    async def asked_by_stream(self, octets):
-        reader, writer = await asyncio.open_connection(*self.address)
-        try:
-            writer.write(len(octets).to_bytes(2, "big") + octets)
-            length = int.from_bytes(await reader.readexactly(2), "big")
-            return await reader.readexactly(length)
-        finally:
-            writer.close()
-
-
-class Validator:
+class Validator(programs.Validator):
     """A validator: `width` questions are open at a time, where it refuses answers `wide`. It is told of the root's key by its
     DNSKEY data."""
 
     width = wide = 30
-    package = ""
 
     def __init__(self, folder, address, root_key):
-        self.folder = pathlib.Path(folder) / self.NAME.replace(" ", "-")
-        self.folder.mkdir()
-        self.address, self.key = address, root_key
-        self.process = None
-
-    async def start(self):
-        pass
-
-    def end(self):
-        pass
+        folder = pathlib.Path(folder) / self.NAME.replace(" ", "-")
+        folder.mkdir()
+        root = programs.Root("a.root.", dotted(ROOT), root_key.algorithm, root_key.base64, root_key.ds(b"\0"))
+        super().__init__(folder, address, root)
 
     @staticmethod
     def in_place_of(question, _zone):
@@ -126,178 +63,37 @@ class Validator:
         """The records of aliases as it shows them."""
         return links
 
-    def write(self, name, text):
-        (self.folder / name).write_text(text)
-        return self.folder / name
 
-    def anchor(self):
-        return f". 3600 IN DNSKEY 257 3 {self.key.algorithm} {self.key.base64}\n"
-
-    def version(self):
-        ran = subprocess.run(["dpkg-query", "-W", "-f", "${Version}", self.package], capture_output=True, text=True)
-        return f"{self.NAME} {re.sub('^[0-9]+:', '', ran.stdout)}"
-
-
-class Resolver(Validator):
-    async def start(self):
-        self.write("hints", f". 3600 NS a.root.\na.root. 3600 A {dotted(ROOT)}\n")
-        self.write("anchor", self.anchor())
-        self.write(self.FILE, self.configuration())
-        with open(self.folder / "log", "wb") as log:
-            how = {"stdin": subprocess.DEVNULL, "stdout": log, "stderr": log}
-            self.process = subprocess.Popen(self.command(), cwd=self.folder, **how)
-        self.client = Client((self.address, 53))
-        await self.client.open()
+class Resolver(Validator, programs.Resolver):
+    client_of = Client
 
     async def ask(self, name, rtype):
         answer = await self.client.ask(name, rtype)
         return heard(answer, rtype) if answer else Heard("no answer", False, ())
 
-    async def is_up(self):
-        """Waits until it answers."""
-        for _ in range(300):
-            self.client.transport.sendto(query(1, b"\0", wire.SOA))
-            self.client.waiting[1] = asyncio.get_running_loop().create_future()
-            try:
-                answer = await asyncio.wait_for(self.client.waiting[1], 0.5)
-                if answer[3] & 15 == 0:
-                    return
-            except asyncio.TimeoutError:
-                pass
-            await asyncio.sleep(0.2)
-        raise TimeoutError(f"{self.NAME} does not answer: see {self.folder}/log")
 
-    def end(self):
-        if self.process:
-            self.process.terminate()
-            try:
-                self.process.wait(timeout=20)
-            except subprocess.TimeoutExpired:
-                self.process.kill()
+class Unbound(Resolver, programs.Unbound):
+    more = [
+        'logfile: ""', "num-queries-per-thread: 2048", "outgoing-range: 4096", "msg-cache-size: 100m", "rrset-cache-size: 200m",
+        "key-cache-size: 20m",
+    ]
 
 
-class Unbound(Resolver):
-    NAME, FILE, package = "unbound", "unbound.conf", "unbound"
-
-    def command(self):
-        return ["unbound", "-d", "-c", self.folder / self.FILE]
-
-    def configuration(self):
-        return f"""
-server:
-    interface: {self.address}
-    outgoing-interface: {self.address}
-    access-control: 0.0.0.0/0 allow
-    directory: "{self.folder}"
-    chroot: ""
-    username: ""
-    pidfile: ""
-    use-syslog: no
-    logfile: ""
-    do-daemonize: no
-    do-ip6: no
-    root-hints: "{self.folder}/hints"
-    trust-anchor-file: "{self.folder}/anchor"
-    module-config: "validator iterator"
-    val-log-level: 2
-    num-queries-per-thread: 2048
-    outgoing-range: 4096
-    infra-cache-max-rtt: 1000
-    msg-cache-size: 100m
-    rrset-cache-size: 200m
-    key-cache-size: 20m
-    val-bogus-ttl: 1
-remote-control:
-    control-enable: no
-"""
+class Named(Resolver, programs.Named):
+    pass
 
 
-class Named(Resolver):
-    NAME, FILE, package = "named", "named.conf", "bind9"
-
-    def command(self):
-        return ["named", "-g", "-n", "1", "-c", self.folder / self.FILE]
-
-    def configuration(self):
-        return f"""
-options {{
-    directory "{self.folder}";
-    listen-on port 53 {{ {self.address}; }};
-    listen-on-v6 {{ none; }};
-    query-source address {self.address};
-    pid-file none;
-    session-keyfile none;
-    recursion yes;
-    allow-query {{ any; }};
-    dnssec-validation yes;
-    empty-zones-enable no;
-    recursive-clients 10000;
-}};
-controls {{ }};
-trust-anchors {{ . static-key 257 3 {self.key.algorithm} "{self.key.base64}"; }};
-zone "." {{ type hint; file "{self.folder}/hints"; }};
-"""
-
-
-class Knot(Resolver):
-    NAME, FILE, package = "Knot Resolver", "kresd.conf", "knot-resolver"
+class Knot(Resolver, programs.KnotResolver):
+    cache = 500
 
     def end(self):
         super().end()
         shutil.rmtree(self.folder / "cache", ignore_errors=True)
 
-    def command(self):
-        return ["kresd", "-n", "-q", "-c", self.folder / self.FILE, self.folder]
 
-    def configuration(self):
-        return f"""
-net.listen('{self.address}', 53, {{ kind = 'dns' }})
-net.ipv6 = false
-net.outgoing_v4('{self.address}')
-modules.unload('ta_update')
-modules.unload('ta_signal_query')
-modules.unload('priming')
-modules.unload('detect_time_skew')
-modules.unload('detect_time_jump')
-trust_anchors.add_file('{self.folder}/anchor', true)
-modules = {{ 'hints > iterate' }}
-hints.root({{ ['a.root.'] = {{ '{dotted(ROOT)}' }} }})
-cache.open(500 * MB, 'lmdb://{self.folder}/cache')
-cache.min_ttl(0)
-"""
-
-
-class PowerDns(Resolver):
-    NAME, FILE, package = "PowerDNS", "recursor.conf", "pdns-recursor"
-
-    def command(self):
-        return ["pdns_recursor", f"--config-dir={self.folder}"]
-
-    def configuration(self):
-        digest = self.key.ds(b"\0")
-        ds = f"{self.key.tag} {digest[2]} {digest[3]} {digest[4:].hex()}"
-        self.write("anchor.lua", f'clearTA(".")\naddTA(".", "{ds}")\n')
-        return f"""
-local-address={self.address}
-local-port=53
-query-local-address={self.address}
-allow-from=0.0.0.0/0
-config-dir={self.folder}
-socket-dir={self.folder}
-hint-file={self.folder}/hints
-lua-config-file={self.folder}/anchor.lua
-dont-query=
-dnssec=validate
-daemon=no
-disable-syslog=yes
-threads=1
-minimum-ttl-override=0
-max-cache-bogus-ttl=1
-packetcache-servfail-ttl=1
-max-rrsigs-per-record=20
-max-signature-validations-per-query=1000
-security-poll-suffix=
-"""
+class PowerDns(Resolver, programs.PowerDns):
+    NAME = "PowerDNS"
+    more = ["max-rrsigs-per-record=20", "max-signature-validations-per-query=1000"]
 
 
 class Program(Validator):
@@ -320,17 +116,23 @@ class Program(Validator):
             return ""
         return output.decode(errors="replace")
 
+    async def start(self):
+        pass
+
     async def is_up(self):
+        pass
+
+    def end(self):
         pass
 
 
 class Delv(Program):
     """It does not end where a name that a DNAME makes is too long, and is not asked for such names."""
 
-    NAME, package = "delv", "bind9-dnsutils"
+    NAME, PACKAGE = "delv", "bind9-dnsutils"
 
     async def start(self):
-        self.write("anchor", f'trust-anchors {{ . static-key 257 3 {self.key.algorithm} "{self.key.base64}"; }};\n')
+        self.write("anchor", f'trust-anchors {{ . static-key 257 3 {self.root.algorithm} "{self.root.public}"; }};\n')
 
     def words(self, name, rtype):
         how = [f"@{dotted(FORWARD)}", "-b", self.address, "-a", "anchor", "+root=.", "+unknownformat"]
@@ -374,12 +176,12 @@ class Drill(Program):
     not tell NXDOMAIN from NODATA: both are `denied`. It follows no aliases, and is asked for these by their own type, from signatures
     up for a CNAME, since a wildcard's answers for names above."""
 
-    NAME, package = "drill", "ldnsutils"
+    NAME, PACKAGE = "drill", "ldnsutils"
     UPWARD = wire.DS, wire.CNAME
 
     async def start(self):
         self.write("anchor", self.anchor())
-        self.write("hints", f". 3600 IN NS a.root.\na.root. 3600 IN A {dotted(ROOT)}\n")
+        self.write("hints", self.hints())
 
     @staticmethod
     def in_place_of(question, zone):

@@ -9,7 +9,7 @@ from bench import STATES
 from bind import ask, line
 from keys import POINT
 from served import dotted
-from wire import A, CNAME, DNSKEY, DS, NSEC, NSEC3, NSEC3PARAM, RRSIG, SRV, Record
+from wire import A, CNAME, DNSKEY, DS, NSEC, NSEC3, NSEC3PARAM, RRSIG, SRV
 
 
 def questions(zone):

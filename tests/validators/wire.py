@@ -8,7 +8,9 @@ import struct
 import sys
 import typing
 
-sys.path.append(str(pathlib.Path(__file__).resolve().parent.parent / "rollovers"))
+TOP = pathlib.Path(__file__).resolve().parents[2]
+# The corpus has what starts resolvers, and keys of seeds.
+sys.path += [str(TOP / it) for it in ("tests/rollovers", "tests/aliases", "corpus")]
 
 from messages import key_tag, wire  # noqa: F401
 

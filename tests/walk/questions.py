@@ -2,8 +2,8 @@
 
 import typing
 
-from wire import DNSKEY, DS, name, text, wire
-from zones import DENIAL_TTL, DS_TTL, SERVED, UNSIGNED, UNTIL, ZONES, above, ttls_at
+from wire import DNSKEY, DS, name, wire
+from zones import DENIAL_TTL, DS_TTL, SERVED, UNSIGNED, UNTIL, above, ttls_at
 
 A, NS, CNAME, SOA, MX, TXT, AAAA, DNAME = 1, 2, 5, 6, 15, 16, 28, 39
 
@@ -266,13 +266,24 @@ def replay(*questions):
 BEHIND = (*LIMITED, *OCTETS, *replay(*REPLAYED[:1]))
 # An answer about something else tells nothing of a name, so that DS is asked for at the names between: down to one that does not
 # exist, and no further; past one that exists without records, until an answer is not there. `{octets:ZONE NAME TYPE}` stands for
-# those of another message: the root's is a referral to the same zone. These lines are the last, since they hand in more messages.
+# those of another message: the root's is a referral to the same zone; `{forged:ZONE NAME TYPE}` for those with the last octet of the
+# last signature altered, which is that of the NSEC record. These lines are the last, since they hand in more messages.
 BETWEEN = (
     ("# An answer about something else, and DS at the names between: none is asked for below a name that does not exist.", None),
     ("message . a.b.none.test 1 {octets:. none.test 1}", None),
     ("message test a.b.none.test 1 {octets:test www.test 1}", None),
     ("resolve a.b.none.test 1", f"bogus test a.b.none.test 1 NotProven; {count_of('none.test') + 1} messages"),
+    ("octets a.b.none.test 1", f"bogus test a.b.none.test 1 NotProven; {count_of('none.test') + 1} messages; EDE 12"),
     ("message . a.mail.deep.test 1 {octets:. none.test 1}", None),
     ("message test a.mail.deep.test 1 {octets:test www.test 1}", None),
     ("resolve a.mail.deep.test 1", f"wants test a.mail.deep.test 43; {count_of('none.test') + 2} messages"),
+    ("# A denial of another name: it is incomplete, and bogus where its signature fails. The answer for DS denies the name.", None),
+    ("message . nope.test 1 {octets:. none.test 1}", None),
+    ("message test nope.test 1 {octets:test deep.test 1}", None),
+    ("message test nope.test 43 {octets:test none.test 1}", None),
+    ("octets nope.test 1", f"incomplete denial test nope.test 1; {count_of('none.test') + 1} messages; EDE 12"),
+    ("message . nose.test 1 {octets:. none.test 1}", None),
+    ("message test nose.test 1 {forged:test deep.test 1}", None),
+    ("message test nose.test 43 {octets:test none.test 1}", None),
+    ("octets nose.test 1", f"bogus test nose.test 1 NotProven; {count_of('none.test') + 1} messages; EDE 6"),
 )

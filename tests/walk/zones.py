@@ -1,8 +1,8 @@
 """A tree of zones, and how each is signed."""
 
-import subprocess
 import typing
 
+from processes import run
 from wire import name
 
 MOMENT = 1800000000
@@ -75,13 +75,6 @@ def owner_of(text, origin):
 def cuts_of(apex):
     """The zones that a zone delegates."""
     return [it for it in ZONES if it not in (".", apex) and above(it)[-2] == apex]
-
-
-def run(folder, *words):
-    ran = subprocess.run([str(it) for it in words], cwd=folder, stdin=subprocess.DEVNULL, capture_output=True, text=True)
-    if ran.returncode:
-        raise RuntimeError(f"{' '.join(map(str, words))}: {ran.stdout}{ran.stderr}")
-    return ran.stdout
 
 
 class How(typing.NamedTuple):
