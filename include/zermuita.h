@@ -112,7 +112,7 @@ enum zermuita_reply {
      * One more refusal, with `ede` 12. Nothing is proved, and the answer is not bogus: records of it verify, but not all that the RFCs
      * ask for are there. docs/use/CALLING.md has the valid answers that bring it, and what to do then.
      */
-    ZERMUITA_INCOMPLETE_DENIAL = 51 /* denial records verify, but one that the proof needs is missing */
+    ZERMUITA_INCOMPLETE_DENIAL = 51 /* records verify, but a denial record that the proof needs is missing */
 };
 
 /* Octets. Where there are none, `len` is 0, and `data` may be null. */

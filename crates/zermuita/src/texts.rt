@@ -86,6 +86,6 @@ fn text_of_code(code: ReplyCode) -> &'static [u8]
         ReplyCode::TooManyMessages =>
             b"ZERMUITA_TOO_MANY_MESSAGES: more messages are wanted than the evidence may have\0",
         ReplyCode::IncompleteDenial =>
-            b"ZERMUITA_INCOMPLETE_DENIAL: denial records verify, but one that the proof needs is missing\0",
+            b"ZERMUITA_INCOMPLETE_DENIAL: records verify, but a denial record that the proof needs is missing\0",
     }
 }
