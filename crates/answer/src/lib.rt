@@ -8,7 +8,7 @@
 pub mod simulation;
 
 pub use crate::simulation::simulate;
-pub use answer_events::event::{Act, Event, KeyCall};
+pub use answer_events::event::{Act, AddKey, Event, KeyCall};
 pub use answer_events::key_kind::KeyKind;
 pub use answer_judge::judging::is_allowed;
 pub use answer_judge::{

@@ -2,6 +2,7 @@
 use Rattle.std.specs.Prelude.{ℕ, Bool, List, map, Option, None, string_bytes}
 use Rattle.keyset.specs.KeyState.{Reference, text_of, is_available}
 use Rattle.keyset_rolls.specs.declared.rolls.RollType.{RollType}
+use Rattle.answer_events.specs.declared.event.AddKey.{AddKey}
 use Rattle.answer_events.specs.declared.event.KeyCall.{KeyCall}
 use Rattle.answer_events.specs.declared.event.KeyCall.TheVariants as call
 use Rattle.answer_events.specs.declared.key_kind.KeyKind.{KeyKind}
@@ -37,11 +38,15 @@ pub data Call : Type 0 where
   Wait2 : RollType → Call
   Finish : RollType → Call
 
+-- an add of a kind of key
+abbrev pub add_of : KeyKind → AddKey → Call
+add_of kind k = Add kind (string_bytes k.pubref) (text_of k.privref) k.algorithm k.public_key.items (is_available k.available)
+
 -- a key call by its arguments
 abbrev pub call_of : KeyCall → Call
-call_of (call.AddKeyKsk pubref privref algorithm key available) = Add Ksk (string_bytes pubref) (text_of privref) algorithm key.items (is_available available)
-call_of (call.AddKeyZsk pubref privref algorithm key available) = Add Zsk (string_bytes pubref) (text_of privref) algorithm key.items (is_available available)
-call_of (call.AddKeyCsk pubref privref algorithm key available) = Add Csk (string_bytes pubref) (text_of privref) algorithm key.items (is_available available)
+call_of (call.AddKeyKsk key) = add_of Ksk key
+call_of (call.AddKeyZsk key) = add_of Zsk key
+call_of (call.AddKeyCsk key) = add_of Csk key
 call_of (call.AddPublicKey pubref algorithm key available) = Add Include (string_bytes pubref) None algorithm key.items available
 call_of (call.SetDecoupled pubref value) = Set (string_bytes pubref) (Decoupled value)
 call_of (call.SetPresent pubref value) = Set (string_bytes pubref) (Present value)

@@ -8,9 +8,9 @@ use Rattle.answer_events.specs.declared.event.KeyCall.TheVariants.{AddKeyKsk, Ad
 
 -- the octets of the key that a call adds, 0 for other calls
 abbrev pub added_by_call : KeyCall → ℕ
-added_by_call (AddKeyKsk pubref privref algorithm key at_hand) = length key.items
-added_by_call (AddKeyZsk pubref privref algorithm key at_hand) = length key.items
-added_by_call (AddKeyCsk pubref privref algorithm key at_hand) = length key.items
+added_by_call (AddKeyKsk key) = length key.public_key.items
+added_by_call (AddKeyZsk key) = length key.public_key.items
+added_by_call (AddKeyCsk key) = length key.public_key.items
 added_by_call (AddPublicKey pubref algorithm key at_hand) = length key.items
 added_by_call _ = 0
 

@@ -86,33 +86,46 @@ impl fmt::Debug for Act {
     }
 }
 
+/// What a call that adds a key is handed of it. A key's octets are at most 65,531.
+#[derive(Debug, Drop)]
+pub struct AddKey {
+    pub pubref: String,
+    pub privref: Option<String>,
+    pub algorithm: SecurityAlgorithm,
+    pub public_key: Vec<u8>,
+    pub available: Available,
+}
+
+impl AddKey {
+    /// An available key, without a private reference.
+    pub fn new(pubref: String, algorithm: SecurityAlgorithm, public_key: Vec<u8>) -> Self
+        ensures { result ≡ record {
+          pubref = pubref;
+          privref = None;
+          algorithm = algorithm;
+          public_key = public_key;
+          available = Available.Available;
+        } }
+    {
+        AddKey {
+            pubref,
+            privref: None,
+            algorithm,
+            public_key,
+            available: Available::Available,
+        }
+    }
+}
+
 /// A call on the keys of a zone, with its arguments. A key's octets are at most 65,531.
 #[derive(Debug, Drop)]
 pub enum KeyCall {
     /// Adds a key signing key.
-    AddKeyKsk {
-        pubref: String,
-        privref: Option<String>,
-        algorithm: SecurityAlgorithm,
-        public_key: Vec<u8>,
-        available: Available,
-    },
+    AddKeyKsk(AddKey),
     /// Adds a zone signing key.
-    AddKeyZsk {
-        pubref: String,
-        privref: Option<String>,
-        algorithm: SecurityAlgorithm,
-        public_key: Vec<u8>,
-        available: Available,
-    },
+    AddKeyZsk(AddKey),
     /// Adds a key that signs both, keys and zone.
-    AddKeyCsk {
-        pubref: String,
-        privref: Option<String>,
-        algorithm: SecurityAlgorithm,
-        public_key: Vec<u8>,
-        available: Available,
-    },
+    AddKeyCsk(AddKey),
     /// Adds a key of another owner, which signs nothing here.
     AddPublicKey {
         pubref: String,
@@ -206,27 +219,9 @@ impl KeyCall {
             call_of result ≡ Add kind (string_bytes pubref) None algorithm octets true }
     {
         match kind {
-            KeyKind::Ksk => KeyCall::AddKeyKsk {
-                pubref,
-                privref: None,
-                algorithm,
-                public_key,
-                available: Available::Available,
-            },
-            KeyKind::Zsk => KeyCall::AddKeyZsk {
-                pubref,
-                privref: None,
-                algorithm,
-                public_key,
-                available: Available::Available,
-            },
-            KeyKind::Csk => KeyCall::AddKeyCsk {
-                pubref,
-                privref: None,
-                algorithm,
-                public_key,
-                available: Available::Available,
-            },
+            KeyKind::Ksk => KeyCall::AddKeyKsk(AddKey::new(pubref, algorithm, public_key)),
+            KeyKind::Zsk => KeyCall::AddKeyZsk(AddKey::new(pubref, algorithm, public_key)),
+            KeyKind::Csk => KeyCall::AddKeyCsk(AddKey::new(pubref, algorithm, public_key)),
             KeyKind::Include => KeyCall::AddPublicKey {
                 pubref,
                 algorithm,

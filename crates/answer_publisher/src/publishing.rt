@@ -14,7 +14,7 @@ ghost use Rattle.answer_zone.specs.Questions.{IsPlain};
 ghost use Rattle.answer_shared.specs.ModeView.{mode_of};
 ghost use Rattle.messages.specs.HandedRr.{handed_of};
 ghost use Rattle.keyset.specs.KeyState.{text_of, is_available};
-ghost use Rattle.answer_events.specs.Calls.{Decoupled, Present, Signer, AtParent, Visible, DsVisible, RrsigVisible, Stale};
+ghost use Rattle.answer_events.specs.Calls.{add_of, Decoupled, Present, Signer, AtParent, Visible, DsVisible, RrsigVisible, Stale};
 ghost use Rattle.answer_publisher_keys.specs.Bindings.{no_keys, dnskey_at, dnskey_for, ds_set, cds_set, cdnskey_set, is_bound_away, published, dnskeys, keys_by_tag, Add, Set, Delete, Start, Report1, Wait1, Report2, Wait2, Finish};
 ghost use Rattle.answer_publisher_keys.specs.KeyCalls.{Acts, Changes};
 ghost use Rattle.answer_publisher.specs.Publishing.{digest_at};
@@ -26,6 +26,7 @@ ghost use Rattle.answer_publisher.specs.World.{AnswersKeysQuestion, AnswersQuest
 use crate::compose::compose_answer;
 use crate::fault::{AnswerFault, KeyFault, ZoneFault};
 use crate::signing::{SignatureTerms, is_for_parent};
+use answer_events::event::AddKey;
 use answer_events::key_kind::{KeyKind, availability};
 use answer_publisher_keys::keys::{NewKey, Publication, ZoneKeys};
 use answer_scheme::error::SchemeError;
@@ -432,15 +433,14 @@ impl<'a, S: Scheme, H: Nsec3Hasher> Publisher<'a, S, H> {
             Changes digests call creation_ts self.old.keys self.new.keys result }
         ensures rest { self.new ≡ record self.old { keys = self.new.keys } }
     {
-        self.add_key(
-            KeyKind::Ksk,
+        let key = AddKey {
             pubref,
             privref,
             algorithm,
             public_key,
-            creation_ts,
             available,
-        )
+        };
+        self.add_key(KeyKind::Ksk, key, creation_ts)
     }
 
     /// Adds a zone signing key of these octets, at most 65,531 of them.
@@ -461,15 +461,14 @@ impl<'a, S: Scheme, H: Nsec3Hasher> Publisher<'a, S, H> {
             Changes digests call creation_ts self.old.keys self.new.keys result }
         ensures rest { self.new ≡ record self.old { keys = self.new.keys } }
     {
-        self.add_key(
-            KeyKind::Zsk,
+        let key = AddKey {
             pubref,
             privref,
             algorithm,
             public_key,
-            creation_ts,
             available,
-        )
+        };
+        self.add_key(KeyKind::Zsk, key, creation_ts)
     }
 
     /// Adds a key that signs both, keys and zone, of these octets, at most 65,531 of them.
@@ -490,15 +489,14 @@ impl<'a, S: Scheme, H: Nsec3Hasher> Publisher<'a, S, H> {
             Changes digests call creation_ts self.old.keys self.new.keys result }
         ensures rest { self.new ≡ record self.old { keys = self.new.keys } }
     {
-        self.add_key(
-            KeyKind::Csk,
+        let key = AddKey {
             pubref,
             privref,
             algorithm,
             public_key,
-            creation_ts,
             available,
-        )
+        };
+        self.add_key(KeyKind::Csk, key, creation_ts)
     }
 
     /// Adds a key of another owner, which is to be in the DNSKEY RRset and signs nothing here, of
@@ -518,38 +516,36 @@ impl<'a, S: Scheme, H: Nsec3Hasher> Publisher<'a, S, H> {
             Changes digests call creation_ts self.old.keys self.new.keys result }
         ensures rest { self.new ≡ record self.old { keys = self.new.keys } }
     {
-        self.add_key(
-            KeyKind::Include,
+        let key = AddKey {
             pubref,
-            None,
+            privref: None,
             algorithm,
             public_key,
-            creation_ts,
-            availability(available),
-        )
+            available: availability(available),
+        };
+        self.add_key(KeyKind::Include, key, creation_ts)
     }
 
-    /// Adds a key of a kind, of these octets, at most 65,531 of them. Of a key of another owner no
-    /// private reference is kept. Whether a reference is bound to another key is known before any
-    /// memory is taken.
+    /// Adds a key of a kind. Of a key of another owner no private reference is kept. Whether a
+    /// reference is bound to another key is known before any memory is taken.
     pub fn add_key(
         &mut self,
         kind: KeyKind,
-        pubref: String,
-        privref: Option<String>,
-        algorithm: SecurityAlgorithm,
-        public_key: Vec<u8>,
+        key: AddKey,
         creation_ts: UnixTime,
-        available: Available,
     ) -> Result<(), KeyFault>
-        requires { length public_key.items ≤ 65531 }
-        ensures keys { let at_hand = is_available available in
-            let private = text_of privref in let octets = public_key.items in
-            let call = Add kind (string_bytes pubref) private algorithm octets at_hand in
-            let digests = digests S.digest_of self.old in
-            Changes digests call creation_ts self.old.keys self.new.keys result }
+        requires { length key.public_key.items ≤ 65531 }
+        ensures keys { let digests = digests S.digest_of self.old in
+            Changes digests (add_of kind key) creation_ts self.old.keys self.new.keys result }
         ensures rest { self.new ≡ record self.old { keys = self.new.keys } }
     {
+        let AddKey {
+            pubref,
+            privref,
+            algorithm,
+            public_key,
+            available,
+        } = key;
         if self.is_bound_away(pubref.as_str(), kind, algorithm, &public_key) {
             return Err(KeyFault::ReferenceBound);
         }

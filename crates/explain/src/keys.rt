@@ -2,7 +2,9 @@
 
 use answer::keyset::{Error, KeySet, RollState};
 use answer::names::ToName;
-use answer::{Available, Dnskey, KeyCall, KeyKind, Name, RollType, SecurityAlgorithm, UnixTime};
+use answer::{
+    AddKey, Available, Dnskey, KeyCall, KeyKind, Name, RollType, SecurityAlgorithm, UnixTime,
+};
 use std::alloc::{AllocError, Global};
 use std::time::Duration;
 
@@ -54,24 +56,9 @@ impl Keys {
 
     fn made(&mut self, call: &KeyCall, at: &UnixTime) -> Result<(), Error> {
         match call {
-            KeyCall::AddKeyKsk {
-                pubref,
-                algorithm,
-                public_key,
-                ..
-            } => { self.add(KeyKind::Ksk, pubref, *algorithm, public_key, at) }
-            KeyCall::AddKeyZsk {
-                pubref,
-                algorithm,
-                public_key,
-                ..
-            } => { self.add(KeyKind::Zsk, pubref, *algorithm, public_key, at) }
-            KeyCall::AddKeyCsk {
-                pubref,
-                algorithm,
-                public_key,
-                ..
-            } => { self.add(KeyKind::Csk, pubref, *algorithm, public_key, at) }
+            KeyCall::AddKeyKsk(key) => self.add_key(KeyKind::Ksk, key, at),
+            KeyCall::AddKeyZsk(key) => self.add_key(KeyKind::Zsk, key, at),
+            KeyCall::AddKeyCsk(key) => self.add_key(KeyKind::Csk, key, at),
             KeyCall::AddPublicKey {
                 pubref,
                 algorithm,
@@ -101,6 +88,10 @@ impl Keys {
             _ => Vec::new(self.alloc),
         };
         Ok(())
+    }
+
+    fn add_key(&mut self, kind: KeyKind, key: &AddKey, at: &UnixTime) -> Result<(), Error> {
+        self.add(kind, &key.pubref, key.algorithm, &key.public_key, at)
     }
 
     /// Adds an available key.

@@ -1,28 +1,19 @@
 //! Calls on the keys of a zone, as values.
-ghost use Rattle.std.specs.Prelude.{◌≡◌, ◌≤◌, IfErr, IfOk, length, string_bytes};
-ghost use Rattle.keyset.specs.KeyState.{is_available, text_of};
-ghost use Rattle.answer_events.specs.Calls.{call_of};
+ghost use Rattle.std.specs.Prelude.{◌≡◌, ◌≤◌, IfErr, IfOk, None, length, string_bytes};
+ghost use Rattle.answer_events.specs.Calls.{add_of, call_of};
 ghost use Rattle.answer_events.specs.Events.{added_by_call};
 ghost use Rattle.answer_publisher_keys.specs.Bindings.{Add, dnskey_for, is_bound_away};
-ghost use Rattle.answer_publisher_keys.specs.KeyCalls.{Acts, RefusesAhead};
+ghost use Rattle.answer_publisher_keys.specs.KeyCalls.{Acts, Changes, RefusesAhead};
 ghost use Rattle.answer_publisher.specs.World.{digests};
 
 use crate::fault::KeyFault;
 use crate::publishing::Publisher;
-use answer_events::event::KeyCall;
-use answer_events::key_kind::{KeyKind, availability};
+use answer_events::event::{AddKey, KeyCall};
+use answer_events::key_kind::KeyKind;
 use answer_scheme::scheme::Scheme;
 use denial_nsec3_hash::hasher::Nsec3Hasher;
-use keyset::{Action, Available, UnixTime};
+use keyset::{Action, UnixTime};
 use numbers::algorithm::SecurityAlgorithm;
-
-/// A key that is to be added, copied from its call.
-#[derive(Drop)]
-struct KeyCopy {
-    pubref: String,
-    privref: Option<String>,
-    public_key: Vec<u8>,
-}
 
 impl<'a, S: Scheme, H: Nsec3Hasher> Publisher<'a, S, H> {
     /// Makes a call on the keys at a moment: that of its name, with its arguments. Only a call that
@@ -34,173 +25,95 @@ impl<'a, S: Scheme, H: Nsec3Hasher> Publisher<'a, S, H> {
         ensures rest { self.new ≡ record self.old { keys = self.new.keys } }
     {
         match call {
-            KeyCall::AddKeyKsk {
-                pubref,
-                privref,
-                algorithm,
-                public_key,
-                available,
-            } => self.add_copy(
-                KeyKind::Ksk,
-                pubref.as_str(),
-                privref,
-                *algorithm,
-                public_key,
-                *available,
-                at,
-            ),
-            KeyCall::AddKeyZsk {
-                pubref,
-                privref,
-                algorithm,
-                public_key,
-                available,
-            } => self.add_copy(
-                KeyKind::Zsk,
-                pubref.as_str(),
-                privref,
-                *algorithm,
-                public_key,
-                *available,
-                at,
-            ),
-            KeyCall::AddKeyCsk {
-                pubref,
-                privref,
-                algorithm,
-                public_key,
-                available,
-            } => self.add_copy(
-                KeyKind::Csk,
-                pubref.as_str(),
-                privref,
-                *algorithm,
-                public_key,
-                *available,
-                at,
-            ),
+            KeyCall::AddKeyKsk(key) => self.add_copy(KeyKind::Ksk, key, at)?,
+            KeyCall::AddKeyZsk(key) => self.add_copy(KeyKind::Zsk, key, at)?,
+            KeyCall::AddKeyCsk(key) => self.add_copy(KeyKind::Csk, key, at)?,
             KeyCall::AddPublicKey {
                 pubref,
                 algorithm,
                 public_key,
                 available,
-            } => self.add_copy(
-                KeyKind::Include,
-                pubref.as_str(),
-                &None,
-                *algorithm,
-                public_key,
-                availability(*available),
-                at,
-            ),
-            KeyCall::SetDecoupled { pubref, value } => {
-                self.set_decoupled(pubref, *value)?;
-                Ok(Vec::new(self.alloc))
-            }
-            KeyCall::SetPresent { pubref, value } => {
-                self.set_present(pubref, *value, at)?;
-                Ok(Vec::new(self.alloc))
-            }
-            KeyCall::SetSigner { pubref, value } => {
-                self.set_signer(pubref, *value)?;
-                Ok(Vec::new(self.alloc))
-            }
-            KeyCall::SetAtParent { pubref, value } => {
-                self.set_at_parent(pubref, *value)?;
-                Ok(Vec::new(self.alloc))
-            }
-            KeyCall::SetVisible { pubref, time } => {
-                self.set_visible(pubref, *time)?;
-                Ok(Vec::new(self.alloc))
-            }
-            KeyCall::SetDsVisible { pubref, time } => {
-                self.set_ds_visible(pubref, *time)?;
-                Ok(Vec::new(self.alloc))
-            }
-            KeyCall::SetRrsigVisible { pubref, time } => {
-                self.set_rrsig_visible(pubref, *time)?;
-                Ok(Vec::new(self.alloc))
-            }
-            KeyCall::SetStale { pubref } => {
-                self.set_stale(pubref)?;
-                Ok(Vec::new(self.alloc))
-            }
-            KeyCall::DeleteKey { pubref } => {
-                self.delete_key(pubref)?;
-                Ok(Vec::new(self.alloc))
-            }
+            } => self.add_public_copy(pubref, *algorithm, public_key, *available, at)?,
+            KeyCall::SetDecoupled { pubref, value } => self.set_decoupled(pubref, *value)?,
+            KeyCall::SetPresent { pubref, value } => self.set_present(pubref, *value, at)?,
+            KeyCall::SetSigner { pubref, value } => self.set_signer(pubref, *value)?,
+            KeyCall::SetAtParent { pubref, value } => self.set_at_parent(pubref, *value)?,
+            KeyCall::SetVisible { pubref, time } => self.set_visible(pubref, *time)?,
+            KeyCall::SetDsVisible { pubref, time } => self.set_ds_visible(pubref, *time)?,
+            KeyCall::SetRrsigVisible { pubref, time } => self.set_rrsig_visible(pubref, *time)?,
+            KeyCall::SetStale { pubref } => self.set_stale(pubref)?,
+            KeyCall::DeleteKey { pubref } => self.delete_key(pubref)?,
             KeyCall::StartRoll { rolltype, old, new } => {
-                self.start_roll(*rolltype, old, new, at)
+                return self.start_roll(*rolltype, old, new, at);
             }
             KeyCall::Propagation1Complete { rolltype, ttl } => {
-                self.propagation1_complete(*rolltype, *ttl, at)
+                return self.propagation1_complete(*rolltype, *ttl, at);
             }
-            KeyCall::CacheExpired1 { rolltype } => self.cache_expired1(*rolltype, at),
+            KeyCall::CacheExpired1 { rolltype } => return self.cache_expired1(*rolltype, at),
             KeyCall::Propagation2Complete { rolltype, ttl } => {
-                self.propagation2_complete(*rolltype, *ttl, at)
+                return self.propagation2_complete(*rolltype, *ttl, at);
             }
-            KeyCall::CacheExpired2 { rolltype } => self.cache_expired2(*rolltype, at),
-            KeyCall::RollDone { rolltype } => self.roll_done(*rolltype),
+            KeyCall::CacheExpired2 { rolltype } => return self.cache_expired2(*rolltype, at),
+            KeyCall::RollDone { rolltype } => return self.roll_done(*rolltype),
         }
-    }
-
-    /// Adds a copy of a key.
-    fn add_copy(
-        &mut self,
-        kind: KeyKind,
-        pubref: &str,
-        privref: &Option<String>,
-        algorithm: SecurityAlgorithm,
-        public_key: &[u8],
-        available: Available,
-        at: &UnixTime,
-    ) -> Result<Vec<Action>, KeyFault>
-        requires { length public_key.now ≤ 65531 }
-        ensures keys { let at_hand = is_available available in
-            let private = text_of privref.now in
-            let c = Add kind pubref.now private algorithm public_key.now at_hand in
-            Acts (digests S.digest_of self.old) c at.now self.old.keys self.new.keys result }
-        ensures rest { self.new ≡ record self.old { keys = self.new.keys } }
-    {
-        let copy = self.copied_key(kind, pubref, privref, algorithm, public_key)?;
-        self.add_key(
-            kind,
-            copy.pubref,
-            copy.privref,
-            algorithm,
-            copy.public_key,
-            *at,
-            available,
-        )?;
         Ok(Vec::new(self.alloc))
     }
 
-    /// Copies the references and the octets of a key that is to be added. Whether its reference is
-    /// bound to another key is known before any memory is taken.
-    fn copied_key(
-        &self,
-        kind: KeyKind,
-        pubref: &str,
-        privref: &Option<String>,
-        algorithm: SecurityAlgorithm,
-        public_key: &[u8],
-    ) -> Result<KeyCopy, KeyFault>
-        requires { length public_key.now ≤ 65531 }
-        ensures pubref { IfOk result (λ k. string_bytes k.pubref ≡ pubref.now) }
-        ensures privref { IfOk result
-            (λ k. text_of k.privref ≡ text_of privref.now) }
-        ensures public_key { IfOk result (λ k. k.public_key.items ≡ public_key.now) }
-        ensures err { let key = dnskey_for kind algorithm public_key.now in
-            let bound = self.now.keys.bound in
-            IfErr result (RefusesAhead (is_bound_away bound pubref.now key)) }
+    /// Adds a copy of a key.
+    fn add_copy(&mut self, kind: KeyKind, key: &AddKey, at: &UnixTime) -> Result<(), KeyFault>
+        requires { length key.now.public_key.items ≤ 65531 }
+        ensures keys { let digests = digests S.digest_of self.old in
+            Changes digests (add_of kind key.now) at.now self.old.keys self.new.keys result }
+        ensures rest { self.new ≡ record self.old { keys = self.new.keys } }
     {
-        if self.is_bound_away(pubref, kind, algorithm, public_key) {
+        let copy = self.copied_key(kind, key)?;
+        self.add_key(kind, copy, *at)
+    }
+
+    /// Copies a key that is to be added. Whether its reference is bound to another key is known
+    /// before any memory is taken.
+    fn copied_key(&self, kind: KeyKind, key: &AddKey) -> Result<AddKey, KeyFault>
+        requires { length key.now.public_key.items ≤ 65531 }
+        ensures call { IfOk result (λ k. add_of kind k ≡ add_of kind key.now) }
+        ensures octets { let octets = key.now.public_key.items in
+            IfOk result (λ k. k.public_key.items ≡ octets) }
+        ensures err { let bound = self.now.keys.bound in let k = key.now in
+            let new = dnskey_for kind k.algorithm k.public_key.items in
+            IfErr result (RefusesAhead (is_bound_away bound (string_bytes k.pubref) new)) }
+    {
+        if self.is_bound_away(&key.pubref, kind, key.algorithm, &key.public_key) {
             return Err(KeyFault::ReferenceBound);
         }
-        Ok(KeyCopy {
-            pubref: String::from_str(self.alloc, pubref)?,
-            privref: privref.as_ref().cloned()?,
-            public_key: public_key.to_vec(self.alloc)?,
+        Ok(AddKey {
+            pubref: key.pubref.clone()?,
+            privref: key.privref.as_ref().cloned()?,
+            algorithm: key.algorithm,
+            public_key: key.public_key.to_vec(self.alloc)?,
+            available: key.available,
         })
+    }
+
+    /// Adds a copy of a key of another owner. Whether its reference is bound to another key is
+    /// known before any memory is taken.
+    fn add_public_copy(
+        &mut self,
+        pubref: &str,
+        algorithm: SecurityAlgorithm,
+        public_key: &[u8],
+        available: bool,
+        at: &UnixTime,
+    ) -> Result<(), KeyFault>
+        requires { length public_key.now ≤ 65531 }
+        ensures keys { let digests = digests S.digest_of self.old in
+            let c = Add KeyKind.Include pubref.now None algorithm public_key.now available in
+            Changes digests c at.now self.old.keys self.new.keys result }
+        ensures rest { self.new ≡ record self.old { keys = self.new.keys } }
+    {
+        if self.is_bound_away(pubref, KeyKind::Include, algorithm, public_key) {
+            return Err(KeyFault::ReferenceBound);
+        }
+        let reference = String::from_str(self.alloc, pubref)?;
+        let octets = public_key.to_vec(self.alloc)?;
+        self.add_public_key(reference, algorithm, octets, *at, available)
     }
 }
