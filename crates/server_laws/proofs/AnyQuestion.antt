@@ -22,8 +22,8 @@ use Rattle.answer_judge.specs.declared.verdict.Refusal.TheVariants as r
 use Rattle.answer_judge.specs.Judged.{are_mixed, are_over, by_facts, ds_authenticates_keys, facts_in, is_unhashed, judged, judged_answer, judged_bytes, judged_facts, judged_messages, keys_of, trusting}
 use Rattle.answer_judge_facts.specs.Times.{are_unlike, proof_times}
 use Rattle.answer_judge_facts.specs.Verified.{Trusting, verified_facts}
-use Rattle.answer_alike.specs.SeenAlike.{is_covering, is_used}
-use Rattle.answer_alike.proofs.FactsAlike.{all_bare_times, all_times, bare_facts, facts_alike}
+use Rattle.server_laws.specs.SeenAlike.{is_covering, is_used}
+use Rattle.server_laws.proofs.FactsAlike.{all_bare_times, all_times, bare_facts, facts_alike}
 
 -- ---- what a judge looks at
 

@@ -32,9 +32,9 @@ use Rattle.answer_judge.specs.Judging.{Answer, JudgeInput, Refuses, Says, is_jud
 use Rattle.answer_judge.specs.declared.verdict.Refusal.{Refusal}
 use Rattle.answer_judge.specs.declared.verdict.Refusal.TheVariants as r
 use Rattle.answer_judge.specs.Judged.{AnswersAs, judged, judged_bytes}
-use Rattle.answer_alike.proofs.GivenAnswers.{answers_given}
-use Rattle.answer_alike.specs.SeenAlike.{SeenAlike, is_covering, is_used_type}
-use Rattle.answer_alike.proofs.JudgedAlike.{answers_alike, keys_alike, uncovered_alike}
+use Rattle.answer_judge.proofs.GivenAnswers.{answers_given}
+use Rattle.server_laws.specs.SeenAlike.{SeenAlike, is_covering, is_used_type}
+use Rattle.server_laws.proofs.JudgedAlike.{answers_alike, keys_alike, uncovered_alike}
 use Rattle.server_answers.specs.Composed.{IsAnswer, IsWritten, joined}
 use Rattle.server_answers.specs.World.{AnswersKeysQuestion, AnswersQuestion, World, present_keys, served_in}
 use Rattle.server_answers.proofs.WritesAnswer.{all_behind, all_presented}

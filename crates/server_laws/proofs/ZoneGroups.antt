@@ -18,7 +18,7 @@ use Rattle.answer_shared.proofs.ZoneCutNames.{cut_name}
 use Rattle.answer_shared.proofs.ZoneNaming.{all_filter, chain_named, either, first_name, lower_name, owner_name}
 use Rattle.answer_zone_records.specs.AliasFaults.{IsAcceptedWithAliases}
 use Rattle.answer_zone_records.proofs.ZoneInOrder.{records_in_order}
-use Rattle.answer_alike.proofs.GivenLists.{contained_has}
+use Rattle.answer_judge.proofs.GivenLists.{contained_has}
 use Rattle.server_answers.proofs.WritesData.{of_chain}
 use Rattle.server_answers.proofs.WritesGroups.{IsFormed}
 use Rattle.server_answers.proofs.WritesZone.{Named, answer_formed}

@@ -16,7 +16,7 @@ use Rattle.answer_shared.specs.Accepting.{sorted_records, zone_of}
 use Rattle.answer_zone_records.specs.AliasFaults.{IsAcceptedWithAliases}
 use Rattle.answer_judge.specs.Judging.{Answer, JudgeInput, Says}
 use Rattle.answer_judge.specs.Judged.{AnswersAs, judged}
-use Rattle.answer_alike.specs.Meeting.{WasGiven}
+use Rattle.answer_judge.specs.Meeting.{WasGiven}
 use Rattle.server_answers.specs.World.{World}
 use Rattle.server_queries.specs.Headers.{has_flag}
 use Rattle.server_queries.specs.Queries.{Queried}

@@ -1,3 +1,4 @@
+pub mod SeenAlike
 pub mod Heard
 pub mod Unheld
 pub mod Aliased

@@ -6,3 +6,4 @@ pub mod Masters
 pub mod Requests
 pub mod Sets
 pub mod Telling
+pub mod Texts

@@ -16,7 +16,7 @@ use Rattle.server_zone.specs.declared.open_zone.Zone.{Zone}
 use Rattle.server_zone.specs.declared.refusals.OpenError.{OpenError}
 use Rattle.server_zone.specs.declared.refusals.Refusal.{Refusal}
 use Rattle.server_zone.specs.declared.refusals.Refusal.TheVariants as refusal
-use Rattle.server_zone_text.specs.Texts.{applied_text, refusal_text}
+use Rattle.server_zone_octets.specs.Texts.{applied_text, refusal_text}
 use Rattle.server_zone_octets.specs.declared.code.ZoneCode.{ZoneCode}
 use Rattle.server_zone_octets.specs.declared.code.ZoneCode.TheVariants as c
 use Rattle.server_zone_octets.specs.declared.report.ZoneReport.{ZoneReport}

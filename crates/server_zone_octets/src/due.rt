@@ -7,9 +7,9 @@ use crate::code::ZoneCode;
 use crate::told::put;
 use answer_scheme::Scheme;
 use denial_nsec3_hash::hasher::Nsec3Hasher;
+use denialbench_print::named::Named;
 use keyset::{Action, RollState, RollType};
 use server_zone::{Due, Zone};
-use server_zone_text::Named;
 use std::alloc::{AllocError, Global};
 
 /// What is due of a roll.

@@ -12,6 +12,7 @@ mod parts;
 mod records;
 mod report;
 mod request;
+mod text;
 mod told;
 
 pub use crate::code::ZoneCode;

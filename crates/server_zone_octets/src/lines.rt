@@ -6,12 +6,12 @@ ghost use Rattle.server_zone_octets.specs.Telling.{is_known, told_seen};
 
 use crate::code::ZoneCode;
 use crate::report::ZoneReport;
+use crate::text::{push_applied, push_refusal};
 use crate::told::{CodeAndOctets, put};
 use answer_publisher::fault::{KeyFault, ReplaceFault, ZoneFault};
 use answer_scheme::Scheme;
 use denial_nsec3_hash::hasher::Nsec3Hasher;
 use server_zone::{Applied, Refusal, Zone};
-use server_zone_text::{push_applied, push_refusal};
 use std::alloc::Global;
 
 /// Opens a zone from its journal as [`Zone::open`] does. Where it is refused, the report says at

@@ -24,3 +24,8 @@ pub mod Leads
 pub mod Aliased
 pub mod ServedAliases
 pub mod Verdict
+pub mod EvidenceNames
+pub mod EvidenceZone
+pub mod EvidenceUnforged
+pub mod EvidenceOfTree
+pub mod EvidenceTold

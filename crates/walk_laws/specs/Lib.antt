@@ -9,3 +9,4 @@ pub mod Keys
 pub mod Served
 pub mod Aliased
 pub mod Verdict
+pub mod Evidence

@@ -1,2 +1,0 @@
-pub mod SeenAlike
-pub use Rattle.answer_judge.specs.Meeting

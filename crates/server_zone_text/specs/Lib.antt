@@ -1,2 +1,0 @@
-pub mod Texts
-pub use Rattle.denialbench_print.specs.Names
