@@ -12,10 +12,9 @@
 #include <string.h>
 #include <zermuita_zone.h>
 
-enum { KEY_COUNT = 64, KEY_ROOM = 1024, SIGNATURE_ROOM = 512 };
+enum { KEY_COUNT = 64, KEY_NAME = 128, KEY_ROOM = 1024, SIGNATURE_ROOM = 512 };
 
 struct key {
-    char name[128];
     EVP_PKEY *pair;
     uint8_t algorithm;
     uint8_t octets[KEY_ROOM]; /* as a DNSKEY record has them */
@@ -83,43 +82,47 @@ static int no_password(char *room, int len, int is_new, void *context) {
     return -1;
 }
 
-/* The key of a name, from NAME.pem where it was not read yet. */
-static struct key *key_named(struct keys *keys, const char *name) {
+/* Reads the key of NAME.pem. False where there is none that this server signs with. */
+static bool read_key(const struct keys *keys, const char *name, struct key *key) {
     char path[512];
-    for (size_t i = 0; i < keys->count; i++) {
-        if (strcmp(keys->list[i].name, name) == 0) {
-            return &keys->list[i];
-        }
-    }
-    struct key *key = &keys->list[keys->count];
-    if (keys->count == KEY_COUNT || strchr(name, '/') != NULL || strlen(name) >= sizeof key->name) {
-        return NULL;
-    }
     int written = snprintf(path, sizeof path, "%s/%s.pem", keys->folder, name);
     FILE *file = written > 0 && (size_t)written < sizeof path ? fopen(path, "r") : NULL;
     if (file == NULL) {
-        return NULL;
+        return false;
     }
     key->pair = PEM_read_PrivateKey(file, NULL, no_password, NULL);
     fclose(file);
     if (key->pair == NULL || !read_octets(key)) {
         EVP_PKEY_free(key->pair);
-        return NULL;
+        return false;
     }
-    memcpy(key->name, name, strlen(name) + 1);
-    keys->count++;
-    return key;
+    return true;
 }
 
-/* The key that an entry names. */
-static struct key *key_of(struct keys *keys, const struct zermuita_sign *sign) {
+/* The key of these octets, if it was read. */
+static struct key *find_key(struct keys *keys, uint8_t algorithm, struct zermuita_octets octets) {
     for (size_t i = 0; i < keys->count; i++) {
         struct key *key = &keys->list[i];
-        if (key->algorithm == sign->algorithm && key->len == sign->key.len && memcmp(key->octets, sign->key.data, key->len) == 0) {
+        if (key->algorithm == algorithm && key->len == octets.len && memcmp(key->octets, octets.data, octets.len) == 0) {
             return key;
         }
     }
     return NULL;
+}
+
+/* The key of a name, as NAME.pem has it now: since it was read last another one may have been put there. */
+static struct key *key_named(struct keys *keys, const char *name) {
+    struct key read = {0};
+    if (strchr(name, '/') != NULL || strlen(name) >= KEY_NAME || !read_key(keys, name, &read)) {
+        return NULL;
+    }
+    struct key *known = find_key(keys, read.algorithm, (struct zermuita_octets){read.octets, read.len});
+    if (known != NULL || keys->count == KEY_COUNT) {
+        EVP_PKEY_free(read.pair);
+        return known;
+    }
+    keys->list[keys->count] = read;
+    return &keys->list[keys->count++];
 }
 
 /* Both numbers of an ECDSA signature, in as many octets each as the curve has (RFC 6605, 4). */
@@ -134,7 +137,7 @@ static bool write_pair(const uint8_t *der, size_t len, const struct zermuita_sig
 
 /* Makes the signature that an entry asks for, in its place. */
 static bool make_signature(struct keys *keys, const struct zermuita_sign *sign) {
-    struct key *key = key_of(keys, sign);
+    struct key *key = find_key(keys, sign->algorithm, sign->key);
     EVP_MD_CTX *context = EVP_MD_CTX_new();
     const EVP_MD *digest = sign->algorithm == 14 ? EVP_sha384() : sign->algorithm >= 15 ? NULL : EVP_sha256();
     uint8_t room[KEY_ROOM];

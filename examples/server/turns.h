@@ -20,7 +20,7 @@ static size_t settled_in(const char *lines, size_t len) {
 
 /* Reads the key that a line adds, if it adds one. */
 static void follow_key(struct served *served, const char *line) {
-    char name[sizeof served->keys.list->name];
+    char name[KEY_NAME];
     if (sscanf(line, "key %*s %127s", name) == 1 && key_named(&served->keys, name) == NULL) {
         log_unread(&served->keys, name);
     }

@@ -189,7 +189,7 @@ static void log_unread(const struct keys *keys, const char *name) {
 
 /* Sees to it that a key's file is on disk, if it is in a file system that has one. */
 static bool keep_key(const struct keys *keys, const char *name) {
-    char path[sizeof keys->list->name + 512 + 8];
+    char path[KEY_NAME + 512 + 8];
     snprintf(path, sizeof path, "%s/%s.pem", keys->folder, name);
     int fd = open(path, O_RDONLY | O_CLOEXEC);
     bool is_kept = fd >= 0 && (fsync(fd) == 0 || errno == EROFS || errno == EINVAL);
