@@ -151,8 +151,10 @@ static void close_shadow(struct shadow *shadow) {
     free_table(shadow->answers);
     free_asker(shadow->asker);
     free_explainer(shadow->explainer);
-    if (fclose(shadow->log) != 0) {
-        die("log");
+    bool is_written = ferror(shadow->log) == 0;
+    if (fclose(shadow->log) != 0 || !is_written) {
+        fputs("shadow: not all lines of the log were written\n", stderr);
+        exit(1);
     }
 }
 
