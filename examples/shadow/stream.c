@@ -47,7 +47,9 @@ static struct event *event_of(const Dnstap__Message *message, struct queue *queu
         event->zone.len = 0;
     }
     event->len = message->response_message.len;
-    memcpy(event->octets, message->response_message.data, event->len);
+    if (event->len > 0) {
+        memcpy(event->octets, message->response_message.data, event->len);
+    }
     return event;
 }
 
