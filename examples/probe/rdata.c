@@ -62,9 +62,13 @@ static void hexadecimal(struct data *data, struct zermuita_octets octets) {
     for (size_t i = 0; i < octets.len; i++) {
         fprintf(data->file, "%02X", octets.data[i]);
     }
-    if (octets.len == 0) {
-        fputc('-', data->file);
-    }
+}
+
+/* A salt, which is a hyphen where it has no octets (RFC 5155, 3.3). */
+static void salt(struct data *data) {
+    struct zermuita_octets octets = take(data, take_number(data, 1));
+    hexadecimal(data, octets);
+    fputs(octets.len == 0 ? "-" : "", data->file);
 }
 
 /* Octets in digits of so many bits, the highest first, and behind them signs until their number is a multiple. */
@@ -138,7 +142,7 @@ static void part(struct data *data, char form) {
         hexadecimal(data, take_rest(data));
         break;
     case 'X':
-        hexadecimal(data, take(data, take_number(data, 1)));
+        salt(data);
         break;
     case 'H':
         digits(data, take(data, take_number(data, 1)), 5, 1, BASE32HEX);
@@ -175,7 +179,7 @@ void print_data(FILE *file, uint16_t rtype, struct zermuita_octets octets, size_
         fputs(text, file);
     } else {
         struct data data = {file, octets, at, at + len, false};
-        fprintf(file, "\\# %zu ", len);
+        fprintf(file, len > 0 ? "\\# %zu " : "\\# %zu", len);
         hexadecimal(&data, take_rest(&data));
     }
     free(text);

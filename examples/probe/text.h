@@ -16,7 +16,7 @@ struct name {
 /*
  * A type, and the parts of its data: n a name; a and A addresses; 1, 2 and 4 numbers of so many octets; t a type; m a moment; s a
  * character string, and further ones behind it where it comes first; T the types of a bitmap; x what is left in hexadecimal digits and
- * b in base64; and behind its length in an octet X what is written in hexadecimal digits and H a hash.
+ * b in base64; and behind its length in an octet X a salt and H a hash.
  */
 struct type {
     uint16_t number;
