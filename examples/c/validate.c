@@ -52,7 +52,7 @@ static struct zermuita_octets name_of_text(const char *text, uint8_t name[256]) 
         text += label + (text[label] == '.');
     }
     name[len] = 0;
-    return (struct zermuita_octets){name, *text == 0 || strcmp(text, ".") == 0 ? len + 1 : 0};
+    return (struct zermuita_octets){name, *text == 0 || (len == 0 && strcmp(text, ".") == 0) ? len + 1 : 0};
 }
 
 /* What the names are that stand in front of a reply's octets. */
@@ -107,7 +107,7 @@ int main(int argc, char **argv) {
     struct zermuita_case handed = {
         .size = sizeof handed, .apex = name_of_text(argv[1], apex), .no_ds = strcmp(argv[2], "-") == 0,
         .dnskey = octets_of_file(argv[3]), .name = name_of_text(argv[4], name), .rtype = (uint16_t)number_of_text(argv[5], 65535),
-        .answer = octets_of_file(argv[6]), .now = argc > 7 ? number_of_text(argv[7], UINT64_MAX) : (uint64_t)time(NULL),
+        .answer = octets_of_file(argv[6]), .now = argc > 7 ? number_of_text(argv[7], INT64_MAX) : (uint64_t)time(NULL),
         .rclass = 1, .max_nsec3_iterations = 100, .algorithms = {signature_algorithms, sizeof signature_algorithms}, .places = 1,
     };
     if (!handed.no_ds) {
