@@ -54,6 +54,10 @@ static const struct kept *said(const struct zone *zone, struct zermuita_octets n
         memcpy(checked + handed.checked.len, it->octets, it->report.len);
         handed.checked.len += it->report.len;
     }
+    /* A trust anchor that cannot be checked is set wrongly, and makes no name insecure. */
+    if (it->reply == ZERMUITA_INSECURE && zone->apex.len == 1) {
+        it->reply = ZERMUITA_BAD_DS_SET;
+    }
     memcpy(it->apex, zone->apex.data, zone->apex.len);
     memcpy(it->name, name.data, name.len);
     it->rtype = rtype;
