@@ -201,15 +201,19 @@ def check_torn(server, serial):
 def check_shared(program, room, count):
     """Servers of one folder: whichever is asked or killed, no second has two versions."""
     server, seen = Server(program, room / "shared", "--step=1", "--rate=0", "--share"), set()
-    is_over, rng = threading.Event(), random.Random(5)
+    is_over, rng, faults = threading.Event(), random.Random(5), []
     server.start()
     first_key(server)
     file, serial, accepted, killed = server.folder / "next.zone", 1, 0, 0
     processes = [server.process, server.launch(), server.launch()]
 
     def ask():
-        while not is_over.is_set():
-            seen.add(versions())
+        """Asks until all is over. What fails here ends this thread alone, so that it is kept for the test."""
+        try:
+            while not is_over.is_set():
+                seen.add(versions())
+        except BaseException as fault:
+            faults.append(fault)
 
     askers = [threading.Thread(target=ask, daemon=True) for _ in range(3)]
     for it in askers:
@@ -237,6 +241,8 @@ def check_shared(program, room, count):
     is_over.set()
     for it in askers:
         it.join()
+    if faults:
+        raise faults[0]
     seen.discard(None)
     inceptions = [it[0] for it in seen]
     twice = {it for it in seen if inceptions.count(it[0]) > 1}
