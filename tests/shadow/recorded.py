@@ -99,7 +99,7 @@ def replay(program, folder, anchor, file, slowness):
         subprocess.run(["fstrm_replay", "-t", CONTENT, "-u", shadow.socket, "-r", file], check=True, env={**os.environ})
         return shadow.end()[1]
     finally:
-        shadow.process.kill()
+        shadow.kill()
 
 
 # Programs that explain nothing, each in its own way, and what the log then has.

@@ -46,6 +46,7 @@ class Shadow:
             if self.socket.exists():
                 return
             time.sleep(0.1)
+        self.kill()
         raise TimeoutError(f"no shadow: see {folder}/shadow.stderr")
 
     def lines(self):
@@ -70,6 +71,11 @@ class Shadow:
             if not counts["waiting"] and seen >= answers + counts["asked"]:
                 break
             await asyncio.sleep(0.5)
+
+    def kill(self):
+        """Ends it by force, if it still runs."""
+        self.process.kill()
+        self.process.wait()
 
     def end(self):
         """Its lines of disagreements, and its counts."""
@@ -218,5 +224,5 @@ async def asked(kind, folder, address, key, questions, program, anchor, more=(),
         disagreements, counts = shadow.end()
     finally:
         resolver.end()
-        shadow.process.kill()
+        shadow.kill()
     return disagreements, counts, missing, resolver.version()

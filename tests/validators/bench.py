@@ -138,17 +138,19 @@ class Source:
         by so much that each wait is over when it is to be."""
         ttl, found = self.zone.ttl, {}
         server = self.server(self.workshop.address())
-        self.begin(server, BEHIND + 2 * ttl + 60)
-        for stage in range(max(stages) + 1):
-            if stage in WAITS:
-                server.stop()
-                server.start(BEHIND + (ttl + 30 if stage == WAITS[0] else 0))
-            for command in self.commands(STEPS[stage - 1], ttl) if stage else ():
-                server.do(command)
-            if stage in stages:
-                copy = self.server(at[stage], f"-{stage}") if stage in at else None
-                if copy:
-                    server.give_to(copy)
-                found[stage] = server.ds(), copy
-        server.remove()
+        try:
+            self.begin(server, BEHIND + 2 * ttl + 60)
+            for stage in range(max(stages) + 1):
+                if stage in WAITS:
+                    server.stop()
+                    server.start(BEHIND + (ttl + 30 if stage == WAITS[0] else 0))
+                for command in self.commands(STEPS[stage - 1], ttl) if stage else ():
+                    server.do(command)
+                if stage in stages:
+                    copy = self.server(at[stage], f"-{stage}") if stage in at else None
+                    if copy:
+                        server.give_to(copy)
+                    found[stage] = server.ds(), copy
+        finally:
+            server.remove()
         return found

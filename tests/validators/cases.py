@@ -21,6 +21,13 @@ TRIES, PAUSE = 4, 0.1
 SLACK = 1.5
 
 
+def remove_all(servers):
+    """Removes servers: each of them, even where one before it ended otherwise than it should."""
+    with contextlib.ExitStack() as stack:
+        for it in servers:
+            stack.callback(it.remove)
+
+
 class Zoned:
     """A zone under test at an apex, and what it is asked."""
 
@@ -73,8 +80,7 @@ class Case(Zoned):
             it.start()
 
     def stop(self):
-        for it in self.running:
-            it.remove()
+        remove_all(self.running)
 
     def ds(self):
         return self.of_parent
@@ -110,8 +116,7 @@ class Clocked(Zoned):
             self.source.begin(it)
 
     def stop(self):
-        for it in self.running:
-            it.remove()
+        remove_all(self.running)
 
     def ds(self):
         return random.choice(self.running).ds()
@@ -199,15 +204,11 @@ def prepare(cases):
 @contextlib.contextmanager
 def serving(cases):
     """Has the servers of cases run while this lasts."""
-    begun = []
-    try:
+    with contextlib.ExitStack() as stack:
         for it in cases:
-            begun.append(it)
+            stack.callback(it.stop)
             it.start()
         yield
-    finally:
-        for it in begun:
-            it.stop()
 
 
 STAGED = [(it,) * 3 for it in range(STAGES)]

@@ -28,12 +28,14 @@ def records(source, stage):
     asked = [(source.zone.owner(name, source.apex), rtype) for name, rtype in questions(source.zone)]
     address = source.workshop.address()
     _ds, server = source.live({stage}, {stage: address})[stage]
-    server.start()
     found = {}
-    for question in ((source.apex, DNSKEY), (source.apex, NSEC3PARAM), *asked):
-        for section in ask(*question, (dotted(address), 53)).sections:
-            found.update(((it.owner.lower(), it.rtype, it.data), it) for it in section if it.rtype != wire.OPT)
-    server.remove()
+    try:
+        server.start()
+        for question in ((source.apex, DNSKEY), (source.apex, NSEC3PARAM), *asked):
+            for section in ask(*question, (dotted(address), 53)).sections:
+                found.update(((it.owner.lower(), it.rtype, it.data), it) for it in section if it.rtype != wire.OPT)
+    finally:
+        server.remove()
     return [it._replace(owner=it.owner.lower()) for it in found.values()]
 
 
