@@ -43,14 +43,16 @@ def check(server, questions=QUESTIONS):
     print(f"{len(questions)} questions: dig by UDP and TCP, delv")
 
 
-def check_plain(server):
-    """Without DO nothing is signed; the answer is cut to what a client takes."""
+def check_plain():
+    """Without EDNS nothing is signed; no answer has more octets than its client takes."""
     said = asked("www.example.", "A", "+noedns")
     if "192.0.2.80" not in said or "RRSIG" in said:
         fail("without EDNS:", said)
-    said = dig("example.", "DNSKEY", "+bufsize=512", "+ignore")
-    if "status: NOERROR" not in said:
-        fail("512 octets:", said)
+    for name, rtype, status in (("example.", "DNSKEY", "NOERROR"), ("none.example.", "A", "NXDOMAIN")):
+        said = dig(name, rtype, "+notcp", "+bufsize=512", "+ignore", "+stats")
+        size = re.search(r"MSG SIZE +rcvd: (\d+)", said)
+        if f"status: {status}" not in said or not size or int(size[1]) > 512:
+            fail("512 octets:", said)
 
 
 def check_keys(server):
