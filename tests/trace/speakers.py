@@ -20,6 +20,8 @@ import namespace
 import resolvers
 import validators
 
+# Response codes of answers that say something of a name (RFC 1035, 4.1.1; RFC 6672, 2.2).
+TELLING = {dns.rcode.NOERROR, dns.rcode.NXDOMAIN, dns.rcode.YXDOMAIN}
 # Extended errors (RFC 8914, 4) that say that an answer is bogus.
 BOGUS = {5, 6, 7, 8, 9, 10, 11, 12}
 IN = dns.rdataclass.IN
@@ -64,6 +66,8 @@ def heard(message, question):
     told = " ".join([dns.rcode.to_text(message.rcode()), *(f"EDE {int(it.code)} {it.text or ''}".strip() for it in errors)])
     if message.rcode() == dns.rcode.SERVFAIL:
         return Said("bogus" if BOGUS & {int(it.code) for it in errors} else "SERVFAIL", told)
+    if message.rcode() not in TELLING:
+        return Said(dns.rcode.to_text(message.rcode()), told)
     if not message.flags & dns.flags.AD:
         return Said("insecure", told)
     through, data = led(question["name"], dns.rdatatype.from_text(question["type"]), message.answer)
