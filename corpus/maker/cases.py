@@ -246,10 +246,8 @@ def add_without(group: Group, denial: Denial, role: str, subject: str) -> None:
 
 
 def add_replaced(group: Group, denial: Denial, role: str, subject: str, most: int | None) -> None:
-    zone = denial.zone(group)
-    needed = {(it.owner, it.data) for it in zone.says(denial.name, denial.rtype).needs.values()}
     count = 0
-    for at, name in enumerate(zone.chained):
+    for name in denial.zone(group).chained:
         zone = denial.zone(group)
         # In a chain of hashes the place of a name depends on the apex.
         place = zone.place(name)[0]

@@ -21,9 +21,9 @@ NUMBERS |= {"DNSKEY": DNSKEY, "CDS": CDS}
 NAMES = {number: name for name, number in NUMBERS.items()} | {CDNSKEY: "CDNSKEY", RRSIG: "RRSIG", NSEC: "NSEC", NSEC3: "NSEC3"}
 # Octets before the names in data of these types, and how many names there are.
 NAMED = {NS: (0, 1), CNAME: (0, 1), PTR: (0, 1), DNAME: (0, 1), SOA: (0, 2), MX: (2, 1), SRV: (6, 1)}
-# The flags QR, AA, TC, RD, RA and AD, and the RCODEs.
+# The flags QR, AA, TC, RD, RA, AD and CD, and the RCODEs.
 QR, AA, TC, RD, RA, AD, CD = 0x8000, 0x0400, 0x0200, 0x0100, 0x0080, 0x0020, 0x0010
-NOERROR, SERVFAIL, NXDOMAIN, REFUSED = 0, 2, 3, 5
+NOERROR, NXDOMAIN, REFUSED = 0, 3, 5
 
 
 def text(name):
@@ -152,15 +152,6 @@ def body(message):
     for records in message.sections:
         out += written(records, 12 + len(message.name) + 4 + len(out), places)
     return out
-
-
-def head(message, counts):
-    return struct.pack(">6H", message.number, message.flags, 1, *counts) + message.name + struct.pack(">HH", message.rtype, 1)
-
-
-def write(message):
-    """A message in octets."""
-    return head(message, map(len, message.sections)) + body(message)
 
 
 def canonical_data(rtype, data):
