@@ -17,6 +17,9 @@ from cryptography.hazmat.primitives import hashes, serialization  # noqa: E402
 from cryptography.hazmat.primitives.asymmetric import ed448, padding, rsa  # noqa: E402
 from zermuita import Ask  # noqa: E402
 
+# The algorithms of those of servers.
+OF_SERVERS = {8, 13, 14, 15}
+
 
 def of_servers() -> Iterator[Ask]:
     return (Ask(*lasting.parts_of(it)) for it in answers.entries())
@@ -52,6 +55,8 @@ def main() -> None:
         if any(map(validate.signature_passes, altered(ask))):
             sys.exit(f"not so: {ask.entry(True).hex()} alone passes, and nothing that is altered")
         counts[ask.algorithm] += 1
+    if not OF_SERVERS <= counts.keys():
+        sys.exit(f"not so: signatures of servers are of the algorithms {sorted(OF_SERVERS)}: {dict(counts)}")
     print(dict(sorted(counts.items())))
 
 
