@@ -157,6 +157,8 @@ def behind():
 
 
 def main():
+    if len(sys.argv) > 2 or sys.argv[1:2] and sys.argv[1].startswith("-"):
+        sys.exit("usage: tools/gate.py [FILE]")
     seconds, is_over = collections.defaultdict(dict), threading.Event()
     file = pathlib.Path(sys.argv[1]) if len(sys.argv) > 1 else None
     began, last, faults = time.monotonic(), "", collections.deque(maxlen=FAULTS)
