@@ -84,7 +84,11 @@ class Peer:
 
     def __exit__(self, *_error):
         self.process.terminate()
-        self.process.wait(timeout=30)
+        try:
+            self.process.wait(timeout=30)
+        except subprocess.TimeoutExpired:
+            self.process.kill()
+            self.process.wait()
 
 
 class Knot(Peer):

@@ -11,6 +11,7 @@ import subprocess
 import time
 
 from resolvers import Shadow, unanswered
+from runners.programs import end
 
 CONTENT = "protobuf:dnstap.Dnstap"
 
@@ -23,8 +24,7 @@ class Capture:
         self.process = subprocess.Popen(words, stdin=subprocess.DEVNULL, stderr=subprocess.DEVNULL)
 
     def end(self):
-        self.process.terminate()
-        self.process.wait(timeout=20)
+        end(self.process)
 
 
 async def record(kind, folder, address, key, questions):
