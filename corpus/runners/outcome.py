@@ -7,6 +7,7 @@ import datetime
 import hashlib
 import json
 import pathlib
+import sys
 from typing import Any
 
 TOP = pathlib.Path(__file__).resolve().parent.parent
@@ -88,7 +89,10 @@ def store(validator: str, version: str, told: dict[str, Said]) -> None:
     """Keeps what was said of cases, in the place of what was said of them before."""
     path = SAID / f"{validator}.json"
     SAID.mkdir(exist_ok=True)
-    known = json.loads(path.read_text())["said"] if path.exists() else {}
+    before = json.loads(path.read_text()) if path.exists() else {"said": {}}
+    known = before["said"]
+    if before.get("version", version) != version and known.keys() - told.keys():
+        print(f"{path}: what {before['version']} said of other cases now stands below {version}", file=sys.stderr)
     marks = {it["id"]: mark(it) for of in groups([]).values() for it in of}
     known.update({it: [said.result, said.which, said.why, marks[it]] for it, said in told.items()})
     head = {"validator": validator, "version": version, "date": datetime.date.today().isoformat()}
