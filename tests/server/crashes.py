@@ -19,6 +19,15 @@ def signed_serial():
     return (serial_of(said), int(found[1])) if found else fail("no signed SOA record:", said)
 
 
+def wait_behind(last):
+    """Waits until signatures begin in a later second."""
+    end = time.monotonic() + 60
+    while signed_serial()[1] == last:
+        if time.monotonic() > end:
+            fail("no signature begins later than", last)
+        time.sleep(0.1)
+
+
 def check_moments(server):
     """Behind a crash, or with moments that lie further behind the clock, no answer is of a moment before an earlier one, and none of a
     replacement is of a second that an answer had before it."""
@@ -31,8 +40,8 @@ def check_moments(server):
             server.done(f"reload {file}")
             at, last = signed_serial()
         # The last moment is an answer's, not a line's, where the clock has come there.
-        while how and signed_serial()[1] == last:
-            time.sleep(0.1)
+        if how:
+            wait_behind(last)
         at, last = signed_serial()
         server.process.kill()
         server.process.wait()
