@@ -23,8 +23,12 @@ Name = tuple[bytes, ...]
 NS, CNAME, SOA, DNAME, DS, RRSIG, NSEC, DNSKEY, NSEC3 = 2, 5, 6, 39, 43, 46, 47, 48, 50
 DIGESTS = {1: hashlib.sha1, 2: hashlib.sha256, 4: hashlib.sha384}
 ALGORITHMS = {8, 13, 15}
-# Types whose data begin with so many octets, and so many names behind them (RFC 4034, 6.2; RFC 6840, 5.1).
-NAMES_IN = {2: (0, 1), 5: (0, 1), 6: (0, 2), 12: (0, 1), 15: (2, 1), 33: (6, 1), 39: (0, 1)}
+# Types whose data begin with so many octets, and so many names behind them (RFC 4034, 6.2; RFC 6840, 5.1). NAPTR and A6, whose names
+# stand behind data of no fixed length, are left out.
+NAMES_IN = {
+    **dict.fromkeys((2, 3, 4, 5, 7, 8, 9, 12, 30, 39), (0, 1)), **dict.fromkeys((6, 14, 17), (0, 2)), **dict.fromkeys((15, 18, 21, 36), (2, 1)),
+    24: (18, 1), 26: (2, 2), 33: (6, 1),
+}
 STAR = b"*"
 
 
@@ -66,6 +70,8 @@ def name_at(octets: bytes, at: int) -> tuple[Name, int]:
             at = (length & 0x3F) << 8 | octets[at + 1]
         elif length == 0:
             break
+        elif length > 63:
+            raise Unreadable
         else:
             labels.append(octets[at + 1 : at + 1 + length].lower())
             at += 1 + length
@@ -183,8 +189,10 @@ class Key:
     def check(self, octets: bytes, signature: bytes) -> None:
         public = self.data[4:]
         if self.algorithm == 8:
-            length = public[0]
-            exponent, modulus = public[1 : 1 + length], public[1 + length :]
+            # The exponent's length has one octet, or two behind a 0 (RFC 3110, 2).
+            head = 1 if public[0] else 3
+            end = head + int.from_bytes(public[:head], "big")
+            exponent, modulus = public[head:end], public[end:]
             numbers = rsa.RSAPublicNumbers(int.from_bytes(exponent, "big"), int.from_bytes(modulus, "big"))
             numbers.public_key().verify(signature, octets, padding.PKCS1v15(), hashes.SHA256())
         elif self.algorithm == 13:

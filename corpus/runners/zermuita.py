@@ -44,8 +44,10 @@ def passes(ask: Any) -> bool:
 
 def check(ask: Any) -> None:
     if ask.algorithm == RSA:
-        length = ask.key[0]
-        key = rsa.RSAPublicNumbers(number(ask.key[1 : 1 + length]), number(ask.key[1 + length :])).public_key()
+        # The exponent's length has one octet, or two behind a 0 (RFC 3110, 2).
+        head = 1 if ask.key[0] else 3
+        end = head + number(ask.key[:head])
+        key = rsa.RSAPublicNumbers(number(ask.key[head:end]), number(ask.key[end:])).public_key()
         key.verify(ask.signature, ask.octets, padding.PKCS1v15(), hashes.SHA256())
     elif ask.algorithm == ECDSA and len(ask.signature) == 64:
         point = ec.EllipticCurvePublicNumbers(number(ask.key[:32]), number(ask.key[32:]), ec.SECP256R1()).public_key()
