@@ -25,10 +25,12 @@ def counting(kind):
             await super().is_up(seconds)
 
         def end(self):
-            if self.process and self.process.poll() is None:
-                self.process.terminate()
-                self.process.wait(timeout=300)
-            super().end()
+            try:
+                if self.process and self.process.poll() is None:
+                    self.process.terminate()
+                    self.process.wait(timeout=300)
+            finally:
+                super().end()
 
         def instructions(self):
             return collected((self.folder / "callgrind").read_text())
