@@ -55,9 +55,7 @@ static const struct kept *said(const struct zone *zone, struct zermuita_octets n
         handed.checked.len += it->report.len;
     }
     /* A trust anchor that cannot be checked is set wrongly, and makes no name insecure. */
-    if (it->reply == ZERMUITA_INSECURE && zone->apex.len == 1) {
-        it->reply = ZERMUITA_BAD_DS_SET;
-    }
+    it->reply = it->reply == ZERMUITA_INSECURE && zone->apex.len == 1 ? ZERMUITA_BAD_DS_SET : it->reply;
     memcpy(it->apex, zone->apex.data, zone->apex.len);
     memcpy(it->name, name.data, name.len);
     it->rtype = rtype;
@@ -92,16 +90,14 @@ static const struct kept *answered(struct zone zone, struct zermuita_octets name
 static void resolve(const struct zone *root, struct zermuita_octets name, uint16_t rtype) {
     char text[1024];
     const size_t most = judged + QUESTIONS;
-    for (int alias = 0; alias < ALIASES; alias++) {
+    for (int alias = 0, leads = 1; leads && alias < ALIASES; alias++) {
         const struct kept *it = answered(*root, name, rtype, most);
         struct zermuita_octets rest = {it->octets, it->report.len};
         long left = it->end > time(NULL) ? (long)(it->end - time(NULL)) : 0;
         ns_name_ntop(it->name, text, sizeof text);
         printf("%s %u: %s; TTL %ld, EDE %u\n", text, it->rtype, zermuita_strerror(it->reply), left, it->report.ede);
-        if (it->reply < ZERMUITA_ALIAS || it->reply > ZERMUITA_DNAME || !zermuita_next_name(&rest, &name)
-            || (it->reply == ZERMUITA_DNAME && !zermuita_next_name(&rest, &name))) {
-            return;
-        }
+        leads = it->reply >= ZERMUITA_ALIAS && it->reply <= ZERMUITA_DNAME && zermuita_next_name(&rest, &name)
+                && (it->reply != ZERMUITA_DNAME || zermuita_next_name(&rest, &name));
     }
 }
 
