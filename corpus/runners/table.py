@@ -98,7 +98,7 @@ def spans(ids: list[str]) -> str:
 
 def write() -> int:
     told, all_cases = kept(), groups([])
-    versions = of_lines(["validator", "version", "date of the run"], [[name, of["version"], of["date"]] for name, of in told.items()])
+    versions = of_lines(["validator", "version", "date of the last run, of all groups or of some"], [[name, of["version"], of["date"]] for name, of in told.items()])
     rows, unknown = differences(all_cases, told)
     text = f"{BEGIN}\n{versions}\n{by_group(all_cases, told)}\n{rows}\n{END}"
     page = README.read_text()
