@@ -24,32 +24,7 @@ use Rattle.answer_judge_facts.specs.Times.{are_unlike, proof_times}
 use Rattle.answer_judge_facts.specs.Verified.{Trusting, verified_facts}
 use Rattle.server_laws.specs.SeenAlike.{is_covering, is_used}
 use Rattle.server_laws.proofs.FactsAlike.{all_bare_times, all_times, bare_facts, facts_alike}
-
--- ---- what a judge looks at
-
-abbrev keys_question : Name → Asked
-keys_question apex = record { name = apex; rtype = 48; class = 1 }
-
-abbrev refused_by : Bool → Bool → Option Refusal
-refused_by asks tags = if not asks then Some r.QuestionMismatch else if tags then Some r.EqualTags else None
-
-abbrev refused_of : Result Message MessageError → Result Message MessageError → (Message → Message → Option Refusal) → Option Refusal
-refused_of keys answer f = elim keys [
-  | Err e ↦ Some r.BadDnskeyMessage
-  | Ok x ↦ elim answer [ Err e ↦ Some r.BadAnswerMessage | Ok y ↦ f x y ]
-]
-
-abbrev judged_of : Result Message MessageError → Result Message MessageError → (Message → Message → Answer) → Answer
-judged_of keys answer f = elim keys [
-  | Err e ↦ Refuses r.BadDnskeyMessage
-  | Ok x ↦ elim answer [ Err e ↦ Refuses r.BadAnswerMessage | Ok y ↦ f x y ]
-]
-
-abbrev said_of : Bool → Bool → Option Refusal → Answer → Answer
-said_of allowed none later answer = elim (if not allowed then Some r.QuestionNotAllowed else if none then None else later) [
-  | Some e ↦ Refuses e
-  | None ↦ if none then Says Unsigned else answer
-]
+use Rattle.server_laws.proofs.JudgedAlike.{asked_for_keys, judged_of, refused_by, refused_of, said_of}
 
 -- ---- facts, in whose links the case of names means nothing
 
@@ -75,7 +50,7 @@ module _ (a : Answers) (k : ℕ) (h : JudgeInput) (any : h.other_question ≡ tr
     answer_asked = ap (λ b. b || same_question one.asked h.asked) any ∙ sym (ap (λ b. b || same_question other.asked h.asked) any)
 
     abbrev answer_refused : (Message → Bool) → Message → Message → Option Refusal
-    answer_refused asks x y = refused_by (same_question x.asked (keys_question h.apex) && asks y) (has_equal_tags (keys_in h.dnskey_bytes h.apex x.records))
+    answer_refused asks x y = refused_by (same_question x.asked (asked_for_keys h.apex) && asks y) (has_equal_tags (keys_in h.dnskey_bytes h.apex x.records))
 
     answer_first : message_refusal k one_handing ≡ message_refusal k other_handing
     answer_first =

@@ -29,25 +29,25 @@ use Rattle.server_laws.proofs.FactsAlike.{all_bare_times, all_times, bare_facts,
 
 -- ---- what the judge looks at
 
-abbrev asked_for_keys : Name → Asked
+abbrev pub asked_for_keys : Name → Asked
 asked_for_keys apex = record { name = apex; rtype = 48; class = 1 }
 
-abbrev refused_by : Bool → Bool → Option Refusal
+abbrev pub refused_by : Bool → Bool → Option Refusal
 refused_by asks tags = if not asks then Some r.QuestionMismatch else if tags then Some r.EqualTags else None
 
-abbrev refused_of : Result Message MessageError → Result Message MessageError → (Message → Message → Option Refusal) → Option Refusal
+abbrev pub refused_of : Result Message MessageError → Result Message MessageError → (Message → Message → Option Refusal) → Option Refusal
 refused_of keys answer f = elim keys [
   | Err e ↦ Some r.BadDnskeyMessage
   | Ok x ↦ elim answer [ Err e ↦ Some r.BadAnswerMessage | Ok y ↦ f x y ]
 ]
 
-abbrev judged_of : Result Message MessageError → Result Message MessageError → (Message → Message → Answer) → Answer
+abbrev pub judged_of : Result Message MessageError → Result Message MessageError → (Message → Message → Answer) → Answer
 judged_of keys answer f = elim keys [
   | Err e ↦ Refuses r.BadDnskeyMessage
   | Ok x ↦ elim answer [ Err e ↦ Refuses r.BadAnswerMessage | Ok y ↦ f x y ]
 ]
 
-abbrev said_of : Bool → Bool → Option Refusal → Answer → Answer
+abbrev pub said_of : Bool → Bool → Option Refusal → Answer → Answer
 said_of allowed none later answer = elim (if not allowed then Some r.QuestionNotAllowed else if none then None else later) [
   | Some e ↦ Refuses e
   | None ↦ if none then Says Unsigned else answer
