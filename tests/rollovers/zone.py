@@ -28,7 +28,7 @@ secure    DS    12345 13 2 00112233445566778899AABBCCDDEEFF00112233445566778899A
 ns.secure A     192.0.2.54
 """
 # A question; what the zone says of it, and behind a stroke what it says where its chain has opt-out and that differs. The records
-# of a wildcard are those of the owner that is named.
+# of a wildcard are those of the owner that is named; a delegation has its name.
 QUESTIONS = """
 @ SOA               RECORDS
 @ NS                RECORDS
@@ -47,9 +47,9 @@ one.w MX            WILDCARD_NODATA | OPTOUT
 *.w TXT             RECORDS
 sub.w TXT           NODATA
 below.sub.w A       NXDOMAIN | OPTOUT
-plain A             DELEGATED | OPTOUT
+plain A             DELEGATED plain | OPTOUT
 plain DS            NODATA | OPTOUT
-host.plain A        DELEGATED | OPTOUT
+host.plain A        DELEGATED plain | OPTOUT
 secure DS           RECORDS
 """
 
@@ -100,6 +100,8 @@ class Question:
         has_data = self.verdict in ("RECORDS", "WILDCARD")
         self.texts = [text for it, rtype, text in rows(RECORDS) if has_data and (it, rtype) == (of, self.rtype)]
         self.data = sorted(octets(self.rtype, text, apex) for text in self.texts)
+        if self.verdict == "DELEGATED":
+            self.data = [wire(below(of, apex))]
 
     def is_answered_by(self, verdict, data):
         """Whether a verdict with its data is the zone's; the serial number of its SOA record changes as it is signed."""
