@@ -3,7 +3,7 @@
 
 usage: tests/aliases/found.py
 
-As a program it puts what is found behind each answer of the lines that are kept in crates/test_servers, in the place of what stood
+As a program it puts what is found behind each answer of the lines that are kept in tests/lines/servers, in the place of what stood
 there.
 """
 import pathlib
@@ -11,7 +11,7 @@ import pathlib
 from wire import CNAME, DNAME, DS, name, text
 from zone import DS_DATA, Zone
 
-CRATE = pathlib.Path(__file__).resolve().parents[2] / "crates/test_servers"
+CRATE = pathlib.Path(__file__).resolve().parents[2] / "tests/lines/servers"
 
 
 def target(data):

@@ -1,4 +1,4 @@
-"""The answers of name servers of crates/test_servers, as they are handed to a caller of the library for C."""
+"""The answers of name servers of tests/lines/servers, as they are handed to a caller of the library for C."""
 
 from __future__ import annotations
 
@@ -7,7 +7,7 @@ import functools
 import pathlib
 import re
 
-SERVERS = pathlib.Path(__file__).resolve().parents[2] / "crates/test_servers"
+SERVERS = pathlib.Path(__file__).resolve().parents[2] / "tests/lines/servers"
 # The words of those lines for what a judge answers, in the order of enum zermuita_reply; and reasons for refusals, from 16 on.
 VERDICTS = ["Records", "NoType", "NoName", "StarRecords", "StarNoType", "Delegated", "Open", "Unsigned"]
 VERDICTS += ["Alias", "WildcardAlias", "Dname", "Referral"]

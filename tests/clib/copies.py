@@ -1,4 +1,4 @@
-"""Messages whose signatures are copies of what they are made over (RFC 4034, 3.1.8.1), as those of crates/test_extended_errors are."""
+"""Messages whose signatures are copies of what they are made over (RFC 4034, 3.1.8.1), as those of tests/lines/extended_errors are."""
 
 from __future__ import annotations
 

@@ -1,4 +1,4 @@
-"""The walks of crates/test_walk, as they are handed to a caller of the library for C; and what its tree of zones says of questions."""
+"""The walks of tests/lines/walk, as they are handed to a caller of the library for C; and what its tree of zones says of questions."""
 
 from __future__ import annotations
 
@@ -16,7 +16,7 @@ from findings import first_name, rrsets
 from lasting import DNSKEY, NSEC, RRSIG, records
 
 TESTS = pathlib.Path(__file__).resolve().parents[1]
-WALK = TESTS.parent / "crates/test_walk"
+WALK = TESTS.parent / "tests/lines/walk"
 sys.path += [str(TESTS / it) for it in ("aliases", "walk")]
 import found as aliases  # noqa: E402
 import zones as made  # noqa: E402

@@ -1,4 +1,4 @@
-"""Whether the check of examples/python/validate.py passes signatures, and fails altered ones: those of crates/test_servers, and
+"""Whether the check of examples/python/validate.py passes signatures, and fails altered ones: those of tests/lines/servers, and
 some that are made here, of other algorithms or with a longer head of the key. Prints how many there are of each algorithm."""
 
 from __future__ import annotations

@@ -1,6 +1,6 @@
 """Answers of name servers, as they came: named of BIND, NSD and Knot, about zones whose signatures hold from 2026 to 2036.
 
-They stand in crates/test_servers/stdin beside what the zones say. Of each question to a zone one server's answer is taken, by turns.
+They stand in tests/lines/servers/stdin beside what the zones say. Of each question to a zone one server's answer is taken, by turns.
 Not taken are referrals with DS, behind which a validator has to ask on, and zones of an algorithm that the corpus leaves out.
 """
 
@@ -18,7 +18,7 @@ from ..wire import DS
 from ..zone import NOW
 
 TITLE = "answers of name servers"
-ROWS = pathlib.Path(__file__).resolve().parent.parent.parent.parent / "crates/test_servers/stdin"
+ROWS = pathlib.Path(__file__).resolve().parent.parent.parent.parent / "tests/lines/servers/stdin"
 ZONES = ["nsec.test", "nsec3.test", "nsec3i.test", "optout.test", "csk.test", "rsa.test", "ed25519.test", "two.test"]
 SAYS: dict[str, Expected] = {
     "Records": ("secure", "answer"), "NoType": ("secure", "nodata"), "NoName": ("secure", "nxdomain"), "StarRecords": ("secure", "wildcard"),
