@@ -11,7 +11,7 @@ import pathlib
 from wire import CNAME, DNAME, DS, name, text
 from zone import DS_DATA, Zone
 
-CRATE = pathlib.Path(__file__).resolve().parents[2] / "tests/lines/servers"
+LINES = pathlib.Path(__file__).resolve().parents[1] / "lines/servers"
 
 
 def target(data):
@@ -85,7 +85,7 @@ def renewed(read, printed):
 
 
 if __name__ == "__main__":
-    read, printed = (CRATE / it for it in ("stdin", "stdout"))
+    read, printed = (LINES / it for it in ("stdin", "stdout"))
     lines = renewed(read.read_text().splitlines(), printed.read_text().splitlines())
     for path, those in zip((read, printed), lines):
         path.write_text("\n".join([*those, ""]))

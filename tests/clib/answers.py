@@ -7,7 +7,7 @@ import functools
 import pathlib
 import re
 
-SERVERS = pathlib.Path(__file__).resolve().parents[2] / "tests/lines/servers"
+SERVERS = pathlib.Path(__file__).resolve().parents[1] / "lines/servers"
 # The words of those lines for what a judge answers, in the order of enum zermuita_reply; and reasons for refusals, from 16 on.
 VERDICTS = ["Records", "NoType", "NoName", "StarRecords", "StarNoType", "Delegated", "Open", "Unsigned"]
 VERDICTS += ["Alias", "WildcardAlias", "Dname", "Referral"]
@@ -163,11 +163,11 @@ def found(printed: str) -> Reply:
     raise ValueError(printed)
 
 
-def entries(crate: pathlib.Path = SERVERS) -> list[bytes]:
-    """The signatures that pass by the lines of a crate, as entries without their last octets."""
+def entries(folder: pathlib.Path = SERVERS) -> list[bytes]:
+    """The signatures that pass by the lines of a folder, as entries without their last octets."""
     found = []
     signer = b""
-    for line in (crate / "stdin").read_text().splitlines():
+    for line in (folder / "stdin").read_text().splitlines():
         name, *words = line.split(" ")
         if name == "key":
             flags, protocol, algorithm, key = words

@@ -13,7 +13,7 @@ from copies import Copies, key_tag, message, signed
 from findings import over, rests_on, rrsets, told_of, unproven
 from lasting import DNSKEY, Signature
 
-ROWS = pathlib.Path(__file__).resolve().parents[2] / "tests/lines/extended_errors"
+ROWS = pathlib.Path(__file__).resolve().parents[1] / "lines/extended_errors"
 BOGUS, EXPIRED, NOT_YET, NO_KEY, NO_SIGNATURE, NO_DENIAL, ITERATIONS = 6, 7, 8, 9, 10, 12, 27
 NO_TRUSTED_KEY = 21
 # What a refusal alone says; others say nothing, since the answer is not bogus or the library lacked something.

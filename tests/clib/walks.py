@@ -16,7 +16,7 @@ from findings import first_name, rrsets
 from lasting import DNSKEY, NSEC, RRSIG, records
 
 TESTS = pathlib.Path(__file__).resolve().parents[1]
-WALK = TESTS.parent / "tests/lines/walk"
+WALK = TESTS / "lines/walk"
 sys.path += [str(TESTS / it) for it in ("aliases", "walk")]
 import found as aliases  # noqa: E402
 import zones as made  # noqa: E402
@@ -162,7 +162,7 @@ def lines() -> tuple[list[Message], list[Walk]]:
                 without.add((wire_name(words[0]), wire_name(words[1]).lower(), int(words[2])))
             case "with":
                 without = set()
-            case "octets" | "resolve" if limits["aliases"]:
+            case "octets" | "resolve":
                 said = next(it for it in printed if it.startswith(f"{line}: "))
                 printed = printed[printed.index(said) + 1 :]
                 left = tuple(at for at, it in enumerate(messages) if (it.zone, it.name.lower(), it.rtype) in without)

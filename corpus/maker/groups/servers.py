@@ -18,7 +18,7 @@ from ..wire import DS
 from ..zone import NOW
 
 TITLE = "answers of name servers"
-ROWS = pathlib.Path(__file__).resolve().parent.parent.parent.parent / "tests/lines/servers/stdin"
+ROWS = pathlib.Path(__file__).resolve().parents[3] / "tests/lines/servers/stdin"
 ZONES = ["nsec.test", "nsec3.test", "nsec3i.test", "optout.test", "csk.test", "rsa.test", "ed25519.test", "two.test"]
 SAYS: dict[str, Expected] = {
     "Records": ("secure", "answer"), "NoType": ("secure", "nodata"), "NoName": ("secure", "nxdomain"), "StarRecords": ("secure", "wildcard"),

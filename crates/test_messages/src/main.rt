@@ -22,6 +22,10 @@
 //!   and its data. `ranked OCTETS,..`: data in order; `digests TAG,..`: DS records in order.
 //! - `fields RRSIG`: the fields of a signature, spelled and canonical; `signed RRSIG OWNER
 //!   OCTETS,..`: what it is made over.
+//! - `response TRANSPORT SIZE QUERY MESSAGE`: what a client sent and what the zone's publisher made
+//!   of it, carried by `tcp` or by a datagram of so many octets at most (TRANSPORT), for a server
+//!   that takes SIZE octets by UDP. Printed are the octets of the response, or `unreadable` where
+//!   the message does not read.
 //! - `zone NAME`: begins a zone; `soa SERIAL`, `ns OWNER TTL SERVER`, `rr OWNER CLASS TTL TYPE
 //!   OCTETS`: its records; `nsec3 ITERATIONS SALT OPTOUT LIMIT`: asks for a chain of hashes, by
 //!   SHA-1, instead of one of names; `accept`: makes it; `in-form`, before that: whether every
@@ -37,6 +41,7 @@ mod keys;
 mod name_answers;
 mod read;
 mod records;
+mod responses;
 mod words;
 mod zone;
 
@@ -57,6 +62,7 @@ fn reply(alloc: Global, section: &mut Section<'_>, line: &str) -> Option<String>
         "key" | "key-data" | "ranked" | "digests" | "fields" | "signed" => {
             of_keys(alloc, name, rest)
         }
+        "response" => responses::told(alloc, rest).done(),
         _ => section.reply(alloc, name, rest),
     }
 }
