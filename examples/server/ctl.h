@@ -80,6 +80,24 @@ static bool end_wait(struct served *served, const char *words) {
     return is_done;
 }
 
+/* Seconds by a clock that nobody sets, and that goes on while the machine sleeps. */
+static uint64_t boot_seconds(void) {
+    struct timespec now;
+    return clock_gettime(CLOCK_BOOTTIME, &now) == 0 ? (uint64_t)now.tv_sec : 0;
+}
+
+/*
+ * Whether a wait is over by both clocks: by the one that tells moments, and by one that nobody sets, which must have passed what was left
+ * of the wait when it was seen first. So a wall clock that jumps ahead, as one does that was a day behind, ends no wait.
+ */
+static bool is_over(struct pending *pending, uint32_t phase, uint64_t from, uint64_t moment) {
+    if (pending->phase != phase || pending->from != from) {
+        uint64_t left = from > moment ? from - moment : 0;
+        *pending = (struct pending){.phase = phase, .from = from, .until = boot_seconds() + left};
+    }
+    return from <= moment && pending->until <= boot_seconds();
+}
+
 /* Makes the waits that are over. False where one of them is not made. */
 static bool end_waits(struct served *served) {
     bool are_done = true;
@@ -88,7 +106,7 @@ static bool end_waits(struct served *served) {
         struct zermuita_due due = {.size = sizeof due};
         uint32_t reply = zermuita_zone_due(&served->zone, roll, (uint8_t *)names, sizeof names, &due);
         bool is_wait = due.phase == ZERMUITA_EXPIRY_1 || due.phase == ZERMUITA_EXPIRY_2;
-        if (reply == ZERMUITA_ZONE_DONE && is_wait && due.from <= line_moment(served)) {
+        if (reply == ZERMUITA_ZONE_DONE && is_wait && is_over(&served->pending[roll], due.phase, due.from, line_moment(served))) {
             snprintf(words, sizeof words, "%s %s", phases[due.phase], rolls[roll]);
             are_done = end_wait(served, words) && are_done;
         }

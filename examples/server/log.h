@@ -20,8 +20,9 @@ struct member {
     bool is_truth; /* the number is true, or 0 for false */
 };
 
-/* Where the log goes; `is_torn` where its last line has no end. */
+/* Where the log goes: a file by its name, or standard error. `is_torn` where its last line has no end. */
 static struct {
+    const char *path;
     int fd;
     bool is_torn;
 } log_file = {.fd = STDERR_FILENO};
@@ -38,10 +39,19 @@ static struct member as_truth(const char *name, bool is_true) {
     return (struct member){.name = name, .number = is_true, .is_truth = true};
 }
 
-/* Has the log go to the end of a file. */
+/* Has the log go to the end of a file. False, and the log goes where it went, if the file does not open. */
 static bool open_log(const char *path) {
-    log_file.fd = open(path, O_WRONLY | O_CREAT | O_APPEND | O_CLOEXEC, 0600);
-    return log_file.fd >= 0;
+    int fd = open(path, O_WRONLY | O_CREAT | O_APPEND | O_CLOEXEC, 0600);
+    if (fd < 0) {
+        return false;
+    }
+    if (log_file.path != NULL) {
+        close(log_file.fd);
+    }
+    log_file.path = path;
+    log_file.fd = fd;
+    log_file.is_torn = false;
+    return true;
 }
 
 /* Writes a string of JSON. An octet that is no printable character of ASCII is the character of its number: so any octets are. */
@@ -112,6 +122,14 @@ static void log_members(const char *event, const struct member *members, size_t 
 /* Logs what failed, and why. */
 static void log_failure(const char *what, const char *why) {
     LOG("failure", as_text("what", what), as_text("why", why));
+}
+
+/* Opens the log's file again, by its name: another one may be there, as after a rotation. */
+static void reopen_log(const char *who) {
+    if (log_file.path != NULL && !open_log(log_file.path)) {
+        log_failure("log", strerror(errno));
+    }
+    LOG("reopened", as_text("who", who));
 }
 
 /* Ends the server for what failed. */

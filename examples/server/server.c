@@ -25,7 +25,7 @@
 #include "watch.h"
 
 enum {
-    CONNECTIONS = 64, OF_NETWORK = 16, SEND_ROOM = 1 << 16, QUERY_SECONDS = 10, DATAGRAMS = 64, FIRST = 3, DAY = 86400,
+    CONNECTIONS = 64, OF_NETWORK = 16, SEND_ROOM = 1 << 16, QUERY_SECONDS = 10, WATCH_SECONDS = 5, DATAGRAMS = 64, FIRST = 3, DAY = 86400,
     DESCRIPTORS = FIRST + CONNECTIONS + 32,
 };
 
@@ -43,6 +43,9 @@ struct server {
     struct pollfd polled[FIRST + CONNECTIONS]; /* datagrams, the listener, commands, connections */
     bool is_auto, is_stopping;
     time_t every, count_at, look_at, refused_at; /* seconds: between counts in the log, their next one, the next look at waits */
+    char **watch;    /* the options of the process that watches; null where no server is watched */
+    pid_t watcher;   /* that process, 0 where there is none now */
+    time_t watch_at; /* when it is begun again, if it ended */
 };
 
 struct options {
@@ -53,11 +56,14 @@ struct options {
     bool is_auto, is_shared;
 };
 
-static volatile sig_atomic_t is_told_to_stop;
+static volatile sig_atomic_t is_told_to_stop, is_told_to_reopen;
 
 static void on_signal(int number) {
-    (void)number;
-    is_told_to_stop = 1;
+    if (number == SIGHUP) {
+        is_told_to_reopen = 1;
+    } else {
+        is_told_to_stop = 1;
+    }
 }
 
 /* Seconds by a clock that nobody sets. */
@@ -363,13 +369,30 @@ static void answer_command(struct server *server) {
     }
 }
 
+/* Begins the process that watches, or begins it again seconds after it ended. */
+static void keep_watch(struct server *server) {
+    if (server->watch == NULL) {
+        return;
+    }
+    if (server->watcher > 0 && waitpid(server->watcher, NULL, WNOHANG) == server->watcher) {
+        log_failure("watch", "it ended, and begins again");
+        server->watcher = 0;
+        server->watch_at = seconds() + WATCH_SECONDS;
+    }
+    if (server->watcher == 0 && seconds() >= server->watch_at) {
+        server->watcher = begin_watch(server->watch);
+        server->watch_at = seconds() + WATCH_SECONDS;
+        if (server->watcher < 0) {
+            log_failure("watch", strerror(errno));
+            server->watcher = 0;
+        }
+    }
+}
+
 /* Does what is due each second, or behind a wait or a socket that failed a minute later. */
 static bool look_around(struct server *server) {
     struct served *served = &server->served;
     bool is_done = take_commands(server);
-    if (waitpid(-1, NULL, WNOHANG) > 0) {
-        log_failure("watch", "it ended");
-    }
     if (server->polled[2].fd >= 0 && (server->is_auto || served->journal.is_torn)) {
         begin_turn(served, F_WRLCK);
         is_done = (!server->is_auto || end_waits(served)) && is_done;
@@ -381,6 +404,7 @@ static bool look_around(struct server *server) {
 /* Does what is due by the clock. */
 static void look_at_clock(struct server *server) {
     time_t now = seconds();
+    keep_watch(server);
     if (now >= server->look_at) {
         server->look_at = now + (look_around(server) ? 1 : 60);
     }
@@ -390,10 +414,22 @@ static void look_at_clock(struct server *server) {
     }
 }
 
+/* Opens the log again, here and in the process that watches. */
+static void reopen_logs(struct server *server) {
+    reopen_log("server");
+    if (server->watcher > 0) {
+        kill(server->watcher, SIGHUP);
+    }
+}
+
 static void serve(struct server *server) {
     server->count_at = seconds() + server->every;
     while (!server->is_stopping && !is_told_to_stop) {
         int count = poll(server->polled, FIRST + CONNECTIONS, 1000);
+        if (is_told_to_reopen) {
+            is_told_to_reopen = 0;
+            reopen_logs(server);
+        }
         if (count > 0) {
             answer(server);
             if (server->polled[1].revents != 0) {
@@ -537,6 +573,22 @@ static void take_files(struct served *served, const struct options *options) {
     served->step = (uint32_t)options->step;
 }
 
+/* Whether the keys of the folder make all signatures of the answers for SOA and DNSKEY, and thus of all others. */
+static bool can_sign(struct served *served) {
+    static const uint16_t types[] = {TYPE_SOA, TYPE_DNSKEY};
+    struct name apex;
+    bool can = read_name(served->apex, &apex);
+    begin_answers(served);
+    for (size_t i = 0; can && served->may_answer && i < sizeof types / sizeof *types; i++) {
+        uint8_t query[512];
+        size_t len = write_query(&apex, types[i], query);
+        size_t count = answer_query(served, query + 2, len - 2, true);
+        can = count >= 12 && (served->out[3] & 15) == 0;
+    }
+    end_turn(served);
+    return can;
+}
+
 /* Opens the zone of a folder, whose journal begins with a master file if it is new. */
 static void open_folder(struct served *served, const struct options *options) {
     take_files(served, options);
@@ -554,6 +606,12 @@ static void open_folder(struct served *served, const struct options *options) {
         fail(served->path);
     }
     bool is_new = served->journal.len == 0;
+    if (is_new && served->answered > 0) {
+        log_failure(served->path, "the folder has answered, and its journal is gone: put it back; where the zone is to begin anew, "
+                                  "which validators refuse until its parent has the new keys, remove the file `answered` first");
+        unlink(served->path); /* it has nothing */
+        exit(EXIT_FAILURE);
+    }
     if (is_new) {
         begin_folder(served, options);
     }
@@ -570,6 +628,11 @@ static void open_folder(struct served *served, const struct options *options) {
         fail("answered");
     }
     end_turn(served);
+    if (!can_sign(served)) {
+        LOG("failure", as_text("what", "start"), as_text("why", "the private key of a key that signs the zone is not in the folder"),
+            as_text("folder", served->keys.folder));
+        exit(EXIT_FAILURE);
+    }
 }
 
 /* Says that the server answers, to its log and on standard output. */
@@ -582,14 +645,15 @@ static void say_start(const struct server *server, const struct options *options
     fflush(stdout);
 }
 
-/* Begins to watch servers, if some are told. */
-static void begin_look(const struct options *options) {
+/* Reads which servers are to be watched; null where none are. */
+static struct watch *read_watch(const struct options *options) {
     struct watch *watch = options->server_count + options->parent_count > 0 ? calloc(1, sizeof *watch) : NULL;
     if (watch == NULL) {
-        return;
+        return NULL;
     }
     bool is_read = read_peer(&watch->own, options->address, options->port);
     watch->folder = options->folder;
+    watch->seconds = (unsigned)options->look;
     for (; is_read && watch->server_count < options->server_count; watch->server_count++) {
         is_read = read_address(&watch->servers[watch->server_count], options->servers[watch->server_count]);
     }
@@ -600,10 +664,7 @@ static void begin_look(const struct options *options) {
         log_failure("watch", "no address, or no port");
         exit(EXIT_FAILURE);
     }
-    if (!begin_watch(watch, (unsigned)options->look)) {
-        fail("watch");
-    }
-    free(watch);
+    return watch;
 }
 
 /* Whether there are descriptors for all connections: where one is missing, a connection that waits would be tried again and again. */
@@ -621,6 +682,7 @@ static bool has_descriptors(void) {
 static void take_signals(void) {
     signal(SIGTERM, on_signal);
     signal(SIGINT, on_signal);
+    signal(SIGHUP, on_signal);
     signal(SIGPIPE, SIG_IGN);
     signal(SIGXFSZ, SIG_IGN);
 }
@@ -644,6 +706,12 @@ int main(int argc, char **argv) {
         signal(SIGPIPE, SIG_IGN);
         return send_command(argv[2], argc - 3, argv + 3);
     }
+    /* The process beside a server that watches others begins so. */
+    long looks = argc > 1 && strncmp(argv[1], "--looks=", 8) == 0 ? strtol(argv[1] + 8, NULL, 10) : 0;
+    if (looks > 0) {
+        argc--;
+        argv++;
+    }
     if (!read_options(&options, argc, argv)) {
         fputs("usage: server [--address=A] [--port=N] [--share] [--backdate=SECONDS] [--step=SECONDS] [--rate=N] [--responses=N]\n"
               "              [--chain=WORDS] [--origin=NAME] [--auto] [--log=FILE] [--every=SECONDS] [--watch=HOST:PORT]..\n"
@@ -655,11 +723,21 @@ int main(int argc, char **argv) {
         perror(options.log);
         return EXIT_FAILURE;
     }
-    begin_look(&options);
+    if (looks > 0) {
+        struct watch *watch = read_watch(&options);
+        if (watch != NULL) {
+            look_on(watch, looks);
+        }
+        free(watch);
+        return EXIT_SUCCESS;
+    }
     struct server *server = calloc(1, sizeof *server);
     if (server == NULL) {
         fail("memory");
     }
+    struct watch *watch = read_watch(&options);
+    server->watch = watch != NULL ? argv + 1 : NULL;
+    free(watch);
     take_signals();
     server->is_auto = options.is_auto;
     server->every = (time_t)options.every;

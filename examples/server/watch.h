@@ -10,6 +10,7 @@
 
 #include "ask.h"
 #include "client.h"
+#include "ds.h"
 #include "log.h"
 #include <signal.h>
 #include <sys/prctl.h>
@@ -28,12 +29,14 @@ struct parent {
 
 struct watch {
     const char *folder;
+    unsigned seconds; /* between two looks */
     struct peer own, servers[WATCHED];
     struct parent parents[WATCHED];
     size_t server_count, parent_count;
     struct name name;  /* of the zone */
     uint32_t greatest; /* TTL of the zone's records */
     struct set wanted; /* the DS set that the parent is to have */
+    struct set made;   /* the DS data of all keys that the zone publishes, with each digest that is made here */
     char lacking[512]; /* what the log said last of it */
 };
 
@@ -72,7 +75,7 @@ static void look_at_parents(struct watch *watch) {
             parent->is_known = true;
             parent->last = found;
             parent->greatest = found.ttl > parent->greatest ? found.ttl : parent->greatest;
-            parent->was_other = parent->was_other || !is_same(&found, &watch->wanted);
+            parent->was_other = parent->was_other || !names_wanted(&found, &watch->wanted, &watch->made);
         }
     }
 }
@@ -99,9 +102,13 @@ static bool add_ds(struct set *set, const char *line) {
 
 /* Takes the DS set that the parent is to have. Where it is a new one, what a server said before is another one, or the same. */
 static void take_wanted(struct watch *watch, const struct set *set) {
+    static struct set keys;
+    if (!ask_set(&watch->own, &watch->name, TYPE_DNSKEY, &keys) || !digests_of(&keys, &watch->name, &watch->made)) {
+        watch->made = (struct set){.len = 0};
+    }
     for (size_t i = 0; !is_same(set, &watch->wanted) && i < watch->parent_count; i++) {
         struct parent *parent = &watch->parents[i];
-        parent->was_other = parent->is_known && !is_same(&parent->last, set);
+        parent->was_other = parent->is_known && !names_wanted(&parent->last, set, &watch->made);
     }
     watch->wanted = *set;
 }
@@ -110,7 +117,7 @@ static void take_wanted(struct watch *watch, const struct set *set) {
 static bool have_ds(struct watch *watch, bool needs_ttl) {
     for (size_t i = 0; i < watch->parent_count; i++) {
         struct parent *parent = &watch->parents[i];
-        if (!parent->is_now || !is_same(&parent->last, &watch->wanted)) {
+        if (!parent->is_now || !names_wanted(&parent->last, &watch->wanted, &watch->made)) {
             return lacks(watch, parent->peer.name, "DS");
         } else if (needs_ttl && !parent->was_other) {
             return lacks(watch, parent->peer.name, "the TTL of the DS set before, which was not seen: report it by hand");
@@ -204,19 +211,58 @@ static void look(struct watch *watch) {
     free(due);
 }
 
-/* Begins the process, which ends with this one. False where it does not begin. */
-static bool begin_watch(struct watch *watch, unsigned seconds) {
-    pid_t server = getpid(), made = fork();
-    if (made != 0) {
-        return made > 0;
+static volatile sig_atomic_t is_watch_reopening;
+
+static void reopen_in_watch(int number) {
+    (void)number;
+    is_watch_reopening = 1;
+}
+
+/* Sleeps, and opens the log again whenever it is told to. */
+static void sleep_and_reopen(unsigned seconds) {
+    do {
+        if (is_watch_reopening) {
+            is_watch_reopening = 0;
+            reopen_log("watch");
+        }
+        seconds = sleep(seconds);
+    } while (seconds > 0 || is_watch_reopening);
+}
+
+/*
+ * Begins the process, which ends with this one: the same program with the same options behind `--looks=PID`, so that it has nothing of the
+ * server's memory, keys least of all, and none of its descriptors. Gives its number, or one below 0 if it does not begin.
+ */
+static pid_t begin_watch(char **options) {
+    char word[64];
+    size_t count = 0;
+    snprintf(word, sizeof word, "--looks=%ld", (long)getpid());
+    while (options[count] != NULL) {
+        count++;
     }
+    char **words = calloc(count + 3, sizeof *words);
+    pid_t made = words != NULL ? fork() : -1;
+    if (made == 0) {
+        words[0] = "watch";
+        words[1] = word;
+        memcpy(words + 2, options, count * sizeof *options);
+        signal(SIGHUP, SIG_IGN); /* until the program takes it */
+        execv("/proc/self/exe", words);
+        _exit(EXIT_FAILURE);
+    }
+    free(words);
+    return made;
+}
+
+/* Looks for as long as the server lives. */
+static void look_on(struct watch *watch, long server) {
     prctl(PR_SET_PDEATHSIG, SIGTERM);
+    signal(SIGHUP, reopen_in_watch);
     signal(SIGPIPE, SIG_IGN);
     while (getppid() == server) {
-        sleep(seconds);
+        sleep_and_reopen(watch->seconds);
         look(watch);
     }
-    _exit(EXIT_SUCCESS);
 }
 
 #endif

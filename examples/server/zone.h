@@ -14,8 +14,15 @@
 
 enum { OUT_ROOM = 1 << 20, TEXT_ROOM = 1024, UDP_SIZE = 1232 };
 
+/* A wait that was seen: the second from which the zone accepts its end, and that of the clock that nobody sets. */
+struct pending {
+    uint32_t phase;
+    uint64_t from, until;
+};
+
 struct served {
     struct zermuita_zone zone;
+    struct pending pending[ZERMUITA_ALGORITHM_ROLL + 1]; /* by rolls */
     struct journal journal;
     struct keys keys;
     struct cache cache;
@@ -138,14 +145,25 @@ static bool apply_line(struct served *served, const char *line, FILE *said) {
     return reply == ZERMUITA_ZONE_DONE || reply == ZERMUITA_ZONE_UNTOLD;
 }
 
-/* Logs lines that were written behind the journal. */
+/* Logs lines that were written behind the journal, each but those of records, which are counted in front of the line that they belong to. */
 static void log_lines(const char *lines, size_t len) {
+    uint64_t records = 0;
     for (const char *line = lines, *end; line < lines + len && (end = strchr(line, '\n')) != NULL; line = end + 1) {
+        if (strncmp(line, "rr ", 3) == 0) {
+            records++;
+            continue;
+        }
         char *copy = strndup(line, (size_t)(end - line));
-        if (copy != NULL) {
+        if (copy != NULL && records > 0) {
+            LOG("journal", as_text("line", copy), as_number("records", records));
+        } else if (copy != NULL) {
             LOG("journal", as_text("line", copy));
         }
+        records = 0;
         free(copy);
+    }
+    if (records > 0) {
+        LOG("journal", as_number("records", records));
     }
 }
 
@@ -229,10 +247,23 @@ static bool apply_lines(struct served *served, char *lines, FILE *said) {
     return true;
 }
 
+/* Opens a regular file. What is none, as a pipe, is refused: opening or reading it might never end. */
+static FILE *open_file(const char *path) {
+    struct stat stat;
+    int fd = open(path, O_RDONLY | O_CLOEXEC | O_NONBLOCK);
+    if (fd >= 0 && (fstat(fd, &stat) != 0 || !S_ISREG(stat.st_mode))) {
+        int why = S_ISDIR(stat.st_mode) ? EISDIR : EINVAL;
+        close(fd);
+        errno = why;
+        return NULL;
+    }
+    return fd >= 0 ? fdopen(fd, "r") : NULL;
+}
+
 /* The octets of a file, in memory of their own; null where it cannot be read. */
 static char *read_file(const char *path, size_t *len) {
     char part[4096], *octets = NULL;
-    FILE *file = fopen(path, "r"), *out = file == NULL ? NULL : open_memstream(&octets, len);
+    FILE *file = open_file(path), *out = file == NULL ? NULL : open_memstream(&octets, len);
     bool is_read = out != NULL;
     for (size_t count; is_read && (count = fread(part, 1, sizeof part, file)) > 0;) {
         is_read = fwrite(part, 1, count, out) == count;

@@ -99,8 +99,8 @@ def check_log(server):
     commands = {(it["line"], it["done"]) for it in events if it["event"] == "command"}
     if not {(odd.decode("latin-1"), False), ("report1 ksk-roll 1", False), ("status", True), ("key csk p256", True)} <= commands:
         fail("commands that the log does not tell:", commands)
-    lines = [it["line"] for it in events if it["event"] == "journal"]
-    if (server.folder / "journal").read_text() != "".join(f"{it}\n" for it in lines):
+    lines = [it["line"] for it in events if it["event"] == "journal" and "line" in it]
+    if [it for it in (server.folder / "journal").read_text().splitlines() if not it.startswith("rr ")] != lines:
         fail("the log does not tell the lines of the journal:", lines)
     counts = [it for it in events if it["event"] == "counts"][-1]
     if not all(it["time"].endswith("Z") and it["pid"] for it in events) or counts["udp"] < 15 or counts["NXDOMAIN"] < 4:

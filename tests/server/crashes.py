@@ -65,6 +65,7 @@ def begin_again(server):
     """A new journal, and a first key in it."""
     server.stop()
     (server.folder / "journal").unlink()
+    (server.folder / "answered").unlink()
     server.start()
     first_key(server)
 

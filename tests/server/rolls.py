@@ -43,9 +43,9 @@ def roll(server, kind, old, new, is_auto=False):
 class Parent(threading.Thread):
     """A server of the parent: it says a DS set, with a TTL, to all that it is asked by TCP."""
 
-    def __init__(self):
+    def __init__(self, port=PORT + 3):
         super().__init__(daemon=True)
-        self.records, self.ttl, self.listener = [], 0, socket.create_server(("127.0.0.1", PORT + 3))
+        self.records, self.ttl, self.listener = [], 0, socket.create_server(("127.0.0.1", port))
 
     def run(self):
         while True:

@@ -26,14 +26,17 @@ def fail(*words):
     sys.exit(1)
 
 
-def build(room, prefix, compiler, source, name):
-    """A program, with sanitizers."""
+SANITIZERS = ("-fsanitize=address,undefined", "-fno-sanitize-recover=all")
+
+
+def build(room, prefix, compiler, source, name, sanitizers=SANITIZERS):
+    """A program."""
     libs = os.environ.get("ZERMUITA_LIBS")
     if libs is None:
         env = {**os.environ, "PKG_CONFIG_PATH": f"{prefix}/lib/pkgconfig"}
         libs = run("pkg-config", "--cflags", "--libs", "zermuita", env=env).stdout + f" -Wl,-rpath,{prefix}/lib"
-    words = [compiler, "-std=gnu11", "-Wall", "-Wextra", "-Wconversion", "-Werror", "-g", "-O1", "-fsanitize=address,undefined"]
-    made = run(*words, "-fno-sanitize-recover=all", "-o", room / name, source, *libs.split(), "-lcrypto")
+    words = [compiler, "-std=gnu11", "-Wall", "-Wextra", "-Wconversion", "-Werror", "-g", "-O1"]
+    made = run(*words, *sanitizers, "-o", room / name, source, *libs.split(), "-lcrypto")
     if made.returncode != 0:
         fail(made.stderr)
     return room / name
