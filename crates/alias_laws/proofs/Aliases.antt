@@ -14,9 +14,9 @@ use Rattle.denial_laws.specs.Truth.{NoSharedHash}
 use Rattle.messages.specs.Handed.{AreHanded, IsHanded}
 use Rattle.messages.specs.HandedRr.{HandedRr, among}
 use Rattle.messages.proofs.Lists.{all_fail, all_sorted}
-use Rattle.answer_shared.specs.Accepted.{IsAccepted}
-use Rattle.answer_shared.specs.Accepting.{is_alias, record_cmp, rr_of, sorted_records, zone_of}
-use Rattle.answer_shared.specs.Hashing.{Hasher}
+use Rattle.answer_terms.specs.Accepted.{IsAccepted}
+use Rattle.answer_terms.specs.Accepting.{is_alias, record_cmp, rr_of, sorted_records, zone_of}
+use Rattle.answer_terms.specs.Hashing.{Hasher}
 use Rattle.answer_zone.specs.Finding.{finds, redirecting}
 use Rattle.answer_zone_records.specs.AliasFaults.{HasTarget, IsAcceptedWithAliases, crowds, is_disorderly, lacks_target, redirects_star}
 use Rattle.answer_zone_records.specs.ZoneInOrder.{AreZoneRecords}

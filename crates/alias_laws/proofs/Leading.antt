@@ -13,7 +13,7 @@ use Rattle.denial_laws.proofs.NameFacts.{above_trans, strictly_at}
 use Rattle.denial_laws.proofs.Unaliased.{cut_unaliased, cut_unredirected, kept_unredirected, no_alias, none_below, own_alias, unredirected}
 use Rattle.denial_laws.proofs.Verdicts.{verdict_signed}
 use Rattle.denial_laws.proofs.ZoneCuts.{IsCut, IsEncloser, ce_encloses, cut_is, cut_live, has_owner, kept_inside, owner_kept, uncut, uncut_live}
-use Rattle.answer_zone.specs.Finding.{finds, redirecting, redirects}
+use Rattle.answer_zone.specs.Finding.{finds, redirecting, zone_redirects}
 use Rattle.answer_zone.proofs.Found.{finds_said, told, told_existing, told_no_star}
 use Rattle.alias_laws.specs.Leading.{leads_elsewhere}
 use Rattle.answer_zone.specs.ZoneAnswers.{answered}
@@ -40,7 +40,7 @@ pub record Redirects (z : Zone) (d : Name) : Type 0 where
   pub dname : has z (low d) 39 ≡ true
   pub live : is_live z (low d) ≡ true
 
-nearest : (z : Zone) (q d : Name) (rest : Option Name) → (rest ≡ Some d → Redirects z d) → (b : Bool) → redirects z (low q) ≡ b → cond b (Some q) rest ≡ Some d → Redirects z d
+nearest : (z : Zone) (q d : Name) (rest : Option Name) → (rest ≡ Some d → Redirects z d) → (b : Bool) → zone_redirects z (low q) ≡ b → cond b (Some q) rest ≡ Some d → Redirects z d
 nearest z q d rest later true r e =
     let is : q ≡ d = cc in
     let both = and_parts (has z (low q) 39) (is_live z (low q)) r in
@@ -49,7 +49,7 @@ nearest z q d rest later false r e = later e
 
 pub redirector : (z : Zone) (q d : Name) → redirecting z q ≡ Some d → Redirects z d
 redirector z [] d e = absurd cc
-redirector z (l ∷ q) d e = nearest z q d (redirecting z q) (redirector z q d) (redirects z (low q)) refl e
+redirector z (l ∷ q) d e = nearest z q d (redirecting z q) (redirector z q d) (zone_redirects z (low q)) refl e
 
 -- ---- what is found
 

@@ -18,11 +18,11 @@ use Rattle.messages.specs.Message.{Asked}
 use Rattle.messages.specs.Star.{begins_with_star}
 use Rattle.messages.proofs.Lists.{all_fail, all_more, all_sorted}
 use Rattle.messages.proofs.ZoneNames.{labels_eq-same, same_labels, strictly_above-low}
-use Rattle.answer_shared.specs.Accepted.{IsAccepted}
-use Rattle.answer_shared.specs.Accepting.{delegates_star, is_added_by_signing, is_alias, record_cmp, rr_of, soas, sorted_records, zone_of}
-use Rattle.answer_shared.specs.Asking.{is_allowed}
-use Rattle.answer_shared.specs.Hashing.{Hasher}
-use Rattle.answer_shared.proofs.Servable.{asked_inside}
+use Rattle.answer_terms.specs.Accepted.{IsAccepted}
+use Rattle.answer_terms.specs.Accepting.{delegates_star, is_added_by_signing, is_alias, record_cmp, rr_of, soas, sorted_records, zone_of}
+use Rattle.answer_terms.specs.Asking.{is_allowed}
+use Rattle.answer_terms.specs.Hashing.{Hasher}
+use Rattle.answer_terms.proofs.Servable.{asked_inside}
 use Rattle.answer_zone_records.specs.AliasFaults.{IsAcceptedWithAliases, crowds, has_data, has_disorder, is_below_dname, is_disorderly, lacks_target, redirects_star, repeats, rivals, rivals_cname, rivals_dname}
 use Rattle.answer_zone_records.proofs.Disorder.{no_disorder}
 

@@ -10,10 +10,10 @@ use Rattle.denial_laws.specs.Truth.{IsServable, NoSharedHash}
 use Rattle.messages.specs.Handed.{AreHanded}
 use Rattle.messages.specs.HandedRr.{HandedRr}
 use Rattle.messages.specs.Message.{Asked}
-use Rattle.answer_shared.specs.Accepted.{IsAccepted}
-use Rattle.answer_shared.specs.Accepting.{is_alias, zone_of}
-use Rattle.answer_shared.specs.Asking.{is_allowed}
-use Rattle.answer_shared.specs.Hashing.{Hasher}
+use Rattle.answer_terms.specs.Accepted.{IsAccepted}
+use Rattle.answer_terms.specs.Accepting.{is_alias, zone_of}
+use Rattle.answer_terms.specs.Asking.{is_allowed}
+use Rattle.answer_terms.specs.Hashing.{Hasher}
 use Rattle.answer_zone.specs.Finding.{finds, redirecting}
 use Rattle.answer_zone_records.specs.AliasFaults.{HasTarget, IsAcceptedWithAliases}
 use Rattle.answer_zone_records.specs.ZoneInOrder.{AreZoneRecords}

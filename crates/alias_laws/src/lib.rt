@@ -1,5 +1,5 @@
-//! Laws of zones in which aliases stand: they can be served, they lead elsewhere exactly where a
-//! name is an alias, and their own answers decide of names that are none, and of the aliases.
+//! Laws about zones with CNAME and DNAME records: they can be served, they lead elsewhere exactly
+//! if a name is an alias, and their own answers decide all other names, and the aliases.
 #![tactic(auto)]
 
 pub mod laws;

@@ -8,9 +8,9 @@ use Rattle.definitions.specs.Name.{Name}
 use Rattle.definitions.specs.ZoneChain.{Mode}
 use Rattle.messages.specs.HandedRr.{HandedRr, is_meta}
 use Rattle.messages.proofs.Lists.{some_is}
-use Rattle.answer_shared.specs.Accepting.{delegates_star, is_added_by_signing, is_alias, is_of_other_class, is_outside, over_limit}
-use Rattle.answer_shared.specs.Hashing.{Hasher}
-use Rattle.answer_shared.specs.ZoneView.{AcceptedZone}
+use Rattle.answer_terms.specs.Accepting.{delegates_star, is_added_by_signing, is_alias, is_of_other_class, is_outside, over_limit}
+use Rattle.answer_terms.specs.Hashing.{Hasher}
+use Rattle.answer_terms.specs.ZoneView.{AcceptedZone}
 use Rattle.answer_zone_records.specs.Faults.{IsFault, first_fault}
 use Rattle.answer_zone_records.specs.declared.fault.ZoneFault.{ZoneFault}
 use Rattle.answer_zone_records.specs.declared.fault.ZoneFault.TheVariants as fault

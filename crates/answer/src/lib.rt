@@ -1,5 +1,4 @@
-//! A publisher of one signed zone whose keys roll, a judge that sees a DS set, a DNSKEY answer and
-//! a zone answer as bytes alone, and a simulation of a zone's key life that joins the two.
+//! The publisher, the judge, and a simulation that joins them over a zone's key life.
 //!
 //! A caller finds here what these calls take and give; all of names, records, DNSSEC data and key
 //! sets stands in the modules of the layers.
@@ -12,7 +11,7 @@ pub use answer_events::event::{Act, AddKey, Event, KeyCall};
 pub use answer_events::key_kind::KeyKind;
 pub use answer_judge::judging::is_allowed;
 pub use answer_judge::{
-    Case, DataList, Judgement, Lasting, Refusal, Refused, Verdict, judge, judge_with,
+    Case, DataList, Judgement, Refusal, Refused, Validity, Verdict, judge, judge_with,
 };
 pub use answer_laws::laws;
 pub use answer_outcomes::outcome::Outcome;
@@ -20,7 +19,7 @@ pub use answer_publisher::fault::{AnswerFault, KeyFault, ReplaceFault, ZoneFault
 pub use answer_publisher::publishing::Publisher;
 pub use answer_scheme::counting::SchemeChecks;
 pub use answer_scheme::{Checks, Scheme, SchemeError};
-pub use answer_shared::mode::Mode;
+pub use answer_terms::mode::Mode;
 pub use denial;
 pub use denial::{Dnskey, Ds, HashError, Nsec3Hasher};
 pub use keyset;

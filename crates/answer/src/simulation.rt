@@ -2,17 +2,17 @@
 ghost use Rattle.std.specs.Prelude.{◌<◌, ◌≤◌, ◌^◌, All, map, IfOk, IfErr};
 ghost use Rattle.answer_zone_records.specs.Faults.{RefusesZone};
 ghost use Rattle.messages.specs.HandedRr.{handed_of};
-ghost use Rattle.answer_shared.specs.ModeView.{mode_of};
+ghost use Rattle.answer_terms.specs.ModeView.{mode_of};
 ghost use Rattle.answer_events.specs.Events.{added_octets};
 ghost use Rattle.answer_laws.specs.Simulations.{IsSimulation};
-ghost use Rattle.answer_publisher.specs.World.{world_by, zone_by};
+ghost use Rattle.answer_publisher.specs.World.{world_of_scheme, zone_by};
 
 use crate::simulation::run::Run;
 use answer_events::event::Event;
 use answer_outcomes::outcome::Outcome;
 use answer_publisher::publishing::Publisher;
 use answer_scheme::scheme::Scheme;
-use answer_shared::mode::Mode;
+use answer_terms::mode::Mode;
 use answer_zone_records::fault::ZoneFault;
 use denial_nsec3_hash::hasher::Nsec3Hasher;
 use messages::names::Name;
@@ -48,7 +48,7 @@ pub fn simulate<S: Scheme, H: Nsec3Hasher>(
     requires life { life < 2 ^ 31 }
     requires keys { All (λ e. added_octets e ≤ 65531) events.now }
     ensures simulation { let rs = map handed_of records.items in
-        let by = world_by S.signature_of S.verifies S.digest_of H.hash_of scheme.now hasher.now in
+        let by = world_of_scheme S.signature_of S.verifies S.digest_of H.hash_of scheme.now hasher.now in
         let w = by (zone_by apex (mode_of mode) limit rs) life in
         IfOk result (λ outcomes. IsSimulation w rs events.now outcomes.items) }
     ensures fault { let rs = map handed_of records.items in

@@ -1,5 +1,5 @@
-//! What happens to a signed zone over time: calls on its keys, things shown, judgements. A
-//! session's lines are read as these, and a simulation runs them.
+//! The events of a signed zone: key calls, recorded answers, judgements. The lines of a session
+//! spell them, and a simulation runs them.
 #![tactic(auto)]
 
 pub mod event;

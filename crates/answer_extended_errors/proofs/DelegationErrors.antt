@@ -11,7 +11,7 @@ use Rattle.answer_scheme.specs.Answers.{Answers}
 use Rattle.answer_judge_keys.specs.DnskeyAnswer.{keys_in}
 use Rattle.answer_judge_keys.specs.Trusted.{is_trusted}
 use Rattle.answer_judge_facts.specs.Sought.{keys_sought}
-use Rattle.answer_judge_facts.specs.declared.groups.Group.{Group}
+use Rattle.answer_judge_facts.specs.declared.groups.SignedRrset.{SignedRrset}
 use Rattle.answer_judge_facts.proofs.JudgeMarks.{or_no}
 use Rattle.answer_extended_errors.specs.Extended.{RrsetTest, is_made, signatures_of, untimely, untrusted_keys}
 use Rattle.answer_extended_errors.specs.Groups.{is_among}
@@ -44,7 +44,7 @@ module _ (a : Answers) (apex : Name) (ds : List Ds) (m : List ℕ) (rs : List Sp
   none_named made lacking = sym (λ i. untrusted_by (made i) (lacking i) (late (keys_sought apex keys).is))
 
   -- the RRset of the keys
-  module _ (g : Group) (owner : g.owner ≡ apex) (rtype : g.rtype ≡ 48) where
+  module _ (g : SignedRrset) (owner : g.owner ≡ apex) (rtype : g.rtype ≡ 48) where
     among : is_among (g ∷ []) ≡ (keys_sought apex keys).is
     among = λ i o t. ((λ j. ((rtype j == t) && same o (owner j)) || false) ∙ or_no ((48 == t) && same o apex)) i
 

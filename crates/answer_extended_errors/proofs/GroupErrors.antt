@@ -10,28 +10,28 @@ use Rattle.definitions.specs.Name.{Name, at_or_above, low, same}
 use Rattle.messages.specs.Message.{Asked, Spelled}
 use Rattle.messages.proofs.Lists.{Has, all_at, any_from, both_ways, found, list_any-map}
 use Rattle.messages.proofs.ZoneNames.{labels_eq-same, same_labels}
-use Rattle.answer_shared.specs.HashOwner.{spells_hash}
+use Rattle.answer_terms.specs.HashOwner.{spells_hash}
 use Rattle.answer_judge_facts.specs.Marked.{AreGathered, IsAlone, IsGathered, data_in, is_chain, is_chain_type, is_of, marked, stands_alone}
 use Rattle.answer_judge_facts.specs.Sought.{is_alone}
 use Rattle.answer_judge_facts.specs.Verified.{Trusting, is_hash_alone, is_verified, one_known, rrset_in}
-use Rattle.answer_judge_facts.specs.declared.groups.Group.{Group}
+use Rattle.answer_judge_facts.specs.declared.groups.SignedRrset.{SignedRrset}
 use Rattle.answer_judge_facts.proofs.JudgeCase.{is_verified-owner, rrset_in-owner}
 use Rattle.answer_judge_facts.proofs.JudgeFacts.{alone_owner, chain_cases, chain_type, group_alone}
 use Rattle.answer_judge_facts.proofs.JudgeMarks.{marked_is, or_no}
 use Rattle.answer_judge_facts.proofs.JudgeSought.{record_there}
-use Rattle.answer_extended_errors.specs.Extended.{RrsetTest, is_chain_rrset, is_of_rrset, is_of_verified, is_rrset_asked, resting_on, rests_on, signatures_of, unproven_under, untimely}
+use Rattle.answer_extended_errors.specs.Extended.{RrsetTest, is_chain_rrset, is_of_rrset, is_of_verified, is_rrset_asked, resting_on, is_rrset_rested_on, signatures_of, unproven_under, untimely}
 use Rattle.answer_extended_errors.specs.Groups.{groups_error, is_among, is_marked}
 use Rattle.answer_extended_errors.specs.declared.error.ExtendedError.{ExtendedError}
 use Rattle.answer_extended_errors.specs.declared.error.ExtendedError.TheVariants as e
 
 -- an RRset of a message that has a record, not yet verified
-pub record IsThere (m : List ℕ) (rs : List Spelled) (g : Group) : Type 0 where
+pub record IsThere (m : List ℕ) (rs : List Spelled) (g : SignedRrset) : Type 0 where
   pub data_are : data_in g ≡ rrset_in pointer_limit m rs g.owner g.rtype
   pub filled : rrset_in pointer_limit m rs g.owner g.rtype ≡ [] → ⊥
   pub unverified : g.verified ≡ None
 
 -- the RRsets of a message that pass a test
-pub record AreThose (m : List ℕ) (rs : List Spelled) (is : RrsetTest) (gs : List Group) : Type 0 where
+pub record AreThose (m : List ℕ) (rs : List Spelled) (is : RrsetTest) (gs : List SignedRrset) : Type 0 where
   pub are : (o : Name) (t : ℕ) → is o t ≡ list_any (is_of o t) gs
   pub each : AllByRecursion (IsThere m rs) gs
 
@@ -60,9 +60,9 @@ error_by none late verified =
       | None ↦ if verified then e.IncompleteDenial else e.DnssecBogus
     ]
 
-module _ (w : Trusting) (m : List ℕ) (rs : List Spelled) (is : RrsetTest) (gs : List Group) (those : AreThose m rs is gs) where
+module _ (w : Trusting) (m : List ℕ) (rs : List Spelled) (is : RrsetTest) (gs : List SignedRrset) (those : AreThose m rs is gs) where
   -- a record of a group's RRset is of one that passes
-  record_of : (g : Group) → Has gs g → (r : Spelled) × Has rs r × (is_of_rrset is r ≡ true) × (r.rtype ≡ g.rtype) × (low r.owner ≡ low g.owner)
+  record_of : (g : SignedRrset) → Has gs g → (r : Spelled) × Has rs r × (is_of_rrset is r ≡ true) × (r.rtype ≡ g.rtype) × (low r.owner ≡ low g.owner)
   record_of g i =
       let there = all_at (IsThere m rs) gs g those.each i in
       let f = record_there pointer_limit m rs g.owner g.rtype there.filled in
@@ -74,7 +74,7 @@ module _ (w : Trusting) (m : List ℕ) (rs : List Spelled) (is : RrsetTest) (gs 
       let passes : is r.owner r.rtype ≡ true = those.are r.owner r.rtype ∙ any_from (is_of r.owner r.rtype) gs g i own in
       (r, f.1, and_from _ _ q.0 passes, kind, same_labels (low r.owner) (low g.owner) p.1)
 
-  group_verified : (g : Group) → Has gs g → is_marked w m rs g ≡ is_verified w pointer_limit m rs g.owner g.rtype (rrset_in pointer_limit m rs g.owner g.rtype)
+  group_verified : (g : SignedRrset) → Has gs g → is_marked w m rs g ≡ is_verified w pointer_limit m rs g.owner g.rtype (rrset_in pointer_limit m rs g.owner g.rtype)
   group_verified g i =
       let there = all_at (IsThere m rs) gs g those.each i in
       marked_is w m rs g
@@ -83,7 +83,7 @@ module _ (w : Trusting) (m : List ℕ) (rs : List Spelled) (is : RrsetTest) (gs 
   to_record : list_any (is_marked w m rs) gs ≡ true → list_any (is_of_verified w pointer_limit m rs is) rs ≡ true
   to_record h =
       let f = found (is_marked w m rs) gs h in
-      let g : Group = f.0 in
+      let g : SignedRrset = f.0 in
       let r = record_of g f.1 in
       let verified = alike_verified w m rs r.0.owner g.owner r.0.rtype g.rtype r.4 r.3 ∙ sym (group_verified g f.1) ∙ f.2 in
       any_from (is_of_verified w pointer_limit m rs is) rs r.0 r.1 (and_from _ _ r.2 verified)
@@ -99,17 +99,17 @@ module _ (w : Trusting) (m : List ℕ) (rs : List Spelled) (is : RrsetTest) (gs 
       let alike = alike_verified w m rs r.owner g.0.owner r.rtype g.0.rtype (same_labels (low r.owner) (low g.0.owner) own.1) (sym (eqb-true g.0.rtype r.rtype own.0)) in
       any_from (is_marked w m rs) gs g.0 g.1 (group_verified g.0 g.1 ∙ sym alike ∙ p.1)
 
-  some_there : (g : Group) → Has gs g → list_any (is_of_rrset is) rs ≡ true
+  some_there : (g : SignedRrset) → Has gs g → list_any (is_of_rrset is) rs ≡ true
   some_there g i = let r = record_of g i in any_from (is_of_rrset is) rs r.0 r.1 r.2
 
 no_less : (n : ℕ) → (suc n == 0) ≡ false
 no_less n = false_from_ne_true (suc n == 0) (λ t. let e = eqb-true (suc n) 0 t in absurd (omega (arith, e)))
 
-none_there : (m : List ℕ) (rs : List Spelled) (is : RrsetTest) (gs : List Group) → Trusting → AreThose m rs is gs → (length gs == 0) ≡ not (list_any (is_of_rrset is) rs)
+none_there : (m : List ℕ) (rs : List Spelled) (is : RrsetTest) (gs : List SignedRrset) → Trusting → AreThose m rs is gs → (length gs == 0) ≡ not (list_any (is_of_rrset is) rs)
 none_there m rs is [] w those = sym (ap not (none_passes is rs those.are))
 none_there m rs is (g ∷ gs) w those = no_less (length gs) ∙ sym (ap not (some_there w m rs is (g ∷ gs) those g (inl refl)))
 
-pub groups_rest : (w : Trusting) (m : List ℕ) (rs : List Spelled) (is : RrsetTest) (gs : List Group) → AreThose m rs is gs → groups_error w m gs rs ≡ resting_on w pointer_limit m rs is
+pub groups_rest : (w : Trusting) (m : List ℕ) (rs : List Spelled) (is : RrsetTest) (gs : List SignedRrset) → AreThose m rs is gs → groups_error w m gs rs ≡ resting_on w pointer_limit m rs is
 groups_rest w m rs is gs those =
     let none = none_there m rs is gs w those in
     let verified = both_ways (list_any (is_marked w m rs) gs) (list_any (is_of_verified w pointer_limit m rs is) rs) (to_record w m rs is gs those) (to_group w m rs is gs those) in
@@ -119,7 +119,7 @@ groups_rest w m rs is gs those =
 
 -- ---- what is found out of groups
 
-module _ (w : Trusting) (m : List ℕ) (gs : List Group) (rs : List Spelled) where
+module _ (w : Trusting) (m : List ℕ) (gs : List SignedRrset) (rs : List Spelled) where
   abbrev late : Option ExtendedError
   late = untimely w.now (signatures_of pointer_limit m w.apex (is_among gs) rs)
 
@@ -129,19 +129,19 @@ module _ (w : Trusting) (m : List ℕ) (gs : List Group) (rs : List Spelled) whe
   pub all_late : (error : ExtendedError) → (length gs == 0) ≡ false → Some error ≡ late → error ≡ groups_error w m gs rs
   all_late error some is = λ i. error_by (sym some i) (is i) (list_any (is_marked w m rs) gs)
 
-  pub in_use : (new : List Group) (verified : Bool) → (length gs == 0) ≡ false → None ≡ late → new ≡ map (marked w m rs) gs → list_any (λ g. is_some g.verified) new ≡ verified
+  pub in_use : (new : List SignedRrset) (verified : Bool) → (length gs == 0) ≡ false → None ≡ late → new ≡ map (marked w m rs) gs → list_any (λ g. is_some g.verified) new ≡ verified
       → error_by false None verified ≡ groups_error w m gs rs
   in_use new verified some is marks found =
-      let one = sym found ∙ ap (list_any (λ (g : Group). is_some g.verified)) marks ∙ list_any-map (λ (g : Group). is_some g.verified) (marked w m rs) gs in
+      let one = sym found ∙ ap (list_any (λ (g : SignedRrset). is_some g.verified)) marks ∙ list_any-map (λ (g : SignedRrset). is_some g.verified) (marked w m rs) gs in
       λ i. error_by (sym some i) (is i) (one i)
 
 -- ---- the RRset that was asked for
 
 -- a group without data
-pub data_empty : (g : Group) (empty is : Bool) → empty ≡ (length g.items.items == 0) → empty ≡ is → (length (data_in g) == 0) ≡ is
+pub data_empty : (g : SignedRrset) (empty is : Bool) → empty ≡ (length g.items.items == 0) → empty ≡ is → (length (data_in g) == 0) ≡ is
 data_empty g empty is e h = ap (λ n. n == 0) (length-map g.items.items cow_slice_items) ∙ sym e ∙ h
 
-pub asked_is : (m : List ℕ) (rs : List Spelled) (q : Asked) (g : Group) → g.owner ≡ q.name → g.rtype ≡ q.rtype → data_in g ≡ rrset_in pointer_limit m rs q.name q.rtype → g.verified ≡ None → (length (data_in g) == 0) ≡ false → AreThose m rs (is_rrset_asked q) (g ∷ [])
+pub asked_is : (m : List ℕ) (rs : List Spelled) (q : Asked) (g : SignedRrset) → g.owner ≡ q.name → g.rtype ≡ q.rtype → data_in g ≡ rrset_in pointer_limit m rs q.name q.rtype → g.verified ≡ None → (length (data_in g) == 0) ≡ false → AreThose m rs (is_rrset_asked q) (g ∷ [])
 asked_is m rs q g o t d v some = record {
   are = λ p u. sym ((λ i. ((t i == u) && same p (o i)) || false) ∙ or_no ((q.rtype == u) && same p q.name));
   each = (
@@ -175,7 +175,7 @@ not_empty m apex rs t o h none = ⊎_elim
     false≢true (sym (ap one_known empty) ∙ one))
     (chain_cases t (is_alone pointer_limit m apex rs o) (is_hash_alone pointer_limit m apex rs o) h)
 
-module _ (m : List ℕ) (apex : Name) (rs : List Spelled) (gs : List Group) (a : AreGathered m apex rs rs gs) where
+module _ (m : List ℕ) (apex : Name) (rs : List Spelled) (gs : List SignedRrset) (a : AreGathered m apex rs rs gs) where
   chain_from : (o : Name) (t : ℕ) → list_any (is_of o t) gs ≡ true → stands_alone m apex rs t o ≡ true
   chain_from o t h =
       let f = found (is_of o t) gs h in
@@ -194,7 +194,7 @@ module _ (m : List ℕ) (apex : Name) (rs : List Spelled) (gs : List Group) (a :
       let p = and_parts (g.0.rtype == r.rtype) (same r.owner g.0.owner) g.2 in
       any_from (is_of o t) gs g.0 g.1 (and_from _ _ (ap (λ n. g.0.rtype == n) (sym kind) ∙ p.0) (both_owners r.owner o g.0.owner q.1 p.1))
 
-each_there : (m : List ℕ) (apex : Name) (rs : List Spelled) (gs : List Group) → AllByRecursion (IsAlone m apex rs) gs → AllByRecursion (IsThere m rs) gs
+each_there : (m : List ℕ) (apex : Name) (rs : List Spelled) (gs : List SignedRrset) → AllByRecursion (IsAlone m apex rs) gs → AllByRecursion (IsThere m rs) gs
 each_there m apex rs [] each = tt
 each_there m apex rs (g ∷ gs) each = (
   record {
@@ -205,7 +205,7 @@ each_there m apex rs (g ∷ gs) each = (
   each_there m apex rs gs each.1,
 )
 
-pub chains_are : (m : List ℕ) (apex : Name) (rs : List Spelled) (gs : List Group) → AreGathered m apex rs rs gs → AreThose m rs (is_chain_rrset pointer_limit m apex rs) gs
+pub chains_are : (m : List ℕ) (apex : Name) (rs : List Spelled) (gs : List SignedRrset) → AreGathered m apex rs rs gs → AreThose m rs (is_chain_rrset pointer_limit m apex rs) gs
 chains_are m apex rs gs a = record {
   are = λ o t. both_ways (stands_alone m apex rs t o) (list_any (is_of o t) gs) (chain_to m apex rs gs a o t) (chain_from m apex rs gs a o t);
   each = each_there m apex rs gs a.each;
@@ -214,7 +214,7 @@ chains_are m apex rs gs a = record {
 -- ---- both
 
 -- groups that are those on which an answer rests: of chains' records where the RRset is not there that was asked for
-pub unproven_is : (w : Trusting) (m : List ℕ) (rs : List Spelled) (q : Asked) (none : Bool) (gs : List Group) → (length (rrset_in pointer_limit m rs q.name q.rtype) == 0) ≡ none
+pub unproven_is : (w : Trusting) (m : List ℕ) (rs : List Spelled) (q : Asked) (none : Bool) (gs : List SignedRrset) → (length (rrset_in pointer_limit m rs q.name q.rtype) == 0) ≡ none
     → AreThose m rs (if none then is_chain_rrset pointer_limit m w.apex rs else is_rrset_asked q) gs → groups_error w m gs rs ≡ unproven_under w pointer_limit m rs q
 unproven_is w m rs q none gs n those =
     groups_rest w m rs (if none then is_chain_rrset pointer_limit m w.apex rs else is_rrset_asked q) gs those

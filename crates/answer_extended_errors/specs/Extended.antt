@@ -82,8 +82,8 @@ is_chain_rrset k m apex rs owner t = ((47 == t) && is_alone k m apex rs owner) |
 abbrev pub is_rrset_asked : Asked → RrsetTest
 is_rrset_asked q owner t = (q.rtype == t) && same owner q.name
 
-abbrev pub rests_on : ℕ → List ℕ → Name → List Spelled → Asked → RrsetTest
-rests_on k m apex rs q = if length (rrset_in k m rs q.name q.rtype) == 0 then is_chain_rrset k m apex rs else is_rrset_asked q
+abbrev pub is_rrset_rested_on : ℕ → List ℕ → Name → List Spelled → Asked → RrsetTest
+is_rrset_rested_on k m apex rs q = if length (rrset_in k m rs q.name q.rtype) == 0 then is_chain_rrset k m apex rs else is_rrset_asked q
 
 -- a record of class IN is of such an RRset
 abbrev pub is_of_rrset : RrsetTest → Spelled → Bool
@@ -105,7 +105,7 @@ resting_on w k m rs is =
     ]
 
 abbrev pub unproven_under : Trusting → ℕ → List ℕ → List Spelled → Asked → ExtendedError
-unproven_under w k m rs q = resting_on w k m rs (rests_on k m w.apex rs q)
+unproven_under w k m rs q = resting_on w k m rs (is_rrset_rested_on k m w.apex rs q)
 
 -- under the usable keys of the DNSKEY answer
 abbrev pub unproven_beside : Answers → ℕ → JudgeInput → List Spelled → List Spelled → ExtendedError

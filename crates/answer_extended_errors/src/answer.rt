@@ -14,7 +14,7 @@ ghost use Rattle.answer_extended_errors.specs.Groups.{groups_error};
 use crate::error::ExtendedError;
 use crate::times::{signatures_over, untimely};
 use answer_judge_facts::facts::{read_chain_groups, sorted_chain};
-use answer_judge_facts::groups::{Group, read_group, verify_groups};
+use answer_judge_facts::groups::{SignedRrset, read_group, verify_groups};
 use answer_judge_keys::check_run::CheckRun;
 use answer_judge_keys::trust::Trust;
 use answer_scheme::checks::Checks;
@@ -65,7 +65,7 @@ fn error_of_groups<C: Checks>(
     message: &[u8],
     records: &[ViewRecord],
     trust: &Trust,
-    groups: &mut [Group],
+    groups: &mut [SignedRrset],
     check_run: &mut CheckRun<C>,
 ) -> Result<ExtendedError, AllocError>
     requires room { check_run.old.count + length records.now < 2 ^ 32 }
@@ -99,7 +99,7 @@ fn error_of_groups<C: Checks>(
 }
 
 /// Whether one of some RRsets is verified.
-fn is_one_verified(groups: &[Group]) -> bool
+fn is_one_verified(groups: &[SignedRrset]) -> bool
     ensures { result ≡ list_any (λ g. is_some g.verified) groups.now }
 {
     groups.iter().any(|group| group.verified.is_some())

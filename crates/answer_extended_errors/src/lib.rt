@@ -1,4 +1,4 @@
-//! The extended error that says why a judge refused (RFC 8914).
+//! The extended error that explains why a judge refused (RFC 8914).
 #![tactic(auto)]
 
 mod answer;

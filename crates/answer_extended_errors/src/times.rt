@@ -11,7 +11,7 @@ ghost use Rattle.answer_extended_errors.specs.Extended.{has_expired, is_early, s
 ghost use Rattle.answer_extended_errors.specs.Groups.{is_among};
 
 use crate::error::ExtendedError;
-use answer_judge_facts::groups::{Group, place_of};
+use answer_judge_facts::groups::{SignedRrset, place_of};
 use answer_judge_keys::trust::Signature;
 use denial_data::Timestamp;
 use messages::names::{Name, ToName};
@@ -48,7 +48,7 @@ pub(crate) fn signatures_over<'m>(
     apex: &Name<Vec<u8>>,
     message: &'m [u8],
     records: &[ViewRecord],
-    groups: &[Group],
+    groups: &[SignedRrset],
 ) -> Result<Vec<Signature<'m>>, AllocError>
     requires { AreRanked groups.now }
     ensures { let m = message.now in let rs = map spelled records.now in
@@ -71,7 +71,7 @@ fn signature_over<'m>(
     apex: &Name<Vec<u8>>,
     message: &'m [u8],
     view: &ViewRecord,
-    groups: &[Group],
+    groups: &[SignedRrset],
 ) -> Option<Signature<'m>>
     requires { AreRanked groups.now }
     ensures { let found = signature_at pointer_limit message.now apex.now (is_among groups.now) in
@@ -91,7 +91,7 @@ fn signature_over<'m>(
 }
 
 /// Whether a signature covers the type of one of some RRsets of an owner.
-fn is_over_one(groups: &[Group], owner: &Owner, signature: &Signature) -> bool
+fn is_over_one(groups: &[SignedRrset], owner: &Owner, signature: &Signature) -> bool
     requires { AreRanked groups.now }
     ensures { result ≡ is_among groups.now owner.now (fields_read signature.now).covered }
 {

@@ -13,11 +13,11 @@ use Rattle.answer_judge_table.specs.Outcomes.{IsJudgedBy, IsOutcome}
 use Rattle.answer_judge_table.specs.Table.{Checked, Tried}
 use Rattle.answer_judge_table.specs.declared.outcome.Outcome.{Outcome}
 use Rattle.answer_judge_table.specs.declared.outcome.Outcome.TheVariants as outcome
-use Rattle.answer_findings.specs.declared.finding.Finding.{Finding}
-use Rattle.answer_findings.specs.declared.finding.Found.{Found}
-use Rattle.answer_findings.specs.declared.finding.Found.TheVariants as f
-use Rattle.answer_findings.specs.declared.made.Judgements.{Judgements}
-use Rattle.answer_findings.specs.declared.made.Made.{Made}
+use Rattle.answer_findings.specs.declared.meaning.Meaning.{Meaning}
+use Rattle.answer_findings.specs.declared.meaning.AnswerOutcome.{AnswerOutcome}
+use Rattle.answer_findings.specs.declared.meaning.AnswerOutcome.TheVariants as f
+use Rattle.answer_findings.specs.declared.side_judgements.Judgements.{Judgements}
+use Rattle.answer_findings.specs.declared.side_judgements.SideJudgement.{SideJudgement}
 use Rattle.answer_findings.specs.Found.{AreAskedAtOnce, AreJudgements, AsksBehind, ComesTo, IsFound, IsFoundWithin, IsSoughtBehind}
 use Rattle.answer_findings.specs.Judgements.{AreAskedAside, AreWantedAside, IsMadeOf, alias_question, ds_question, first_question, ns_question}
 use Rattle.answer_findings.specs.Seen.{Seen, lead_found, seen}
@@ -26,27 +26,27 @@ use Rattle.answer_findings.proofs.Truly.{found_so}
 use Rattle.answer_findings.proofs.Within.{found_within}
 
 -- what is found is so of the zone
-pub found_truly : (table : List Checked) (h : JudgeInput) (found : Found) → IsFound table h found → FindsTruly table h found
-found_truly table h (f.Finds finding lasting verifications hashes) is = λ passes versions t x. found_so table h passes t versions x is.judgements is.are (seen finding) is.says
+pub found_truly : (table : List Checked) (h : JudgeInput) (found : AnswerOutcome) → IsFound table h found → FindsTruly table h found
+found_truly table h (f.Means meaning validity verifications hashes) is = λ passes versions t x. found_so table h passes t versions x is.judgements is.are (seen meaning) is.says
 found_truly table h (f.Refused refusal verifications hashes) is = tt
 found_truly table h (f.Asks asks verifications hashes) is = tt
 
 -- what judgements come to is what is found
-pub comes_to : (table : List Checked) (h : JudgeInput) (js : Judgements) (found : Found) → AreJudgements table h js → ComesTo h js found → IsFound table h found
-comes_to table h js (f.Finds finding lasting verifications hashes) are to = record { judgements = js; are = are; says = sym to.0; lasts = to.1; verified = to.2; hashed = to.3 }
+pub comes_to : (table : List Checked) (h : JudgeInput) (js : Judgements) (found : AnswerOutcome) → AreJudgements table h js → ComesTo h js found → IsFound table h found
+comes_to table h js (f.Means meaning validity verifications hashes) are to = record { judgements = js; are = are; says = sym to.0; lasts = to.1; verified = to.2; hashed = to.3 }
 comes_to table h js (f.Refused refusal verifications hashes) are to = record { judgements = js; are = are; says = sym to.0; lasts = refl; verified = to.1; hashed = to.2 }
 comes_to table h js (f.Asks asks verifications hashes) are to = absurd to
 
 -- where memory sufficed
-pub found_in : (table : List Checked) (h : JudgeInput) (js : Judgements) (r : Result Found AllocError) → AreJudgements table h js → IfOk r (ComesTo h js) → IfOk r (IsFound table h)
+pub found_in : (table : List Checked) (h : JudgeInput) (js : Judgements) (r : Result AnswerOutcome AllocError) → AreJudgements table h js → IfOk r (ComesTo h js) → IfOk r (IsFound table h)
 found_in table h js (Ok found) are to = comes_to table h js found are to
 found_in table h js (Err e) are to = tt
 
-pub truly_in : (table : List Checked) (h : JudgeInput) (r : Result Found AllocError) → IfOk r (IsFound table h) → IfOk r (FindsTruly table h)
+pub truly_in : (table : List Checked) (h : JudgeInput) (r : Result AnswerOutcome AllocError) → IfOk r (IsFound table h) → IfOk r (FindsTruly table h)
 truly_in table h (Ok found) is = found_truly table h found is
 truly_in table h (Err e) is = tt
 
-pub within_in : (table : List Checked) (h : JudgeInput) (r : Result Found AllocError) → IfOk r (IsFound table h) → IfOk r (IsFoundWithin h)
+pub within_in : (table : List Checked) (h : JudgeInput) (r : Result AnswerOutcome AllocError) → IfOk r (IsFound table h) → IfOk r (IsFoundWithin h)
 within_in table h (Ok found) is = found_within table h found is
 within_in table h (Err e) is = tt
 
@@ -56,16 +56,16 @@ within_in table h (Err e) is = tt
 pub judged_in : (table : List Checked) (h : JudgeInput) (o : Outcome) (own : Result Judgement Refused) → o ≡ outcome.Judged own → IsOutcome table h o → IsJudgedBy table h own
 judged_in table h o own e is = subst (IsOutcome table h) e is
 
-pub made_in : (table : List Checked) (h : JudgeInput) (wanted : Option Asked) (o : Result (Option Made) (Vec Tried)) (made : Option Made) → o ≡ Ok made
+pub made_in : (table : List Checked) (h : JudgeInput) (wanted : Option Asked) (o : Result (Option SideJudgement) (Vec Tried)) (made : Option SideJudgement) → o ≡ Ok made
     → MatchResult o (IsMadeOf table h wanted) (λ asks. AreAskedAside table h wanted asks.items) → IsMadeOf table h wanted made
 made_in table h wanted o made e is = subst (λ r. MatchResult r (IsMadeOf table h wanted) (λ asks. AreAskedAside table h wanted asks.items)) e is
 
-leads_alike : (lead : Option Finding) (found : Option Seen) → option_map seen lead ≡ found → is_some lead ≡ is_some found
+leads_alike : (lead : Option Meaning) (found : Option Seen) → option_map seen lead ≡ found → is_some lead ≡ is_some found
 leads_alike None found e = ap (λ (o : Option Seen). is_some o) e
 leads_alike (Some f) found e = ap (λ (o : Option Seen). is_some o) e
 
 -- all judgements of a search
-pub are_judgements : (table : List Checked) (h : JudgeInput) (js : Judgements) (lead : Option Finding) (leads : Bool) → IsJudgedBy table h js.own
+pub are_judgements : (table : List Checked) (h : JudgeInput) (js : Judgements) (lead : Option Meaning) (leads : Bool) → IsJudgedBy table h js.own
     → IsMadeOf table h (alias_question pointer_limit h (answer_of js.own)) js.alias → option_map seen lead ≡ lead_found h js.alias → leads ≡ is_some lead
     → IsMadeOf table h (ns_question pointer_limit h (answer_of js.own)) js.ns → IsMadeOf table h (ds_question pointer_limit h (answer_of js.own) leads) js.ds → AreJudgements table h js
 are_judgements table h js lead leads own alias e f ns ds =
@@ -75,11 +75,11 @@ are_judgements table h js lead leads own alias e f ns ds =
 -- ---- questions beside the case's own
 
 -- what comes of a judgement for a question, if there is one
-abbrev pub Asides : List Checked → JudgeInput → Result (Result (Option Made) (Vec Tried)) AllocError → Option Asked → Type 0
+abbrev pub Asides : List Checked → JudgeInput → Result (Result (Option SideJudgement) (Vec Tried)) AllocError → Option Asked → Type 0
 Asides table h r wanted = IfOk r (λ o. MatchResult o (IsMadeOf table h wanted) (λ asks. AreAskedAside table h wanted asks.items))
 
 -- it is for the question that is wanted
-pub sought : (table : List Checked) (h : JudgeInput) (r : Result (Result (Option Made) (Vec Tried)) AllocError) (asked wanted : Option Asked) → asked ≡ wanted
+pub sought : (table : List Checked) (h : JudgeInput) (r : Result (Result (Option SideJudgement) (Vec Tried)) AllocError) (asked wanted : Option Asked) → asked ≡ wanted
     → Asides table h r asked → Asides table h r wanted
 sought table h r asked wanted e is = subst (Asides table h r) e is
 
@@ -91,7 +91,7 @@ wanted_alike table h r asked wanted e is = subst (λ o. IfOk r (λ v. AreWantedA
 -- ---- signatures that are asked for
 
 -- a judgement that the table did not suffice for
-pub asks_in : (table : List Checked) (h : JudgeInput) (wanted : Option Asked) (o : Result (Option Made) (Vec Tried)) (asks : Vec Tried) → o ≡ Err asks
+pub asks_in : (table : List Checked) (h : JudgeInput) (wanted : Option Asked) (o : Result (Option SideJudgement) (Vec Tried)) (asks : Vec Tried) → o ≡ Err asks
     → MatchResult o (IsMadeOf table h wanted) (λ asks. AreAskedAside table h wanted asks.items) → AreAskedAside table h wanted asks.items
 asks_in table h wanted o asks e is = subst (λ r. MatchResult r (IsMadeOf table h wanted) (λ asks. AreAskedAside table h wanted asks.items)) e is
 
@@ -113,8 +113,8 @@ first_asked table h own first are some wants =
 
 -- and behind its judgement
 module _ (table : List Checked) (h : JudgeInput) (js : Judgements) (judged : IsJudgedBy table h js.own) (none : js.ds ≡ None) (wanted : Option Asked) (sought : IsSoughtBehind table h js wanted) where
-  pub asked_behind : (asks : List Tried) → AreAskedAside table h wanted asks → (found : Found) → AsksBehind asks js found → IsFound table h found
-  asked_behind asks aside (f.Finds finding lasting verifications hashes) behind = absurd behind
+  pub asked_behind : (asks : List Tried) → AreAskedAside table h wanted asks → (found : AnswerOutcome) → AsksBehind asks js found → IsFound table h found
+  asked_behind asks aside (f.Means meaning validity verifications hashes) behind = absurd behind
   asked_behind asks aside (f.Refused refusal verifications hashes) behind = absurd behind
   asked_behind asks aside (f.Asks said verifications hashes) behind =
       let are : AreAskedAside table h wanted said.items = subst (AreAskedAside table h wanted) (sym behind.0) aside in
@@ -122,12 +122,12 @@ module _ (table : List Checked) (h : JudgeInput) (js : Judgements) (judged : IsJ
 
 -- DS is sought where an alias, if any, leads nowhere
 pub sought_at_ds : (table : List Checked) (h : JudgeInput) (js : Judgements) → IsMadeOf table h (alias_question pointer_limit h (answer_of js.own)) js.alias
-    → IsMadeOf table h (ns_question pointer_limit h (answer_of js.own)) js.ns → (lead : Option Finding) (leads : Bool) → option_map seen lead ≡ lead_found h js.alias → leads ≡ is_some lead
+    → IsMadeOf table h (ns_question pointer_limit h (answer_of js.own)) js.ns → (lead : Option Meaning) (leads : Bool) → option_map seen lead ≡ lead_found h js.alias → leads ≡ is_some lead
     → IsSoughtBehind table h js (ds_question pointer_limit h (answer_of js.own) leads)
 sought_at_ds table h js alias ns lead leads e f =
     let alike : leads ≡ is_some (lead_found h js.alias) = f ∙ leads_alike lead (lead_found h js.alias) e in
     inr (alias, inr (ns, ap (λ (b : Bool). ds_question pointer_limit h (answer_of js.own) b) alike))
 
 -- with the bounds of a call
-pub told : (table : List Checked) (h : JudgeInput) (found : Found) → IsFound table h found → IsFound table h found × FindsTruly table h found × IsFoundWithin h found
+pub told : (table : List Checked) (h : JudgeInput) (found : AnswerOutcome) → IsFound table h found → IsFound table h found × FindsTruly table h found × IsFoundWithin h found
 told table h found is = (is, found_truly table h found is, found_within table h found is)

@@ -20,8 +20,8 @@ use Rattle.answer_judge.specs.declared.verdict.Refused.{Refused}
 use Rattle.answer_judge.specs.declared.verdict.Refusal.{Refusal}
 use Rattle.answer_judge_table.specs.Outcomes.{IsJudgedBy}
 use Rattle.answer_judge_table.specs.Table.{AreTrue, Checked, Tried, answers_with, passes_in}
-use Rattle.answer_findings.specs.declared.made.Made.{Made}
-use Rattle.answer_findings.specs.declared.made.Judgements.{Judgements}
+use Rattle.answer_findings.specs.declared.side_judgements.SideJudgement.{SideJudgement}
+use Rattle.answer_findings.specs.declared.side_judgements.Judgements.{Judgements}
 use Rattle.answer_findings.specs.Found.{AreJudgements, IsBeside}
 use Rattle.answer_findings.specs.Judgements.{IsMade, alias_hint, alias_question, aside, asked_in, asking, cut_question, ds_question, is_delegated, is_no_type, is_not_proven, ns_question, question_of, says_delegated, seeks_delegation}
 use Rattle.answer_findings.specs.Laws.{AnswersDs}
@@ -154,7 +154,7 @@ module _ (table : List Checked) (h : JudgeInput) (passes : Tried → Bool) (trul
         s (ap (λ (q : Asked). lead_said h q (answer_of said)) c.is ∙ led)
   ]
 
-  lead_so : (made : Option Made) → IfSome made (IsMade table h) → asked_in made ≡ alias_hint pointer_limit h → (s : Seen) → lead_found h made ≡ Some s → IsSo h versions s
+  lead_so : (made : Option SideJudgement) → IfSome made (IsMade table h) → asked_in made ≡ alias_hint pointer_limit h → (s : Seen) → lead_found h made ≡ Some s → IsSo h versions s
   lead_so None is asked s e = absurd cc
   lead_so (Some m) is asked s e = alias_so (question_of m) (sym asked) m.said is s e
 
@@ -175,7 +175,7 @@ module _ (table : List Checked) (h : JudgeInput) (passes : Tried → Bool) (trul
   ds_so c below above (Says Unsigned) said s e = absurd cc
   ds_so c below above (Refuses r) said s e = absurd cc
 
-  referral_so : (made : Option Made) → IfSome made (IsMade table h) → asked_in made ≡ cut_question pointer_limit h 43 → (s : Seen) → referral_found made ≡ Some s → IsSo h versions s
+  referral_so : (made : Option SideJudgement) → IfSome made (IsMade table h) → asked_in made ≡ cut_question pointer_limit h 43 → (s : Seen) → referral_found made ≡ Some s → IsSo h versions s
   referral_so None is asked s e = absurd cc
   referral_so (Some m) is asked s e =
       let c : SeeksCut pointer_limit h 43 (question_of m) = seeks_cut pointer_limit h 43 (question_of m) (sym asked) in
@@ -203,7 +203,7 @@ module _ (table : List Checked) (h : JudgeInput) (passes : Tried → Bool) (trul
       let k : IsSaidByOne (aside h (asking h c 2)) versions Delegated = subst (SaysOneOf (aside h (asking h c 2)) versions) (says_delegated_is a b) said in
       subst (λ w. verdict (zone w) (optout_of w.mode) c 2 ≡ Delegated) (one_version versions v k.version one k.there) k.verdict_is
 
-  cut_so : (ns ds : Option Made) → IfSome ns (IsMade table h) → IfSome ds (IsMade table h) → asked_in ns ≡ cut_question pointer_limit h 2 → asked_in ds ≡ cut_question pointer_limit h 43 → CutsAt h versions (cut_found ns ds)
+  cut_so : (ns ds : Option SideJudgement) → IfSome ns (IsMade table h) → IfSome ds (IsMade table h) → asked_in ns ≡ cut_question pointer_limit h 2 → asked_in ds ≡ cut_question pointer_limit h 43 → CutsAt h versions (cut_found ns ds)
   cut_so None ds ns_is ds_is p q = tt
   cut_so (Some m) None ns_is ds_is p q = tt
   cut_so (Some m) (Some n) ns_is ds_is p q = go (says_delegated (answer_of m.said) && answers_ds (answer_of n.said)) refl
@@ -250,7 +250,7 @@ module _ (table : List Checked) (h : JudgeInput) (passes : Tried → Bool) (trul
         λ k. sym is ∙ ap is_delegated (sym ns ∙ tells.delegates.1 k),
       )
 
-  made_ns_so : (own : IsSaidByOne h versions NoType) → h.asked.rtype ≡ 43 → (ns : Option Made) → IfSome ns (IsMade table h) → (seeks : Bool) → asked_in ns ≡ sought_ns seeks → (d : Bool)
+  made_ns_so : (own : IsSaidByOne h versions NoType) → h.asked.rtype ≡ 43 → (ns : Option SideJudgement) → IfSome ns (IsMade table h) → (seeks : Bool) → asked_in ns ≡ sought_ns seeks → (d : Bool)
       → (elim ns as (λ _. Option Bool) [ None ↦ None | Some m ↦ delegates_said (answer_of m.said) ]) ≡ Some d → (seeks ≡ true → strictly_above h.apex h.asked.name ≡ true) → Delegates h versions d
   made_ns_so own t None is seeks asked d e below = absurd cc
   made_ns_so own t (Some m) is false asked d e below = absurd cc
@@ -259,7 +259,7 @@ module _ (table : List Checked) (h : JudgeInput) (passes : Tried → Bool) (trul
       let said = beside_said (asking h h.asked.name 2) (name_ns_beside h (below refl)) m.said (subst (λ q. IsJudgedBy table (aside h q) m.said) q is) in
       ns_so own t (answer_of m.said) said d e
 
-  delegates_so : (own : IsSaidByOne h versions NoType) → h.asked.rtype ≡ 43 → (ns : Option Made) → IfSome ns (IsMade table h) → asked_in ns ≡ sought_ns (seeks_delegation h (Says NoType)) → (d : Bool) → delegates_found h ns ≡ Some d → Delegates h versions d
+  delegates_so : (own : IsSaidByOne h versions NoType) → h.asked.rtype ≡ 43 → (ns : Option SideJudgement) → IfSome ns (IsMade table h) → asked_in ns ≡ sought_ns (seeks_delegation h (Says NoType)) → (d : Bool) → delegates_found h ns ≡ Some d → Delegates h versions d
   delegates_so own t ns is asked d e = go (same h.asked.name h.apex) refl e
     where
       go : (b : Bool) → same h.asked.name h.apex ≡ b
@@ -269,7 +269,7 @@ module _ (table : List Checked) (h : JudgeInput) (passes : Tried → Bool) (trul
 
   -- ---- all of it
 
-  no_ds_so : (own : IsSaidByOne h versions NoType) → h.asked.rtype ≡ 43 → (ns : Option Made) → IfSome ns (IsMade table h) → asked_in ns ≡ sought_ns (seeks_delegation h (Says NoType)) → IsSo h versions (no_ds_found (delegates_found h ns))
+  no_ds_so : (own : IsSaidByOne h versions NoType) → h.asked.rtype ≡ 43 → (ns : Option SideJudgement) → IfSome ns (IsMade table h) → asked_in ns ≡ sought_ns (seeks_delegation h (Says NoType)) → IsSo h versions (no_ds_found (delegates_found h ns))
   no_ds_so own t ns is asked = go (delegates_found h ns) refl
     where
       go : (o : Option Bool) → delegates_found h ns ≡ o → IsSo h versions (no_ds_found o)
@@ -277,7 +277,7 @@ module _ (table : List Checked) (h : JudgeInput) (passes : Tried → Bool) (trul
       go (Some d) e = (own, delegates_so own t ns is asked d e)
 
   -- the verdict on the name, with what the other judgements tell
-  verdict_so : (ns ds : Option Made) → IfSome ns (IsMade table h) → IfSome ds (IsMade table h) → (w : Verdict) → IsSaidByOne h versions w → (leads : Bool)
+  verdict_so : (ns ds : Option SideJudgement) → IfSome ns (IsMade table h) → IfSome ds (IsMade table h) → (w : Verdict) → IsSaidByOne h versions w → (leads : Bool)
       → asked_in ns ≡ ns_question pointer_limit h (Says w) → asked_in ds ≡ ds_question pointer_limit h (Says w) leads → IsSo h versions (verdict_found h ns ds w)
   verdict_so ns ds p q (Records d) said leads e f = said
   verdict_so ns ds p q NoName said leads e f = said
@@ -293,7 +293,7 @@ module _ (table : List Checked) (h : JudgeInput) (passes : Tried → Bool) (trul
       go false t = said
 
   -- what is found where nothing is proven
-  unproven_so : (alias ds : Option Made) → IfSome alias (IsMade table h) → IfSome ds (IsMade table h) → asked_in alias ≡ alias_hint pointer_limit h
+  unproven_so : (alias ds : Option SideJudgement) → IfSome alias (IsMade table h) → IfSome ds (IsMade table h) → asked_in alias ≡ alias_hint pointer_limit h
       → (is_some (lead_found h alias) ≡ false → asked_in ds ≡ cut_question pointer_limit h 43) → (e : Refusal) (s : Seen) → found_or e (first_found (lead_found h alias) (referral_found ds)) ≡ Ok s → IsSo h versions s
   unproven_so alias ds p q asked cut r s e = go (lead_found h alias) refl cut e
     where
@@ -305,7 +305,7 @@ module _ (table : List Checked) (h : JudgeInput) (passes : Tried → Bool) (trul
       go (Some t) n c e = let is : t ≡ s = cc in subst (IsSo h versions) is (lead_so alias p asked t n)
       go None n c e = led (referral_found ds) refl (c refl) e
 
-  refusal_so : (alias ds : Option Made) → IfSome alias (IsMade table h) → IfSome ds (IsMade table h) → (e : Refusal) → asked_in alias ≡ alias_question pointer_limit h (Refuses e)
+  refusal_so : (alias ds : Option SideJudgement) → IfSome alias (IsMade table h) → IfSome ds (IsMade table h) → (e : Refusal) → asked_in alias ≡ alias_question pointer_limit h (Refuses e)
       → asked_in ds ≡ ds_question pointer_limit h (Refuses e) (is_some (lead_found h alias)) → (s : Seen) → refusal_found (lead_found h alias) ds e ≡ Ok s → IsSo h versions s
   refusal_so alias ds p q r asked cut s e = go (is_not_proven r) refl asked cut e
     where

@@ -12,11 +12,11 @@ use Rattle.answer_judge.specs.declared.verdict.Judgement.{Judgement}
 use Rattle.answer_judge.specs.declared.verdict.Refused.{Refused}
 use Rattle.answer_judge_table.specs.Outcomes.{IsJudgedBy}
 use Rattle.answer_judge_table.specs.Table.{Checked, passes_in}
-use Rattle.answer_findings.specs.declared.finding.Found.{Found}
-use Rattle.answer_findings.specs.declared.finding.Found.TheVariants as f
-use Rattle.answer_findings.specs.declared.made.Judgements.{Judgements}
-use Rattle.answer_findings.specs.declared.made.Made.{Made}
-use Rattle.answer_findings.specs.Found.{AreAskedLater, AreJudgements, IsBeside, IsFound, IsFoundWithin, IsSoughtAtCut, IsSoughtBehind, IsWithin}
+use Rattle.answer_findings.specs.declared.meaning.AnswerOutcome.{AnswerOutcome}
+use Rattle.answer_findings.specs.declared.meaning.AnswerOutcome.TheVariants as f
+use Rattle.answer_findings.specs.declared.side_judgements.Judgements.{Judgements}
+use Rattle.answer_findings.specs.declared.side_judgements.SideJudgement.{SideJudgement}
+use Rattle.answer_findings.specs.Found.{AreAskedLater, AreJudgements, IsBeside, IsFound, IsFoundWithin, IsSoughtAtCut, IsSoughtBehind, IsWithinBounds}
 use Rattle.answer_findings.specs.Judgements.{IsMadeOf, alias_hint, alias_question, aside, asking, cut_question, ds_question, is_unproven, ns_question, question_of, says_delegated, says_no_type, seeks_delegation}
 use Rattle.answer_findings.specs.Seen.{hashed_by, hashed_in, lead_found, verified_by, verified_in}
 use Rattle.answer_findings.proofs.Beside.{SeeksCut, cname_beside, cut_ds_beside, cut_ns_beside, dname_beside, name_ns_beside, seeks_alias, seeks_cut}
@@ -69,13 +69,13 @@ aside_within h asked verifications hashes beside is =
     let few : hashes ≤ length asked.name + 2 = is.1 in
     (is.0, omega (arith, few, shorter))
 
-made_within : (table : List Checked) (h : JudgeInput) (wanted : Option Asked) (made : Option Made) → IsMadeOf table h wanted made
+made_within : (table : List Checked) (h : JudgeInput) (wanted : Option Asked) (made : Option SideJudgement) → IsMadeOf table h wanted made
     → ((asked : Asked) → wanted ≡ Some asked → IsBeside h asked) → InBounds h (verified_in made) (hashed_in made)
 made_within table h wanted None is beside = (omega arith, omega arith)
 made_within table h wanted (Some m) is beside =
     aside_within h (question_of m) (verifications_of m.said) (hashes_of m.said) (beside (question_of m) (sym is.asked)) (judged_within table (aside h (question_of m)) m.said is.judged)
 
-none_within : (h : JudgeInput) (made : Option Made) → made ≡ None → InBounds h (verified_in made) (hashed_in made)
+none_within : (h : JudgeInput) (made : Option SideJudgement) → made ≡ None → InBounds h (verified_in made) (hashed_in made)
 none_within h None e = (omega arith, omega arith)
 none_within h (Some m) e = absurd cc
 
@@ -85,17 +85,17 @@ four : (a b c d x : ℕ) → a ≤ x → b ≤ x → c ≤ x → d ≤ x → a +
 four a b c d x p q r s = omega (arith, p, q, r, s)
 
 all_within : (h : JudgeInput) (js : Judgements) → InBounds h (verifications_of js.own) (hashes_of js.own) → InBounds h (verified_in js.alias) (hashed_in js.alias)
-    → InBounds h (verified_in js.ns) (hashed_in js.ns) → InBounds h (verified_in js.ds) (hashed_in js.ds) → IsWithin h (verified_by js) (hashed_by js)
+    → InBounds h (verified_in js.ns) (hashed_in js.ns) → InBounds h (verified_in js.ds) (hashed_in js.ds) → IsWithinBounds h (verified_by js) (hashed_by js)
 all_within h js own alias ns ds = record {
   verifications_bound = four (verifications_of js.own) (verified_in js.alias) (verified_in js.ns) (verified_in js.ds) (verification_bound pointer_limit h) own.0 alias.0 ns.0 ds.0;
   hashes_bound = four (hashes_of js.own) (hashed_in js.alias) (hashed_in js.ns) (hashed_in js.ds) (hash_bound h) own.1 alias.1 ns.1 ds.1;
 }
 
-counted_within : (h : JudgeInput) (js : Judgements) (verifications hashes : ℕ) → verifications ≡ verified_by js → hashes ≡ hashed_by js → IsWithin h (verified_by js) (hashed_by js) → IsWithin h verifications hashes
+counted_within : (h : JudgeInput) (js : Judgements) (verifications hashes : ℕ) → verifications ≡ verified_by js → hashes ≡ hashed_by js → IsWithinBounds h (verified_by js) (hashed_by js) → IsWithinBounds h verifications hashes
 counted_within h js verifications hashes v n is =
     record { verifications_bound = subst (λ x. x ≤ 4 * verification_bound pointer_limit h) (sym v) is.verifications_bound; hashes_bound = subst (λ x. x ≤ 4 * hash_bound h) (sym n) is.hashes_bound }
 
-pub none_counted : (h : JudgeInput) (verifications hashes : ℕ) → verifications ≡ 0 → hashes ≡ 0 → IsWithin h verifications hashes
+pub none_counted : (h : JudgeInput) (verifications hashes : ℕ) → verifications ≡ 0 → hashes ≡ 0 → IsWithinBounds h verifications hashes
 none_counted h verifications hashes v n = record { verifications_bound = omega (arith, v); hashes_bound = omega (arith, n) }
 
 module _ (table : List Checked) (h : JudgeInput) where
@@ -111,20 +111,20 @@ module _ (table : List Checked) (h : JudgeInput) where
   ds_within : (js : Judgements) (leads : Bool) → IsMadeOf table h (ds_question pointer_limit h (answer_of js.own) leads) js.ds → InBounds h (verified_in js.ds) (hashed_in js.ds)
   ds_within js leads is = made_within table h (ds_question pointer_limit h (answer_of js.own) leads) js.ds is (λ asked e. ds_beside h asked (answer_of js.own) leads e)
 
-  all_judged : (js : Judgements) → AreJudgements table h js → IsWithin h (verified_by js) (hashed_by js)
+  all_judged : (js : Judgements) → AreJudgements table h js → IsWithinBounds h (verified_by js) (hashed_by js)
   all_judged js are = all_within h js (own_within js are.own) (alias_within js are.alias) (ns_within js are.ns) (ds_within js (is_some (lead_found h js.alias)) are.ds)
 
   -- before signatures are asked for
-  later_within : (js : Judgements) (wanted : Option Asked) → IsJudgedBy table h js.own → js.ds ≡ None → IsSoughtBehind table h js wanted → IsWithin h (verified_by js) (hashed_by js)
+  later_within : (js : Judgements) (wanted : Option Asked) → IsJudgedBy table h js.own → js.ds ≡ None → IsSoughtBehind table h js wanted → IsWithinBounds h (verified_by js) (hashed_by js)
   later_within js wanted own none (inl first) = all_within h js (own_within js own) (none_within h js.alias first.1) (none_within h js.ns first.2) (none_within h js.ds none)
   later_within js wanted own none (inr behind) = at_cut behind.1
     where
-      at_cut : IsSoughtAtCut table h js wanted → IsWithin h (verified_by js) (hashed_by js)
+      at_cut : IsSoughtAtCut table h js wanted → IsWithinBounds h (verified_by js) (hashed_by js)
       at_cut (inl ns) = all_within h js (own_within js own) (alias_within js behind.0) (none_within h js.ns ns.1) (none_within h js.ds none)
       at_cut (inr ds) = all_within h js (own_within js own) (alias_within js behind.0) (ns_within js ds.0) (none_within h js.ds none)
 
-  pub found_within : (found : Found) → IsFound table h found → IsFoundWithin h found
-  found_within (f.Finds finding lasting verifications hashes) is = counted_within h is.judgements verifications hashes is.verified is.hashed (all_judged is.judgements is.are)
+  pub found_within : (found : AnswerOutcome) → IsFound table h found → IsFoundWithin h found
+  found_within (f.Means meaning validity verifications hashes) is = counted_within h is.judgements verifications hashes is.verified is.hashed (all_judged is.judgements is.are)
   found_within (f.Refused refusal verifications hashes) is = counted_within h is.judgements verifications hashes is.verified is.hashed (all_judged is.judgements is.are)
   found_within (f.Asks asks verifications hashes) (inl once) = none_counted h verifications hashes once.1 once.2
   found_within (f.Asks asks verifications hashes) (inr later) =

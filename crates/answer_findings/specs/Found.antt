@@ -6,18 +6,18 @@ use Rattle.definitions.specs.Name.{at_or_above}
 use Rattle.messages.specs.Message.{Asked}
 use Rattle.answer_judge.specs.Judging.{JudgeInput, answer_of, hash_bound, verification_bound}
 use Rattle.answer_judge.specs.declared.verdict.Judgement.{Judgement}
-use Rattle.answer_judge_facts.specs.declared.lasting.Lasting.{Lasting}
+use Rattle.answer_judge_facts.specs.declared.validity.Validity.{Validity}
 use Rattle.answer_judge.specs.declared.verdict.Refusal.{Refusal}
 use Rattle.answer_judge.specs.declared.verdict.Refused.{Refused}
 use Rattle.answer_judge_table.specs.Asking.{AreAsked}
 use Rattle.answer_judge_table.specs.Outcomes.{IsJudgedBy}
 use Rattle.answer_judge_table.specs.Table.{Checked, Tried}
-use Rattle.answer_findings.specs.declared.finding.Found.{Found}
-use Rattle.answer_findings.specs.declared.finding.Found.TheVariants as f
-use Rattle.answer_findings.specs.declared.made.Judgements.{Judgements}
-use Rattle.answer_findings.specs.declared.made.Made.{Made}
+use Rattle.answer_findings.specs.declared.meaning.AnswerOutcome.{AnswerOutcome}
+use Rattle.answer_findings.specs.declared.meaning.AnswerOutcome.TheVariants as f
+use Rattle.answer_findings.specs.declared.side_judgements.Judgements.{Judgements}
+use Rattle.answer_findings.specs.declared.side_judgements.SideJudgement.{SideJudgement}
 use Rattle.answer_findings.specs.Judgements.{AreAskedAside, AreWantedAside, IsMadeOf, alias_question, ds_question, first_question, ns_question}
-use Rattle.answer_findings.specs.Lasts.{lasting_by, lasting_found, lastings_of}
+use Rattle.answer_findings.specs.Lasts.{validity_by, validity_found, validities_of}
 use Rattle.answer_findings.specs.Seen.{Seen, found_by, hashed_by, lead_found, seen, verified_by}
 
 -- judgements of a case's messages: of the case itself, and of the questions that are sought
@@ -28,22 +28,22 @@ pub record AreJudgements (table : List Checked) (h : JudgeInput) (js : Judgement
   pub ds : IsMadeOf table h (ds_question pointer_limit h (answer_of js.own) (is_some (lead_found h js.alias))) js.ds
 
 -- what they come to, how long that lasts, and how often was verified and hashed for all of them
-pub record IsFoundBy (table : List Checked) (h : JudgeInput) (said : Result Seen Refusal) (lasting : Option Lasting) (verifications hashes : ℕ) : Type 0 where
+pub record IsFoundBy (table : List Checked) (h : JudgeInput) (said : Result Seen Refusal) (validity : Option Validity) (verifications hashes : ℕ) : Type 0 where
   pub judgements : Judgements
   pub are : AreJudgements table h judgements
   pub says : said ≡ found_by h judgements
-  pub lasts : lasting ≡ lasting_found judgements said
+  pub lasts : validity ≡ validity_found judgements said
   pub verified : verifications ≡ verified_by judgements
   pub hashed : hashes ≡ hashed_by judgements
 
 -- what some judgements come to, how long that lasts, and their counts
-abbrev pub ComesTo : JudgeInput → Judgements → Found → Type 0
-ComesTo h js (f.Finds finding lasting verifications hashes) = (found_by h js ≡ Ok (seen finding)) × (lasting ≡ lasting_by (lastings_of js) (seen finding)) × (verifications ≡ verified_by js) × (hashes ≡ hashed_by js)
+abbrev pub ComesTo : JudgeInput → Judgements → AnswerOutcome → Type 0
+ComesTo h js (f.Means meaning validity verifications hashes) = (found_by h js ≡ Ok (seen meaning)) × (validity ≡ validity_by (validities_of js) (seen meaning)) × (verifications ≡ verified_by js) × (hashes ≡ hashed_by js)
 ComesTo h js (f.Refused refusal verifications hashes) = (found_by h js ≡ Err refusal) × (verifications ≡ verified_by js) × (hashes ≡ hashed_by js)
 ComesTo h js (f.Asks asks verifications hashes) = ⊥
 
 -- signatures that are asked for behind some judgements, with the counts of these
-abbrev pub AsksBehind : List Tried → Judgements → Found → Type 0
+abbrev pub AsksBehind : List Tried → Judgements → AnswerOutcome → Type 0
 AsksBehind asks js (f.Asks said verifications hashes) = (said.items ≡ asks) × (verifications ≡ verified_by js) × (hashes ≡ hashed_by js)
 AsksBehind asks js _ = ⊥
 
@@ -102,8 +102,8 @@ AreAskedFor table h asks verifications hashes =
     ⊎ AreAskedLater table h asks verifications hashes
 
 -- what comes of a search
-abbrev pub IsFound : List Checked → JudgeInput → Found → Type 0
-IsFound table h (f.Finds finding lasting verifications hashes) = IsFoundBy table h (Ok (seen finding)) lasting verifications hashes
+abbrev pub IsFound : List Checked → JudgeInput → AnswerOutcome → Type 0
+IsFound table h (f.Means meaning validity verifications hashes) = IsFoundBy table h (Ok (seen meaning)) validity verifications hashes
 IsFound table h (f.Refused refusal verifications hashes) = IsFoundBy table h (Err refusal) None verifications hashes
 IsFound table h (f.Asks asks verifications hashes) = AreAskedFor table h asks.items verifications hashes
 
@@ -111,11 +111,11 @@ IsFound table h (f.Asks asks verifications hashes) = AreAskedFor table h asks.it
 
 -- At most four judgements are made, each in the bounds of one: no more signatures than both messages have, no more names than the
 -- question's has labels, the root's counted, and one.
-pub record IsWithin (h : JudgeInput) (verifications hashes : ℕ) : Type 0 where
+pub record IsWithinBounds (h : JudgeInput) (verifications hashes : ℕ) : Type 0 where
   pub verifications_bound : verifications ≤ 4 * verification_bound pointer_limit h
   pub hashes_bound : hashes ≤ 4 * hash_bound h
 
-abbrev pub IsFoundWithin : JudgeInput → Found → Type 0
-IsFoundWithin h (f.Finds finding lasting verifications hashes) = IsWithin h verifications hashes
-IsFoundWithin h (f.Refused refusal verifications hashes) = IsWithin h verifications hashes
-IsFoundWithin h (f.Asks asks verifications hashes) = IsWithin h verifications hashes
+abbrev pub IsFoundWithin : JudgeInput → AnswerOutcome → Type 0
+IsFoundWithin h (f.Means meaning validity verifications hashes) = IsWithinBounds h verifications hashes
+IsFoundWithin h (f.Refused refusal verifications hashes) = IsWithinBounds h verifications hashes
+IsFoundWithin h (f.Asks asks verifications hashes) = IsWithinBounds h verifications hashes

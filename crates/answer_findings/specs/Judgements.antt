@@ -13,7 +13,7 @@ use Rattle.answer_judge_table.specs.Asking.{AreAsked, AreWanted}
 use Rattle.answer_judge_table.specs.Outcomes.{IsJudgedBy}
 use Rattle.answer_judge_table.specs.Table.{Checked, Tried}
 use Rattle.answer_findings.specs.declared.hints.Hint.TheVariants as hint
-use Rattle.answer_findings.specs.declared.made.Made.{Made}
+use Rattle.answer_findings.specs.declared.side_judgements.SideJudgement.{SideJudgement}
 use Rattle.answer_findings.specs.Hints.{has_cname_hint, owner_hint}
 
 -- the same messages, judged for another question
@@ -24,22 +24,22 @@ aside h asked = record h { asked = asked; other_question = true }
 abbrev pub asking : JudgeInput → Name → ℕ → Asked
 asking h name t = record { name = name; rtype = t; class = h.asked.class }
 
-abbrev pub question_of : Made → Asked
+abbrev pub question_of : SideJudgement → Asked
 question_of m = asked_of m.question
 
-abbrev pub asked_in : Option Made → Option Asked
+abbrev pub asked_in : Option SideJudgement → Option Asked
 asked_in made = option_map question_of made
 
 -- a judgement of the messages for its question
-abbrev pub IsMade : List Checked → JudgeInput → Made → Type 0
+abbrev pub IsMade : List Checked → JudgeInput → SideJudgement → Type 0
 IsMade table h m = IsJudgedBy table (aside h (question_of m)) m.said
 
 -- it did not end for want of memory
-abbrev pub IsMadeInMemory : Made → Type 0
+abbrev pub IsMadeInMemory : SideJudgement → Type 0
 IsMadeInMemory m = is_out_of_memory (answer_of m.said) ≡ false
 
 -- The judgement of a question, if one is wanted. One that memory ran out for says nothing of what the answer proves: it is none.
-pub record IsMadeOf (table : List Checked) (h : JudgeInput) (wanted : Option Asked) (made : Option Made) : Type 0 where
+pub record IsMadeOf (table : List Checked) (h : JudgeInput) (wanted : Option Asked) (made : Option SideJudgement) : Type 0 where
   pub asked : asked_in made ≡ wanted
   pub judged : IfSome made (IsMade table h)
   pub in_memory : IfSome made IsMadeInMemory

@@ -6,16 +6,16 @@ use Rattle.denial_laws.specs.Leading.{To, TooLong, exchanged}
 use Rattle.denial_laws.specs.Leading as leading
 use Rattle.messages.specs.Message.{Asked}
 use Rattle.messages.specs.NameOctets.{name_of_octets}
-use Rattle.answer_shared.specs.Redirection.{lead_seen}
+use Rattle.answer_terms.specs.Redirection.{lead_seen}
 use Rattle.answer_judge_rules.specs.Rules.{verdict_of}
 use Rattle.answer_judge.specs.Judging.{Answer, Says, Refuses, JudgeInput, answer_of, hashes_of, verifications_of}
 use Rattle.answer_judge.specs.declared.verdict.Judgement.{Judgement}
 use Rattle.answer_judge.specs.declared.verdict.Refusal.{Refusal}
 use Rattle.answer_judge.specs.declared.verdict.Refused.{Refused}
-use Rattle.answer_findings.specs.declared.finding.Finding.{Finding}
-use Rattle.answer_findings.specs.declared.finding.Finding.TheVariants as f
-use Rattle.answer_findings.specs.declared.made.Made.{Made}
-use Rattle.answer_findings.specs.declared.made.Judgements.{Judgements}
+use Rattle.answer_findings.specs.declared.meaning.Meaning.{Meaning}
+use Rattle.answer_findings.specs.declared.meaning.Meaning.TheVariants as f
+use Rattle.answer_findings.specs.declared.side_judgements.SideJudgement.{SideJudgement}
+use Rattle.answer_findings.specs.declared.side_judgements.Judgements.{Judgements}
 use Rattle.answer_findings.specs.Judgements.{is_delegated, is_no_type, is_not_proven, question_of, says_delegated}
 
 -- what is found, without how it is kept
@@ -29,7 +29,7 @@ pub data Seen : Type 0 where
   SeesDname : Name → leading.Lead → Seen
   SeesReferral : Name → List (List ℕ) → Seen
 
-abbrev pub seen : Finding → Seen
+abbrev pub seen : Meaning → Seen
 seen (f.Verdict v) = SeesVerdict (verdict_of v)
 seen (f.Delegated c) = SeesDelegated c
 seen (f.NoDs d) = SeesNoDs d
@@ -73,7 +73,7 @@ lead_said h asked (Says Open) = open_lead asked
 lead_said h asked _ = None
 
 -- where a name leads that a judgement shows to be an alias, or that opt-out leaves it open, if it does
-abbrev pub lead_found : JudgeInput → Option Made → Option Seen
+abbrev pub lead_found : JudgeInput → Option SideJudgement → Option Seen
 lead_found h None = None
 lead_found h (Some m) = lead_said h (question_of m) (answer_of m.said)
 
@@ -84,7 +84,7 @@ referral_said c (Says (Records ds)) = Some (SeesReferral c ds)
 referral_said c _ = None
 
 -- a referral, where DS records at a cut are proven
-abbrev pub referral_found : Option Made → Option Seen
+abbrev pub referral_found : Option SideJudgement → Option Seen
 referral_found None = None
 referral_found (Some m) = referral_said m.question.name (answer_of m.said)
 
@@ -95,7 +95,7 @@ answers_ds (Says NoType) = true
 answers_ds _ = false
 
 -- the cut, where the zone delegates it and answers for its DS
-abbrev pub cut_found : Option Made → Option Made → Option Name
+abbrev pub cut_found : Option SideJudgement → Option SideJudgement → Option Name
 cut_found (Some ns) (Some ds) = if says_delegated (answer_of ns.said) && answers_ds (answer_of ds.said) then Some ns.question.name else None
 cut_found _ _ = None
 
@@ -104,7 +104,7 @@ delegates_said (Says v) = Some (is_delegated v)
 delegates_said (Refuses e) = None
 
 -- whether a name that has no DS record is delegated, where that is proven; the apex is not
-abbrev pub delegates_found : JudgeInput → Option Made → Option Bool
+abbrev pub delegates_found : JudgeInput → Option SideJudgement → Option Bool
 delegates_found h ns = if same h.asked.name h.apex then Some false else elim ns [ None ↦ None | Some m ↦ delegates_said (answer_of m.said) ]
 
 abbrev pub no_ds_found : Option Bool → Seen
@@ -114,7 +114,7 @@ no_ds_found (Some d) = SeesNoDs d
 -- ---- all of it
 
 -- The verdict is what it is, with the cut of a name that is delegated, and whether a name without DS is delegated.
-abbrev pub verdict_found : JudgeInput → Option Made → Option Made → Verdict → Seen
+abbrev pub verdict_found : JudgeInput → Option SideJudgement → Option SideJudgement → Verdict → Seen
 verdict_found h ns ds v =
     if is_delegated v then SeesDelegated (cut_found ns ds)
     else if is_no_type v && (h.asked.rtype == 43) then no_ds_found (delegates_found h ns)
@@ -130,7 +130,7 @@ first_found None other = other
 first_found (Some s) other = Some s
 
 -- where nothing is proven, an alias or a referral may be
-abbrev pub refusal_found : Option Seen → Option Made → Refusal → Result Seen Refusal
+abbrev pub refusal_found : Option Seen → Option SideJudgement → Refusal → Result Seen Refusal
 refusal_found lead ds e = if is_not_proven e then found_or e (first_found lead (referral_found ds)) else Err e
 
 abbrev pub answer_found : JudgeInput → Judgements → Answer → Result Seen Refusal
@@ -143,16 +143,16 @@ found_by h js = answer_found h js (answer_of js.own)
 
 -- ---- counts
 
-abbrev pub verified_in : Option Made → ℕ
+abbrev pub verified_in : Option SideJudgement → ℕ
 verified_in None = 0
 verified_in (Some m) = verifications_of m.said
 
-abbrev pub hashed_in : Option Made → ℕ
+abbrev pub hashed_in : Option SideJudgement → ℕ
 hashed_in None = 0
 hashed_in (Some m) = hashes_of m.said
 
 -- those that are made before that of DS
-abbrev pub judgements_up_to : Result Judgement Refused → Option Made → Option Made → Judgements
+abbrev pub judgements_up_to : Result Judgement Refused → Option SideJudgement → Option SideJudgement → Judgements
 judgements_up_to own alias ns = record { own = own; alias = alias; ns = ns; ds = None }
 
 -- over all judgements, at most four

@@ -7,12 +7,12 @@ use Rattle.definitions.specs.ZoneChain.{optout_of}
 use Rattle.denial_laws.specs.Leading.{Lead, To, LeadsTo, exchanged}
 use Rattle.messages.specs.Message.{Asked}
 use Rattle.answer_scheme.specs.Answers.{Answers}
-use Rattle.answer_judge.specs.Honest.{AreHonest, IsSaidByOne}
+use Rattle.answer_judge.specs.Honest.{IsHonestInput, IsSaidByOne}
 use Rattle.answer_judge.specs.Versions.{Version, zone_in}
 use Rattle.answer_judge.specs.Judging.{JudgeInput}
 use Rattle.answer_judge_table.specs.Table.{AreTrue, Checked, Tried, answers_with, passes_in}
-use Rattle.answer_findings.specs.declared.finding.Found.{Found}
-use Rattle.answer_findings.specs.declared.finding.Found.TheVariants as f
+use Rattle.answer_findings.specs.declared.meaning.AnswerOutcome.{AnswerOutcome}
+use Rattle.answer_findings.specs.declared.meaning.AnswerOutcome.TheVariants as f
 use Rattle.answer_findings.specs.Found.{IsBeside}
 use Rattle.answer_findings.specs.Judgements.{aside}
 use Rattle.answer_findings.specs.Laws.{HasRecords}
@@ -20,8 +20,8 @@ use Rattle.answer_findings.specs.Seen.{Seen, SeesVerdict, SeesDelegated, SeesNoD
 
 -- Nothing is forged in the messages, whichever of these questions they are judged for: the case's own, and those beside it.
 pub record AreHonestBeside (a : Answers) (k : ℕ) (h : JudgeInput) (versions : List Version) : Type 0 where
-  pub itself : AreHonest a k h versions
-  pub beside : (asked : Asked) → IsBeside h asked → AreHonest a k (aside h asked) versions
+  pub itself : IsHonestInput a k h versions
+  pub beside : (asked : Asked) → IsBeside h asked → IsHonestInput a k (aside h asked) versions
 
 -- In a version of the zone this is the verdict on the CNAME of the question's name, its own or that of the wildcard that stands
 -- for it, and the name leads to the target.
@@ -75,6 +75,6 @@ IsTruly table h said =
     (passes : Tried → Bool) (versions : List Version)
     → AreTrue (passes_in table) passes → AreHonestBeside (answers_with passes) pointer_limit h versions → IsSo h versions said
 
-abbrev pub FindsTruly : List Checked → JudgeInput → Found → Type 0
-FindsTruly table h (f.Finds finding lasting verifications hashes) = IsTruly table h (seen finding)
+abbrev pub FindsTruly : List Checked → JudgeInput → AnswerOutcome → Type 0
+FindsTruly table h (f.Means meaning validity verifications hashes) = IsTruly table h (seen meaning)
 FindsTruly table h _ = Unit {0}

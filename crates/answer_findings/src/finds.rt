@@ -4,11 +4,11 @@ ghost use Rattle.answer_judge_table.specs.Asking.{AreAsked};
 ghost use Rattle.answer_findings.specs.Found.{AreAskedAtOnce, IsFound, IsFoundWithin};
 ghost use Rattle.answer_findings.specs.Truth.{FindsTruly};
 
-use crate::finding::Found;
+use crate::combining::{asks_behind, combine};
 use crate::leads::lead_found;
-use crate::made::Judgements;
+use crate::meaning::AnswerOutcome;
+use crate::side_judgements::Judgements;
 use crate::sought::{first_asks, judged_alias, judged_ds, judged_ns};
-use crate::weighed::{asks_behind, weighed};
 use answer_judge_table::{Ask, Case, CheckedSignature, Outcome, judge_by_table};
 use std::alloc::{AllocError, Global};
 
@@ -29,7 +29,11 @@ use std::alloc::{AllocError, Global};
 /// judged for, is so of a version of the zone: an alias leads there, the DS records are at the cut.
 /// What rests on two judgements, the cut and whether a name without DS is delegated, is so of a
 /// zone that does not change.
-pub fn find(alloc: Global, case: &Case, table: &[CheckedSignature]) -> Result<Found, AllocError>
+pub fn judge_answer(
+    alloc: Global,
+    case: &Case,
+    table: &[CheckedSignature],
+) -> Result<AnswerOutcome, AllocError>
     ensures found { IfOk result (λ f. IsFound table.now case.now f) }
     ensures honest { IfOk result (λ f. FindsTruly table.now case.now f) }
     ensures within { IfOk result (λ f. IsFoundWithin case.now f) }
@@ -38,7 +42,7 @@ pub fn find(alloc: Global, case: &Case, table: &[CheckedSignature]) -> Result<Fo
         Outcome::Judged(own) => own,
         Outcome::Asks(asks) => {
             let asks = asks_first(alloc, case, table, asks)?;
-            return Ok(Found::Asks {
+            return Ok(AnswerOutcome::Asks {
                 asks,
                 verifications: 0,
                 hashes: 0,
@@ -58,7 +62,7 @@ pub fn find(alloc: Global, case: &Case, table: &[CheckedSignature]) -> Result<Fo
         Ok(ds) => ds,
         Err(asks) => return Ok(asks_behind(asks, Judgements::up_to(own, alias, ns))),
     };
-    weighed(alloc, case, Judgements { own, alias, ns, ds }, lead)
+    combine(alloc, case, Judgements { own, alias, ns, ds }, lead)
 }
 
 /// The signatures that are asked for before the case itself is judged, which wants some.

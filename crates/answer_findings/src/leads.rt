@@ -5,10 +5,10 @@ ghost use Rattle.answer_findings.specs.Judgements.{question_of};
 ghost use Rattle.answer_findings.specs.Seen.{lead_found, named_lead, one_name, open_lead};
 ghost use Rattle.answer_findings.specs.Seen.{own_lead, seen, star_lead};
 
-use crate::finding::Finding;
-use crate::made::Made;
+use crate::meaning::Meaning;
+use crate::side_judgements::SideJudgement;
 use answer_judge_table::{Case, DataList, Verdict};
-use answer_shared::redirection::exchanged;
+use answer_terms::redirection::exchanged;
 use messages::names::{Name, copy_name, is_above, name_from_octets};
 use names_rdata::rtype::Rtype;
 use std::alloc::{AllocError, Global};
@@ -18,8 +18,8 @@ use std::alloc::{AllocError, Global};
 pub(crate) fn lead_found(
     alloc: Global,
     case: &Case,
-    made: &Option<Made>,
-) -> Result<Option<Finding>, AllocError>
+    made: &Option<SideJudgement>,
+) -> Result<Option<Meaning>, AllocError>
     ensures { IfOk result (λ f. option_map seen f ≡ lead_found case.now made.now) }
 {
     let Some(made) = made else {
@@ -40,9 +40,9 @@ pub(crate) fn lead_found(
 fn own_lead(
     alloc: Global,
     case: &Case,
-    made: &Made,
+    made: &SideJudgement,
     datas: &DataList,
-) -> Result<Option<Finding>, AllocError>
+) -> Result<Option<Meaning>, AllocError>
     ensures { let led = named_lead (own_lead case.now (question_of made.now))
         (one_name datas.now) in
         IfOk result (λ f. option_map seen f ≡ led) }
@@ -51,13 +51,13 @@ fn own_lead(
         return Ok(None);
     };
     if made.question.rtype == Rtype::CNAME {
-        return Ok(Some(Finding::Alias(target)));
+        return Ok(Some(Meaning::Alias(target)));
     }
     let owner = &made.question.name;
     if !is_above(owner, &case.question.name) {
         return Ok(None);
     }
-    Ok(Some(Finding::Dname {
+    Ok(Some(Meaning::Dname {
         owner: copy_name(alloc, owner)?,
         leads: exchanged(alloc, &case.question.name, owner, &target)?,
     }))
@@ -66,9 +66,9 @@ fn own_lead(
 /// Where a wildcard's CNAME leads.
 fn wildcard_lead(
     alloc: Global,
-    made: &Made,
+    made: &SideJudgement,
     datas: &DataList,
-) -> Result<Option<Finding>, AllocError>
+) -> Result<Option<Meaning>, AllocError>
     ensures { let led = named_lead (star_lead (question_of made.now)) (one_name datas.now) in
         IfOk result (λ f. option_map seen f ≡ led) }
 {
@@ -76,18 +76,18 @@ fn wildcard_lead(
         return Ok(None);
     };
     if made.question.rtype == Rtype::CNAME {
-        return Ok(Some(Finding::WildcardAlias(target)));
+        return Ok(Some(Meaning::WildcardAlias(target)));
     }
     Ok(None)
 }
 
 /// That opt-out leaves the name open, where a judgement for its CNAME says so. It is so of each
 /// type.
-fn open_lead(made: &Made) -> Option<Finding>
+fn open_lead(made: &SideJudgement) -> Option<Meaning>
     ensures { option_map seen result ≡ open_lead (question_of made.now) }
 {
     if made.question.rtype == Rtype::CNAME {
-        return Some(Finding::LeftOpen);
+        return Some(Meaning::LeftOpen);
     }
     None
 }

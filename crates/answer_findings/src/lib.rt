@@ -1,25 +1,25 @@
-//! What an answer tells a resolver beyond a verdict: where an alias leads, what a referral hands
-//! on, which delegation is the topmost, whether a name without DS is delegated. Each is proved by
-//! the judge's own judgements of the same messages for other questions.
+//! What an answer proves beyond a verdict: where an alias leads, the DS records of a referral, the
+//! topmost delegation. Each follows from the judge's judgements of the same messages for other
+//! questions.
 #![tactic(auto)]
 
 mod asked;
-pub mod finding;
+mod combining;
 pub mod finds;
 mod hints;
-mod lasting;
 pub mod laws;
 mod leads;
-mod made;
+pub mod meaning;
+mod side_judgements;
 mod sought;
-mod weighed;
+mod validity;
 
 pub use crate::asked::first_question;
-pub use crate::finding::{Finding, Found};
-pub use crate::finds::find;
-pub use crate::made::case_for;
+pub use crate::finds::judge_answer;
+pub use crate::meaning::{AnswerOutcome, Meaning};
+pub use crate::side_judgements::case_for;
 pub use answer_judge_table::{
-    Ask, Case, CheckedSignature, DataList, Lasting, Outcome, Refusal, Verdict, digest, entry_of,
+    Ask, Case, CheckedSignature, DataList, Outcome, Refusal, Validity, Verdict, digest, entry_of,
     judge_by_table,
 };
-pub use answer_shared::redirection::Lead;
+pub use answer_terms::redirection::Lead;

@@ -7,7 +7,7 @@ ghost use Rattle.answer_findings.specs.Judgements.{alias_question};
 ghost use Rattle.answer_findings.specs.Judgements.{ds_question, first_question, ns_question};
 
 use crate::asked::{alias_question, ds_question, first_question, ns_question};
-use crate::made::{Made, asks_aside, judged_aside};
+use crate::side_judgements::{SideJudgement, asks_aside, judge_other_question};
 use answer_judge_table::{Ask, Case, CheckedSignature, Judgement, Refused};
 use std::alloc::{AllocError, Global};
 
@@ -31,13 +31,13 @@ pub(crate) fn judged_alias(
     case: &Case,
     table: &[CheckedSignature],
     own: &Result<Judgement, Refused>,
-) -> Result<Result<Option<Made>, Vec<Ask>>, AllocError>
+) -> Result<Result<Option<SideJudgement>, Vec<Ask>>, AllocError>
     ensures { let wanted = alias_question pointer_limit case.now (answer_of own.now) in
         IfOk result (λ r. MatchResult r (IsMadeOf table.now case.now wanted)
         (λ asks. AreAskedAside table.now case.now wanted asks.items)) }
 {
     let question = alias_question(alloc, case, own)?;
-    judged_aside(alloc, case, table, question)
+    judge_other_question(alloc, case, table, question)
 }
 
 /// The judgement of NS at a name, if one is sought; or the signatures that it wants.
@@ -46,13 +46,13 @@ pub(crate) fn judged_ns(
     case: &Case,
     table: &[CheckedSignature],
     own: &Result<Judgement, Refused>,
-) -> Result<Result<Option<Made>, Vec<Ask>>, AllocError>
+) -> Result<Result<Option<SideJudgement>, Vec<Ask>>, AllocError>
     ensures { let wanted = ns_question pointer_limit case.now (answer_of own.now) in
         IfOk result (λ r. MatchResult r (IsMadeOf table.now case.now wanted)
         (λ asks. AreAskedAside table.now case.now wanted asks.items)) }
 {
     let question = ns_question(alloc, case, own)?;
-    judged_aside(alloc, case, table, question)
+    judge_other_question(alloc, case, table, question)
 }
 
 /// The judgement of DS at a name, if one is sought; or the signatures that it wants.
@@ -62,11 +62,11 @@ pub(crate) fn judged_ds(
     table: &[CheckedSignature],
     own: &Result<Judgement, Refused>,
     leads: bool,
-) -> Result<Result<Option<Made>, Vec<Ask>>, AllocError>
+) -> Result<Result<Option<SideJudgement>, Vec<Ask>>, AllocError>
     ensures { let wanted = ds_question pointer_limit case.now (answer_of own.now) leads in
         IfOk result (λ r. MatchResult r (IsMadeOf table.now case.now wanted)
         (λ asks. AreAskedAside table.now case.now wanted asks.items)) }
 {
     let question = ds_question(alloc, case, own, leads)?;
-    judged_aside(alloc, case, table, question)
+    judge_other_question(alloc, case, table, question)
 }

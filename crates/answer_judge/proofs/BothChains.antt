@@ -5,7 +5,7 @@ use Rattle.definitions.specs.Zone.{Verdict, verdict}
 use Rattle.definitions.specs.ZoneChain.{Nsec, Nsec3}
 use Rattle.messages.specs.HandedRr.{HandedRr}
 use Rattle.messages.specs.Message.{Asked}
-use Rattle.answer_shared.specs.Accepting.{zone_of}
+use Rattle.answer_terms.specs.Accepting.{zone_of}
 use Rattle.answer_judge.specs.BothChains.{ChainsSayTheSame}
 use Rattle.answer_judge.specs.Judged.{AnswersAs}
 use Rattle.answer_judge.specs.Judging.{Says}

@@ -10,12 +10,12 @@ use Rattle.denial_laws.specs.Facts.{Facts, HashLink, Link, Rrset}
 use Rattle.denial_laws.specs.OwnFacts.{hash_link_of, hash_link_speaks, own_facts, own_hash_links, own_links, own_rrset, spoken}
 use Rattle.messages.specs.HandedRr.{HandedRr}
 use Rattle.answer_judge_rules.specs.Hashes.{hash_among}
-use Rattle.answer_shared.specs.Accepting.{zone_of}
-use Rattle.answer_shared.specs.FactsCase.{low_facts}
-use Rattle.answer_shared.specs.Hashing.{hash_in}
-use Rattle.answer_shared.specs.Served.{by_tag}
-use Rattle.answer_shared.proofs.FactsCase.{links_lowered}
-use Rattle.answer_shared.proofs.Servable.{allowed_answers_decide, asked_inside}
+use Rattle.answer_terms.specs.Accepting.{zone_of}
+use Rattle.answer_terms.specs.FactsCase.{low_facts}
+use Rattle.answer_terms.specs.Hashing.{hash_in}
+use Rattle.answer_terms.specs.Served.{by_tag}
+use Rattle.answer_terms.proofs.FactsCase.{links_lowered}
+use Rattle.answer_terms.proofs.Servable.{allowed_answers_decide, asked_inside}
 use Rattle.answer_scheme.specs.Answers.{Answers}
 use Rattle.answer_judge.specs.Judged.{AnswersAs, are_mixed, are_over, by_facts, decided_by, facts_in, is_unhashed, judged, judged_facts, judged_proof, trusting}
 use Rattle.answer_judge.specs.Judging.{Answer, JudgeInput, Refuses, Says}

@@ -14,14 +14,14 @@ use Rattle.definitions.specs.ZoneChain.{Mode}
 use Rattle.messages.specs.HandedRr.{HandedRr}
 use Rattle.answer_scheme.specs.Answers.{Answers}
 use Rattle.answer_judge_keys.specs.Trusted.{digests_to, is_trusted, is_usable, matches_key}
-use Rattle.answer_shared.specs.Told.{TellsGroups, AreRecords, AreSignatures, TellsKeys, IsRecord, IsSignature, fields_for}
+use Rattle.answer_terms.specs.Told.{TellsGroups, AreRecords, AreSignatures, TellsKeys, IsRecord, IsValidSignature, fields_for}
 use Rattle.answer_judge.specs.Judged.{ds_authenticates_keys, keys_of, trusting}
 use Rattle.answer_judge.specs.Judging.{JudgeInput}
 use Rattle.answer_judge_keys.specs.DnskeyAnswer.{key_at, keys_in}
-use Rattle.answer_shared.specs.EqualTags.{has_equal_tags}
+use Rattle.answer_terms.specs.EqualTags.{has_equal_tags}
 use Rattle.answer_judge.specs.Meeting.{HasDs, WasGiven}
 use Rattle.messages.specs.Message.{Spelled, data_of}
-use Rattle.answer_shared.specs.Served.{Group, by_tag, key_group}
+use Rattle.answer_terms.specs.Served.{ServedRrset, by_tag, key_group}
 use Rattle.answer_judge_facts.specs.Verified.{Trusting, is_verified}
 use Rattle.answer_judge_keys.proofs.GivenKeys.{IsKeyData, by_tag-has, data_of_key, find_kept, key_data, read_all, read_from, read_has, tags_within}
 use Rattle.answer_judge.proofs.GivenLists.{has_contained}
@@ -45,7 +45,7 @@ key_there k m apex d r is =
     let octets : data_of m r ≡ d = some_octets (data_of m r) d (sym (canonical_octets k m r (ap (λ n. eqb n 2) is.type_is) (ap (λ n. eqb n 6) is.type_is) (ap (λ n. eqb n 47) is.type_is) (ap (λ n. eqb n 50) is.type_is)) ∙ is.data_is) in
     (λ i. key_when (here i) (octets i))
 
-keys_there : (k : ℕ) (m : List ℕ) (apex : Name) (g : Group) (rs : List Spelled) (ds : List (List ℕ)) → g.owner ≡ apex → g.rtype ≡ 48 → AreRecords k m rs g ds → keys_in m apex rs ≡ filter_map dnskey_of_data ds
+keys_there : (k : ℕ) (m : List ℕ) (apex : Name) (g : ServedRrset) (rs : List Spelled) (ds : List (List ℕ)) → g.owner ≡ apex → g.rtype ≡ 48 → AreRecords k m rs g ds → keys_in m apex rs ≡ filter_map dnskey_of_data ds
 keys_there k m apex g [] [] o t h = refl
 keys_there k m apex g [] (d ∷ ds) o t h = absurd h
 keys_there k m apex g (r ∷ rs) [] o t h = absurd h
@@ -54,17 +54,17 @@ keys_there k m apex g (r ∷ rs) (d ∷ ds) o t h =
     let is : IsRecord k m r apex 48 d = record { owner_is = first.owner_is ∙ ap low o; type_is = first.type_is ∙ t; class_is = first.class_is; data_is = first.data_is } in
     λ i. cons_option (key_there k m apex d r is i) (keys_there k m apex g rs ds o t h.1 i)
 
-no_keys : (v : Dnskey → List ℕ → List ℕ → Bool) (k : ℕ) (m : List ℕ) (rs : List Spelled) (apex : Name) (at life : ℕ) (g : Group) (keys : List Dnskey) → AreSignatures v k m rs apex at life g keys → keys_in m apex rs ≡ []
+no_keys : (v : Dnskey → List ℕ → List ℕ → Bool) (k : ℕ) (m : List ℕ) (rs : List Spelled) (apex : Name) (at life : ℕ) (g : ServedRrset) (keys : List Dnskey) → AreSignatures v k m rs apex at life g keys → keys_in m apex rs ≡ []
 no_keys v k m [] apex at life g [] h = refl
 no_keys v k m [] apex at life g (key ∷ keys) h = absurd h
 no_keys v k m (r ∷ rs) apex at life g [] h = absurd h
 no_keys v k m (r ∷ rs) apex at life g (key ∷ keys) h =
-    let is : IsSignature v k m r apex at life g key = h.0 in
+    let is : IsValidSignature v k m r apex at life g key = h.0 in
     let other : (same r.owner apex && eqb r.rtype 48 && eqb r.class 1) ≡ false = and_left (same r.owner apex && eqb r.rtype 48) (eqb r.class 1) (and_right (same r.owner apex) (eqb r.rtype 48) (ap (λ n. eqb n 48) is.type_is)) in
     λ i. cons_option (key_when (other i) (data_of m r)) (no_keys v k m rs apex at life g keys h.1 i)
 
 -- a message of one RRset of keys
-keys_among : (v : Dnskey → List ℕ → List ℕ → Bool) (k : ℕ) (m : List ℕ) (rs : List Spelled) (apex : Name) (at life : ℕ) (keys : List Dnskey) (g : Group) → g.owner ≡ apex → g.rtype ≡ 48 → TellsGroups v k m rs apex at life keys (g ∷ []) → keys_in m apex rs ≡ filter_map dnskey_of_data g.datas
+keys_among : (v : Dnskey → List ℕ → List ℕ → Bool) (k : ℕ) (m : List ℕ) (rs : List Spelled) (apex : Name) (at life : ℕ) (keys : List Dnskey) (g : ServedRrset) → g.owner ≡ apex → g.rtype ≡ 48 → TellsGroups v k m rs apex at life keys (g ∷ []) → keys_in m apex rs ≡ filter_map dnskey_of_data g.datas
 keys_among v k m rs apex at life keys g o t (own, signatures, rest, are, records, signs, more) =
     let f = key_at m apex in
     ap (filter_map f) are ∙ filter_map-append f (own ++ signatures) rest
@@ -138,7 +138,7 @@ chained_given a k h mode rs given =
     let kept : Has keys anchor = keys_has a.verifies k ttl h.apex present given.keysigners given.keys_at given.life h.dnskey_bytes gives small anchor there in
     let datas : map dnskey_data keys ≡ present_data present = keys_data a.verifies k ttl h.apex present given.keysigners given.keys_at given.life h.dnskey_bytes gives small in
     let w : Trusting = trusting a h (filter (is_trusted a h.apex h.ds) keys) in
-    let g : Group = key_group h.apex ttl present in
+    let g : ServedRrset = key_group h.apex ttl present in
     let some : 0 < length (present_data present) = some_length (present_data present) (dnskey_data anchor) (data_has (map dnskey_data present) (dnskey_data anchor) (data_of_key present anchor there)) in
     let by : IsSignedBy w h.apex given.keys_at given.life (by_tag given.keysigners) (g ∷ []) g anchor = record {
       apex_is = refl;

@@ -17,17 +17,17 @@ use Rattle.messages.specs.HandedRr.{HandedRr}
 use Rattle.messages.specs.Handed.{IsHanded}
 use Rattle.messages.specs.Message.{Asked, Spelled}
 use Rattle.messages.proofs.Lists.{Has, all_at, all_more, all_sorted, eqb-back}
-use Rattle.answer_shared.specs.Accepting.{over_limit, record_cmp, soas, sorted_records, zone_of, zone_with}
-use Rattle.answer_shared.specs.Chainable.{HasChain}
-use Rattle.answer_shared.specs.Hashing.{Hasher, hash_in}
-use Rattle.answer_shared.specs.Served.{Group, Served, ahead, answer_groups, proofs_of, served_of}
-use Rattle.answer_shared.specs.Told.{TellsGroups, fields_for}
-use Rattle.answer_shared.proofs.AllowedTypes.{unsigned_from}
-use Rattle.answer_shared.proofs.Servable.{asked_inside, servable}
-use Rattle.answer_shared.proofs.ZoneData.{label_count-low}
+use Rattle.answer_terms.specs.Accepting.{over_limit, record_cmp, soas, sorted_records, zone_of, zone_with}
+use Rattle.answer_terms.specs.Chainable.{HasChain}
+use Rattle.answer_terms.specs.Hashing.{Hasher, hash_in}
+use Rattle.answer_terms.specs.Served.{ServedRrset, Served, ahead, answer_groups, proofs_of, served_of}
+use Rattle.answer_terms.specs.Told.{TellsGroups, fields_for}
+use Rattle.answer_terms.proofs.AllowedTypes.{unsigned_from}
+use Rattle.answer_terms.proofs.Servable.{asked_inside, servable}
+use Rattle.answer_terms.proofs.ZoneData.{label_count-low}
 use Rattle.answer_judge_keys.specs.Trusted.{fits_key, may_expand}
 use Rattle.answer_judge.specs.Meeting.{holds}
-use Rattle.answer_shared.specs.FactsCase.{low_facts, low_link}
+use Rattle.answer_terms.specs.FactsCase.{low_facts, low_link}
 use Rattle.answer_judge.specs.OwnFacts.{TellsZone, ToldFactsAreOwn}
 use Rattle.answer_judge_facts.specs.Verified.{Trusting, verified_facts, verified_hash_links, verified_links, verified_rrset}
 use Rattle.answer_judge.proofs.GivenGroups.{SameLink, has_twins}
@@ -71,7 +71,7 @@ pub record IsToldBy (w : Trusting) (k : ℕ) (m : List ℕ) (records : List Spel
   pub not_nsec3 : eqb t 50 ≡ false
   pub groups_are : TellsGroups w.answers.verifies k m records apex at life keys (answer_groups (served_of apex mode hash rs) q t)
   pub signer : Has keys key
-  pub found : (g : Group) → find (fits_key (fields_for apex at life g key)) w.keys ≡ Some key
+  pub found : (g : ServedRrset) → find (fits_key (fields_for apex at life g key)) w.keys ≡ Some key
   pub hold : holds at life w.now ≡ true
 
 -- iterations that a record holds, and hashes of the chain that are octets
@@ -89,7 +89,7 @@ module _ (w : Trusting) (k : ℕ) (m : List ℕ) (records : List Spelled) (apex 
   abbrev said : Verdict
   said = verdict z (optout_of mode) q t
 
-  abbrev front : List Group
+  abbrev front : List ServedRrset
   front = ahead s q t said
 
   is_front : IsFront apex q t front (own_rrset z q t said)
@@ -98,10 +98,10 @@ module _ (w : Trusting) (k : ℕ) (m : List ℕ) (records : List Spelled) (apex 
   abbrev names : List Name
   names = spoken z mode (low q) (verdict z false q t) said
 
-  abbrev chain : List Group
+  abbrev chain : List ServedRrset
   chain = proofs_of s names
 
-  abbrev groups : List Group
+  abbrev groups : List ServedRrset
   groups = front ++ chain
 
   are : TellsGroups w.answers.verifies k m records apex told.at told.life told.keys groups
@@ -113,11 +113,11 @@ module _ (w : Trusting) (k : ℕ) (m : List ℕ) (records : List Spelled) (apex 
 
     -- ---- links
 
-    no_front : (p : ℕ) (gs : List Group) → AllByRecursion (λ g. eqb g.rtype p ≡ false) gs → (g : Group) → Has gs g → g.rtype ≡ p → ⊥
+    no_front : (p : ℕ) (gs : List ServedRrset) → AllByRecursion (λ g. eqb g.rtype p ≡ false) gs → (g : ServedRrset) → Has gs g → g.rtype ≡ p → ⊥
     no_front p [] h g i e = i
-    no_front p (x ∷ gs) h g i e = ⊎_elim (λ here. false≢true (sym h.0 ∙ ap (λ (y : Group). eqb y.rtype p) (sym here) ∙ eq-eqb g.rtype p e)) (λ j. no_front p gs h.1 g j e) i
+    no_front p (x ∷ gs) h g i e = ⊎_elim (λ here. false≢true (sym h.0 ∙ ap (λ (y : ServedRrset). eqb y.rtype p) (sym here) ∙ eq-eqb g.rtype p e)) (λ j. no_front p gs h.1 g j e) i
 
-    signed_by : (g : Group) → Has groups g → IsVerifiable apex g → IsSignedBy w apex told.at told.life told.keys groups g told.key
+    signed_by : (g : ServedRrset) → Has groups g → IsVerifiable apex g → IsSignedBy w apex told.at told.life told.keys groups g told.key
     signed_by g there is = record {
       apex_is = told.trusted_apex;
       group = there;
@@ -130,13 +130,13 @@ module _ (w : Trusting) (k : ℕ) (m : List ℕ) (records : List Spelled) (apex 
     }
 
     -- an RRset of a type that is not in front is the chain's
-    of_chain : (p : ℕ) → AllByRecursion (λ g. eqb g.rtype p ≡ false) front → (g : Group) → Has groups g → g.rtype ≡ p → IsVerifiable apex g
+    of_chain : (p : ℕ) → AllByRecursion (λ g. eqb g.rtype p ≡ false) front → (g : ServedRrset) → Has groups g → g.rtype ≡ p → IsVerifiable apex g
     of_chain p none g i e = ⊎_elim
         (λ (f : Has front g). absurd (no_front p front none g f e))
         (λ (c : Has chain g). all_at (IsVerifiable apex) chain g behind.each c)
         (from_joined front chain g i)
 
-    proofs : (g : Group) → Has groups g → g.rtype ≡ 47 → IsProof w apex told.at told.life told.keys groups g told.key
+    proofs : (g : ServedRrset) → Has groups g → g.rtype ≡ 47 → IsProof w apex told.at told.life told.keys groups g told.key
     proofs g i e =
         let is : IsVerifiable apex g = of_chain 47 is_front.beside g i e in
         record { by = signed_by g i is; below = is.below e }
@@ -251,7 +251,7 @@ told_facts_are_own w k mode rs asked bytes t =
 abbrev RrsetInside : Name → Name → Option Rrset → Type 0
 RrsetInside apex q o = IfSome o (λ r. is_expanded r q ≡ true → length apex ≤ r.labels)
 
-expands_inside : (apex q : Name) (t : ℕ) (gs : List Group) (o : Option Rrset) → Proves apex q t gs o → RrsetInside apex q o
+expands_inside : (apex q : Name) (t : ℕ) (gs : List ServedRrset) (o : Option Rrset) → Proves apex q t gs o → RrsetInside apex q o
 expands_inside apex q t gs None h = tt
 expands_inside apex q t gs (Some r) (g, there, is) = λ x.
     let counted : label_count g.source ≡ r.labels = ap (λ (y : Rrset). y.labels) is.is in

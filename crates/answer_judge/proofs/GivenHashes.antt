@@ -14,16 +14,16 @@ use Rattle.denial_laws.specs.Facts.{HashLink}
 use Rattle.messages.specs.Message.{HashedNext, Spelled, canonical_data, data_of, nsec3_at, nsec3_of}
 use Rattle.messages.proofs.Lists.{Has, some_is}
 use Rattle.messages.proofs.ZoneNames.{labels_eq-same}
-use Rattle.answer_shared.specs.Served.{Group}
-use Rattle.answer_shared.specs.Told.{AreRecords, AreSignatures, IsRecord, IsSignature, TellsGroups}
+use Rattle.answer_terms.specs.Served.{ServedRrset}
+use Rattle.answer_terms.specs.Told.{AreRecords, AreSignatures, IsRecord, IsValidSignature, TellsGroups}
 use Rattle.answer_judge_facts.specs.Verified.{Trusting, hash_link_at, hash_link_with, is_hash_alone, is_hash_link, is_known, is_verified, one_known, rrset_in, verified_hash_links}
-use Rattle.answer_shared.specs.HashOwner.{hash_spelled, spells_hash}
+use Rattle.answer_terms.specs.HashOwner.{hash_spelled, spells_hash}
 use Rattle.answer_judge.proofs.GivenGroups.{SaysHashLink, has_twins, is_nsec3, said_of}
 use Rattle.answer_judge.proofs.GivenLinks.{OneRecord, one_record, sorted_one}
 use Rattle.answer_judge.proofs.GivenNext.{canonical_nsec3}
 use Rattle.answer_judge.proofs.GivenRecords.{rrset_given}
 use Rattle.answer_judge.proofs.GivenSignatures.{IsSignedBy, verified_given}
-use Rattle.answer_shared.proofs.HashOwners.{label_spells}
+use Rattle.answer_terms.proofs.HashOwners.{label_spells}
 
 -- ---- owners
 
@@ -71,7 +71,7 @@ when_known o = elim o [ None ↦ false | Some n ↦ is_known n ]
 known_one : (d : List ℕ) (n : HashedNext) → nsec3_of d ≡ Some n → is_known n ≡ true → one_known (d ∷ []) ≡ true
 known_one d n reads known = ap when_known reads ∙ known
 
-proves : (w : Trusting) (k : ℕ) (m : List ℕ) (rs : List Spelled) (apex : Name) (at life : ℕ) (keys : List Dnskey) (gs : List Group) (g : Group) (key : Dnskey) (r : Spelled) (l : HashLink) → TellsGroups w.answers.verifies k m rs apex at life keys gs → has_twins gs ≡ false
+proves : (w : Trusting) (k : ℕ) (m : List ℕ) (rs : List Spelled) (apex : Name) (at life : ℕ) (keys : List Dnskey) (gs : List ServedRrset) (g : ServedRrset) (key : Dnskey) (r : Spelled) (l : HashLink) → TellsGroups w.answers.verifies k m rs apex at life keys gs → has_twins gs ≡ false
     → IsSignedBy w apex at life keys gs g key → g.rtype ≡ 50 → (says : SaysHashLink apex g l) → IsRecord k m r g.owner g.rtype says.datum → hash_link_at w k m rs r ≡ Some l
 proves w k m rs apex at life keys gs g key r l are alone by t says is =
     let d : List ℕ = says.datum in
@@ -90,16 +90,16 @@ proves w k m rs apex at life keys gs g key r l are alone by t says is =
 
 -- ---- all records
 
-none_signed : (w : Trusting) (v : Dnskey → List ℕ → List ℕ → Bool) (k : ℕ) (m : List ℕ) (rs xs : List Spelled) (apex : Name) (at life : ℕ) (g : Group) (keys : List Dnskey) → AreSignatures v k m xs apex at life g keys → filter_map (hash_link_at w k m rs) xs ≡ []
+none_signed : (w : Trusting) (v : Dnskey → List ℕ → List ℕ → Bool) (k : ℕ) (m : List ℕ) (rs xs : List Spelled) (apex : Name) (at life : ℕ) (g : ServedRrset) (keys : List Dnskey) → AreSignatures v k m xs apex at life g keys → filter_map (hash_link_at w k m rs) xs ≡ []
 none_signed w v k m rs [] apex at life g [] h = refl
 none_signed w v k m rs [] apex at life g (key ∷ keys) h = absurd h
 none_signed w v k m rs (r ∷ xs) apex at life g [] h = absurd h
 none_signed w v k m rs (r ∷ xs) apex at life g (key ∷ keys) h =
-    let is : IsSignature v k m r apex at life g key = h.0 in
+    let is : IsValidSignature v k m r apex at life g key = h.0 in
     let other : eqb r.rtype 50 ≡ false = ap (λ n. eqb n 50) is.type_is in
     λ i. cons_option (other_type w k m rs r other i) (none_signed w v k m rs xs apex at life g keys h.1 i)
 
-none_other : (w : Trusting) (k : ℕ) (m : List ℕ) (rs xs : List Spelled) (g : Group) (ds : List (List ℕ)) → is_nsec3 g ≡ false → AreRecords k m xs g ds → filter_map (hash_link_at w k m rs) xs ≡ []
+none_other : (w : Trusting) (k : ℕ) (m : List ℕ) (rs xs : List Spelled) (g : ServedRrset) (ds : List (List ℕ)) → is_nsec3 g ≡ false → AreRecords k m xs g ds → filter_map (hash_link_at w k m rs) xs ≡ []
 none_other w k m rs [] g [] e h = refl
 none_other w k m rs [] g (d ∷ ds) e h = absurd h
 none_other w k m rs (r ∷ xs) g [] e h = absurd h
@@ -114,18 +114,18 @@ parts f own signatures rest ls ks first none later =
     filter_map-append f (own ++ signatures) rest
     ∙ (λ i. (filter_map-append f own signatures ∙ (λ j. first j ++ none j) ∙ append-nil ls) i ++ later i)
 
-module _ (w : Trusting) (k : ℕ) (m : List ℕ) (rs : List Spelled) (apex : Name) (at life : ℕ) (keys : List Dnskey) (all : List Group) (key : Dnskey)
+module _ (w : Trusting) (k : ℕ) (m : List ℕ) (rs : List Spelled) (apex : Name) (at life : ℕ) (keys : List Dnskey) (all : List ServedRrset) (key : Dnskey)
     (are : TellsGroups w.answers.verifies k m rs apex at life keys all) (alone : has_twins all ≡ false) where
   abbrev f : Spelled → Option HashLink
   f = hash_link_at w k m rs
 
-  one_linked : (own : List Spelled) (g : Group) (l : HashLink) → IsSignedBy w apex at life keys all g key → g.rtype ≡ 50 → SaysHashLink apex g l → AreRecords k m own g g.datas → filter_map f own ≡ l ∷ []
+  one_linked : (own : List Spelled) (g : ServedRrset) (l : HashLink) → IsSignedBy w apex at life keys all g key → g.rtype ≡ 50 → SaysHashLink apex g l → AreRecords k m own g g.datas → filter_map f own ≡ l ∷ []
   one_linked own g l by t says records =
       let one : OneRecord k m own g says.datum = one_record k m own g says.datum (subst (λ ds. AreRecords k m own g ds) says.data_are records) in
       ap (filter_map f) one.are
       ∙ ap (λ o. cons_option o []) (proves w k m rs apex at life keys all g key one.spelled l are alone by t says one.is)
 
-  linked_in : (xs : List Spelled) (gs : List Group) (ls : List HashLink) → ((g : Group) → Has gs g → g.rtype ≡ 50 → IsSignedBy w apex at life keys all g key) → TellsGroups w.answers.verifies k m xs apex at life keys gs → AllZip (SaysHashLink apex) (filter is_nsec3 gs) ls → filter_map f xs ≡ ls
+  linked_in : (xs : List Spelled) (gs : List ServedRrset) (ls : List HashLink) → ((g : ServedRrset) → Has gs g → g.rtype ≡ 50 → IsSignedBy w apex at life keys all g key) → TellsGroups w.answers.verifies k m xs apex at life keys gs → AllZip (SaysHashLink apex) (filter is_nsec3 gs) ls → filter_map f xs ≡ ls
   linked_in xs [] [] each h z = ap (filter_map f) h
   linked_in xs [] (l ∷ ls) each h z = absurd z
   linked_in xs (g ∷ gs) ls each (own, signatures, rest, split, records, signs, more) z =
@@ -142,6 +142,6 @@ module _ (w : Trusting) (k : ℕ) (m : List ℕ) (rs : List Spelled) (apex : Nam
       go false e ks y later = parts f own signatures rest [] ks (none_other w k m rs own g g.datas e records) none (later ks y)
 
 -- the links of hashes of a message are what its NSEC3 groups say
-pub verified_hash_links_given : (w : Trusting) (k : ℕ) (m : List ℕ) (rs : List Spelled) (apex : Name) (at life : ℕ) (keys : List Dnskey) (gs : List Group) (key : Dnskey) (ls : List HashLink) → TellsGroups w.answers.verifies k m rs apex at life keys gs → has_twins gs ≡ false
-    → ((g : Group) → Has gs g → g.rtype ≡ 50 → IsSignedBy w apex at life keys gs g key) → AllZip (SaysHashLink apex) (filter is_nsec3 gs) ls → verified_hash_links w k m rs ≡ ls
+pub verified_hash_links_given : (w : Trusting) (k : ℕ) (m : List ℕ) (rs : List Spelled) (apex : Name) (at life : ℕ) (keys : List Dnskey) (gs : List ServedRrset) (key : Dnskey) (ls : List HashLink) → TellsGroups w.answers.verifies k m rs apex at life keys gs → has_twins gs ≡ false
+    → ((g : ServedRrset) → Has gs g → g.rtype ≡ 50 → IsSignedBy w apex at life keys gs g key) → AllZip (SaysHashLink apex) (filter is_nsec3 gs) ls → verified_hash_links w k m rs ≡ ls
 verified_hash_links_given w k m rs apex at life keys gs key ls are alone each says = linked_in w k m rs apex at life keys gs key are alone rs gs ls each are says

@@ -19,8 +19,8 @@ use Rattle.denial_laws.proofs.HashChain.{concerns_name, concerns_star}
 use Rattle.denial_laws.proofs.NameFacts.{above_cases, names_same, same_names, shorter_above, strictly_above_at, strictly_at}
 use Rattle.denial_laws.proofs.Nsec3Wildcard.{last_labels_are}
 use Rattle.answer_judge_rules.specs.Hashes.{answered_among, fails_among, hash_among, up_to}
-use Rattle.answer_shared.specs.Accepting.{over_limit}
-use Rattle.answer_shared.specs.Hashing.{HaveHashes, Hasher, hash_in}
+use Rattle.answer_terms.specs.Accepting.{over_limit}
+use Rattle.answer_terms.specs.Hashing.{HaveHashes, Hasher, hash_in}
 use Rattle.answer_judge.specs.Judged.{are_alike, are_mixed, are_over}
 
 -- facts by their parts

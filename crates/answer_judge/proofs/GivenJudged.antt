@@ -9,7 +9,7 @@ use Rattle.definitions.specs.Zone.{Unsigned}
 use Rattle.definitions.specs.ZoneChain.{Mode}
 use Rattle.messages.specs.HandedRr.{HandedRr}
 use Rattle.answer_scheme.specs.Answers.{Answers}
-use Rattle.answer_shared.specs.Asking.{asks_alias}
+use Rattle.answer_terms.specs.Asking.{asks_alias}
 use Rattle.answer_judge_keys.specs.Trusted.{is_usable}
 use Rattle.answer_judge.specs.OwnFacts.{passes_for}
 use Rattle.answer_judge.specs.declared.verdict.Refusal.{Refusal}
@@ -17,10 +17,10 @@ use Rattle.answer_judge.specs.declared.verdict.Refusal.TheVariants as r
 use Rattle.messages.specs.declared.error.MessageError.{MessageError}
 use Rattle.answer_judge.specs.Judged.{judged, judged_answer, judged_messages, keys_of}
 use Rattle.answer_judge.specs.Judging.{Answer, JudgeInput, Refuses, Says, first_refusal, is_judged, may_ask, message_refusal, same_question}
-use Rattle.answer_shared.specs.EqualTags.{has_equal_tags}
+use Rattle.answer_terms.specs.EqualTags.{has_equal_tags}
 use Rattle.answer_judge.specs.Meeting.{HasDs, WasGiven}
 use Rattle.messages.specs.Message.{Asked, Message}
-use Rattle.answer_shared.specs.Served.{by_tag}
+use Rattle.answer_terms.specs.Served.{by_tag}
 use Rattle.answer_judge.proofs.GivenChained.{chained_given, keys_apart, keys_has}
 use Rattle.answer_judge_keys.proofs.GivenKeys.{by_tag-has, find_kept}
 use Rattle.answer_judge.proofs.GivenLists.{has_contained}

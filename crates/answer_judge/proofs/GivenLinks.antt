@@ -9,10 +9,10 @@ use Rattle.definitions.specs.Name.{Name, at_or_above, wire}
 use Rattle.definitions.specs.Dnskey.{Dnskey}
 use Rattle.definitions.specs.Zone.{sorted_data}
 use Rattle.denial_laws.specs.Facts.{Link}
-use Rattle.answer_shared.specs.Told.{TellsGroups, AreRecords, AreSignatures, IsRecord, IsSignature}
+use Rattle.answer_terms.specs.Told.{TellsGroups, AreRecords, AreSignatures, IsRecord, IsValidSignature}
 use Rattle.answer_judge.proofs.GivenGroups.{SameLink, SaysLink, has_twins, is_nsec}
 use Rattle.messages.specs.Message.{Spelled, nsec_at}
-use Rattle.answer_shared.specs.Served.{Group}
+use Rattle.answer_terms.specs.Served.{ServedRrset}
 use Rattle.answer_judge_facts.specs.Verified.{Trusting, is_link, is_verified, link_at, link_of, rrset_in, verified_links}
 use Rattle.answer_judge.proofs.GivenNext.{nsec_given}
 use Rattle.answer_judge.proofs.GivenRecords.{rrset_given}
@@ -41,11 +41,11 @@ abbrev with_owner : Name → Option (Name × List ℕ) → Option Link
 with_owner o n = option_map (λ (x : Name × List ℕ). record { owner = o; next = x.0; bits = x.1 }) n
 
 -- what is known of the NSEC records of the whole message
-pub record IsProof (w : Trusting) (apex : Name) (at life : ℕ) (keys : List Dnskey) (gs : List Group) (g : Group) (key : Dnskey) : Type 0 where
+pub record IsProof (w : Trusting) (apex : Name) (at life : ℕ) (keys : List Dnskey) (gs : List ServedRrset) (g : ServedRrset) (key : Dnskey) : Type 0 where
   pub by : IsSignedBy w apex at life keys gs g key
   pub below : at_or_above apex g.owner ≡ true
 
-proves : (w : Trusting) (k : ℕ) (m : List ℕ) (rs : List Spelled) (apex : Name) (at life : ℕ) (keys : List Dnskey) (gs : List Group) (g : Group) (key : Dnskey) (r : Spelled) (l : Link) (d : List ℕ) → TellsGroups w.answers.verifies k m rs apex at life keys gs → has_twins gs ≡ false
+proves : (w : Trusting) (k : ℕ) (m : List ℕ) (rs : List Spelled) (apex : Name) (at life : ℕ) (keys : List Dnskey) (gs : List ServedRrset) (g : ServedRrset) (key : Dnskey) (r : Spelled) (l : Link) (d : List ℕ) → TellsGroups w.answers.verifies k m rs apex at life keys gs → has_twins gs ≡ false
     → IsProof w apex at life keys gs g key → g.rtype ≡ 47 → SaysLink g l → g.datas ≡ d ∷ [] → IsRecord k m r g.owner g.rtype d → Proves w k m rs r l
 proves w k m rs apex at life keys gs g key r l d are alone p t says one is =
     let type_is : r.rtype ≡ 47 = is.type_is ∙ t in
@@ -66,16 +66,16 @@ proves w k m rs apex at life keys gs g key r l d are alone p t says one is =
 
 -- ---- all records
 
-none_signed : (w : Trusting) (v : Dnskey → List ℕ → List ℕ → Bool) (k : ℕ) (m : List ℕ) (rs xs : List Spelled) (apex : Name) (at life : ℕ) (g : Group) (keys : List Dnskey) → AreSignatures v k m xs apex at life g keys → filter_map (link_at w k m rs) xs ≡ []
+none_signed : (w : Trusting) (v : Dnskey → List ℕ → List ℕ → Bool) (k : ℕ) (m : List ℕ) (rs xs : List Spelled) (apex : Name) (at life : ℕ) (g : ServedRrset) (keys : List Dnskey) → AreSignatures v k m xs apex at life g keys → filter_map (link_at w k m rs) xs ≡ []
 none_signed w v k m rs [] apex at life g [] h = refl
 none_signed w v k m rs [] apex at life g (key ∷ keys) h = absurd h
 none_signed w v k m rs (r ∷ xs) apex at life g [] h = absurd h
 none_signed w v k m rs (r ∷ xs) apex at life g (key ∷ keys) h =
-    let is : IsSignature v k m r apex at life g key = h.0 in
+    let is : IsValidSignature v k m r apex at life g key = h.0 in
     let other : eqb r.rtype 47 ≡ false = ap (λ n. eqb n 47) is.type_is in
     λ i. cons_option (other_type w k m rs r other i) (none_signed w v k m rs xs apex at life g keys h.1 i)
 
-none_other : (w : Trusting) (k : ℕ) (m : List ℕ) (rs xs : List Spelled) (g : Group) (ds : List (List ℕ)) → is_nsec g ≡ false → AreRecords k m xs g ds → filter_map (link_at w k m rs) xs ≡ []
+none_other : (w : Trusting) (k : ℕ) (m : List ℕ) (rs xs : List Spelled) (g : ServedRrset) (ds : List (List ℕ)) → is_nsec g ≡ false → AreRecords k m xs g ds → filter_map (link_at w k m rs) xs ≡ []
 none_other w k m rs [] g [] e h = refl
 none_other w k m rs [] g (d ∷ ds) e h = absurd h
 none_other w k m rs (r ∷ xs) g [] e h = absurd h
@@ -85,12 +85,12 @@ none_other w k m rs (r ∷ xs) g (d ∷ ds) e h =
     λ i. cons_option (other_type w k m rs r other i) (none_other w k m rs xs g ds e h.1 i)
 
 -- a group with one datum has one record
-pub record OneRecord (k : ℕ) (m : List ℕ) (xs : List Spelled) (g : Group) (d : List ℕ) : Type 0 where
+pub record OneRecord (k : ℕ) (m : List ℕ) (xs : List Spelled) (g : ServedRrset) (d : List ℕ) : Type 0 where
   pub spelled : Spelled
   pub are : xs ≡ spelled ∷ []
   pub is : IsRecord k m spelled g.owner g.rtype d
 
-pub one_record : (k : ℕ) (m : List ℕ) (xs : List Spelled) (g : Group) (d : List ℕ) → AreRecords k m xs g (d ∷ []) → OneRecord k m xs g d
+pub one_record : (k : ℕ) (m : List ℕ) (xs : List Spelled) (g : ServedRrset) (d : List ℕ) → AreRecords k m xs g (d ∷ []) → OneRecord k m xs g d
 one_record k m [] g d h = absurd h
 one_record k m (r ∷ []) g d h = record { spelled = r; are = refl; is = h.0 }
 one_record k m (r ∷ s ∷ xs) g d h = absurd h.1
@@ -114,9 +114,9 @@ linked_same w k m rs own signatures rest ls first none h =
     filter_map-append f (own ++ signatures) rest ∙ ap (λ ys. ys ++ filter_map f rest) (filter_map-append f own signatures ∙ (λ i. first i ++ none i)) in
     subst (λ ys. AllZip SameLink ys ls) (sym whole) h
 
-module _ (w : Trusting) (k : ℕ) (m : List ℕ) (rs : List Spelled) (apex : Name) (at life : ℕ) (keys : List Dnskey) (all : List Group) (key : Dnskey)
+module _ (w : Trusting) (k : ℕ) (m : List ℕ) (rs : List Spelled) (apex : Name) (at life : ℕ) (keys : List Dnskey) (all : List ServedRrset) (key : Dnskey)
     (are : TellsGroups w.answers.verifies k m rs apex at life keys all) (alone : has_twins all ≡ false) where
-  linked_in : (xs : List Spelled) (gs : List Group) (ls : List Link) → ((g : Group) → Has gs g → g.rtype ≡ 47 → IsProof w apex at life keys all g key) → TellsGroups w.answers.verifies k m xs apex at life keys gs → AllZip SaysLink (filter is_nsec gs) ls → Linked w k m rs xs ls
+  linked_in : (xs : List Spelled) (gs : List ServedRrset) (ls : List Link) → ((g : ServedRrset) → Has gs g → g.rtype ≡ 47 → IsProof w apex at life keys all g key) → TellsGroups w.answers.verifies k m xs apex at life keys gs → AllZip SaysLink (filter is_nsec gs) ls → Linked w k m rs xs ls
   linked_in xs [] [] each h z = subst (λ ys. Linked w k m rs ys []) (sym h) tt
   linked_in xs [] (l ∷ ls) each h z = absurd z
   linked_in xs (g ∷ gs) ls each (own, signatures, rest, parts, records, signs, more) z =
@@ -136,6 +136,6 @@ module _ (w : Trusting) (k : ℕ) (m : List ℕ) (rs : List Spelled) (apex : Nam
       go false e ks y later = linked_same w k m rs own signatures rest ks (none_other w k m rs own g g.datas e records) none (later ks y)
 
 -- the links of a message are what its NSEC groups say
-pub verified_links_given : (w : Trusting) (k : ℕ) (m : List ℕ) (rs : List Spelled) (apex : Name) (at life : ℕ) (keys : List Dnskey) (gs : List Group) (key : Dnskey) (ls : List Link) → TellsGroups w.answers.verifies k m rs apex at life keys gs → has_twins gs ≡ false
-    → ((g : Group) → Has gs g → g.rtype ≡ 47 → IsProof w apex at life keys gs g key) → AllZip SaysLink (filter is_nsec gs) ls → AllZip SameLink (verified_links w k m rs) ls
+pub verified_links_given : (w : Trusting) (k : ℕ) (m : List ℕ) (rs : List Spelled) (apex : Name) (at life : ℕ) (keys : List Dnskey) (gs : List ServedRrset) (key : Dnskey) (ls : List Link) → TellsGroups w.answers.verifies k m rs apex at life keys gs → has_twins gs ≡ false
+    → ((g : ServedRrset) → Has gs g → g.rtype ≡ 47 → IsProof w apex at life keys gs g key) → AllZip SaysLink (filter is_nsec gs) ls → AllZip SameLink (verified_links w k m rs) ls
 verified_links_given w k m rs apex at life keys gs key ls are alone each says = linked_in w k m rs apex at life keys gs key are alone rs gs ls each are says

@@ -11,10 +11,10 @@ use Rattle.definitions.specs.ZoneChain.{Mode}
 use Rattle.messages.specs.HandedRr.{HandedRr}
 use Rattle.messages.specs.Message.{Asked, Spelled}
 use Rattle.messages.proofs.Lists.{Has, all_more, some_is}
-use Rattle.answer_shared.specs.Accepting.{sorted_records, zone_of}
-use Rattle.answer_shared.specs.Hashing.{hash_in}
-use Rattle.answer_shared.specs.Served.{Group, answer_groups, served_of}
-use Rattle.answer_shared.specs.Told.{TellsGroups, fields_for}
+use Rattle.answer_terms.specs.Accepting.{sorted_records, zone_of}
+use Rattle.answer_terms.specs.Hashing.{hash_in}
+use Rattle.answer_terms.specs.Served.{ServedRrset, answer_groups, served_of}
+use Rattle.answer_terms.specs.Told.{TellsGroups, fields_for}
 use Rattle.answer_judge.specs.OwnFacts.{TellsZone}
 use Rattle.answer_judge_facts.specs.Sought.{answer_sought}
 use Rattle.answer_judge_facts.specs.Times.{Times, are_unlike, proof_times, times_at, times_of}
@@ -30,10 +30,10 @@ use Rattle.answer_judge.proofs.Spliced.{signature_of}
 abbrev moment_of : ℕ → ℕ → Times
 moment_of at life = record { inception = at % 4294967296; expiration = (at + life) % 4294967296 }
 
-no_signatures : (g : Group) → is_ordinary g → g.rtype ≡ 46 → ⊥
+no_signatures : (g : ServedRrset) → is_ordinary g → g.rtype ≡ 46 → ⊥
 no_signatures g n e = false≢true (sym n ∙ eq-eqb g.rtype 46 e)
 
-module _ (w : Trusting) (k : ℕ) (m : List ℕ) (rs : List Spelled) (apex : Name) (at life : ℕ) (keys : List Dnskey) (gs : List Group) (ordinary : AllByRecursion is_ordinary gs) (tells : TellsGroups w.answers.verifies k m rs apex at life keys gs) (q : Name) (t : ℕ) where
+module _ (w : Trusting) (k : ℕ) (m : List ℕ) (rs : List Spelled) (apex : Name) (at life : ℕ) (keys : List Dnskey) (gs : List ServedRrset) (ordinary : AllByRecursion is_ordinary gs) (tells : TellsGroups w.answers.verifies k m rs apex at life keys gs) (q : Name) (t : ℕ) where
   of_moment : (x : Times) → Has (proof_times w k m rs q t) x → x ≡ moment_of at life
   of_moment x h =
       let r = kept_from (times_at w k m rs q t) rs x h in
@@ -43,7 +43,7 @@ module _ (w : Trusting) (k : ℕ) (m : List ℕ) (rs : List Spelled) (apex : Nam
       let f = mapped times_of (verified_by w k m rs o u (rrset_in k m rs o u)) x there.1 in
       let first = first_verifying w k m rs o u (rrset_in k m rs o u) f.0 f.1 in
       let by = first.0.by in
-      let s = signature_of w.answers.verifies k m rs apex at life keys gs first.0.spelled (all_more is_ordinary (λ (g : Group). g.rtype ≡ 46 → ⊥) gs no_signatures ordinary) tells first.0.there by.type_is in
+      let s = signature_of w.answers.verifies k m rs apex at life keys gs first.0.spelled (all_more is_ordinary (λ (g : ServedRrset). g.rtype ≡ 46 → ⊥) gs no_signatures ordinary) tells first.0.there by.type_is in
       let one = some_is (by.fields, by.signature) (fields_for apex at life s.group s.key, s.is.signature) (sym by.reads ∙ s.is.fields_are) in
       sym f.2 ∙ ap times_of (sym first.1) ∙ ap (λ (y : Fields × List ℕ). times_of y.0) one
 

@@ -9,10 +9,10 @@ use Rattle.std.proofs.lemmas.List.Elements.{filter_map-append}
 use Rattle.definitions.specs.Name.{Name, labels_eq, low, same}
 use Rattle.definitions.specs.Dnskey.{Dnskey}
 use Rattle.definitions.specs.Zone.{sorted_data}
-use Rattle.answer_shared.specs.Told.{TellsGroups, AreRecords, AreSignatures, IsRecord, IsSignature}
+use Rattle.answer_terms.specs.Told.{TellsGroups, AreRecords, AreSignatures, IsRecord, IsValidSignature}
 use Rattle.answer_judge.proofs.GivenGroups.{has_twins, is_rrset}
 use Rattle.messages.specs.Message.{Spelled, canonical_data}
-use Rattle.answer_shared.specs.Served.{Group}
+use Rattle.answer_terms.specs.Served.{ServedRrset}
 use Rattle.answer_judge_facts.specs.Verified.{datum_of, rrset_in}
 use Rattle.messages.proofs.Lists.{Has, any_from}
 
@@ -41,7 +41,7 @@ taken_none : (b : Bool) → taken b [] ≡ []
 taken_none true = refl
 taken_none false = refl
 
-records_there : (k : ℕ) (m : List ℕ) (o : Name) (t : ℕ) (g : Group) (rs : List Spelled) (ds : List (List ℕ)) → AreRecords k m rs g ds → filter_map (datum_of k m o t) rs ≡ taken (is_rrset o t g) ds
+records_there : (k : ℕ) (m : List ℕ) (o : Name) (t : ℕ) (g : ServedRrset) (rs : List Spelled) (ds : List (List ℕ)) → AreRecords k m rs g ds → filter_map (datum_of k m o t) rs ≡ taken (is_rrset o t g) ds
 records_there k m o t g [] [] h = sym (taken_none (is_rrset o t g))
 records_there k m o t g [] (d ∷ ds) h = absurd h
 records_there k m o t g (r ∷ rs) [] h = absurd h
@@ -50,12 +50,12 @@ records_there k m o t g (r ∷ rs) (d ∷ ds) h =
     ∙ taken_more (is_rrset o t g) d ds
 
 -- a signature is no datum of another type
-no_datum : (v : Dnskey → List ℕ → List ℕ → Bool) (k : ℕ) (m : List ℕ) (r : Spelled) (apex : Name) (at life : ℕ) (g : Group) (key : Dnskey) (o : Name) (t : ℕ) → eqb 46 t ≡ false → IsSignature v k m r apex at life g key → datum_of k m o t r ≡ None
+no_datum : (v : Dnskey → List ℕ → List ℕ → Bool) (k : ℕ) (m : List ℕ) (r : Spelled) (apex : Name) (at life : ℕ) (g : ServedRrset) (key : Dnskey) (o : Name) (t : ℕ) → eqb 46 t ≡ false → IsValidSignature v k m r apex at life g key → datum_of k m o t r ≡ None
 no_datum v k m r apex at life g key o t other is =
     let unlike : eqb r.rtype t ≡ false = ap (λ n. eqb n t) is.type_is ∙ other in
     ap (λ b. elim b as (λ _. Option (List ℕ)) [ true ↦ canonical_data k m r | false ↦ None ]) (and_left (eqb r.class 1 && eqb r.rtype t) (same r.owner o) (and_right (eqb r.class 1) (eqb r.rtype t) unlike))
 
-no_data : (v : Dnskey → List ℕ → List ℕ → Bool) (k : ℕ) (m : List ℕ) (rs : List Spelled) (apex : Name) (at life : ℕ) (g : Group) (keys : List Dnskey) (o : Name) (t : ℕ) → eqb 46 t ≡ false → AreSignatures v k m rs apex at life g keys → filter_map (datum_of k m o t) rs ≡ []
+no_data : (v : Dnskey → List ℕ → List ℕ → Bool) (k : ℕ) (m : List ℕ) (rs : List Spelled) (apex : Name) (at life : ℕ) (g : ServedRrset) (keys : List Dnskey) (o : Name) (t : ℕ) → eqb 46 t ≡ false → AreSignatures v k m rs apex at life g keys → filter_map (datum_of k m o t) rs ≡ []
 no_data v k m [] apex at life g [] o t other h = refl
 no_data v k m [] apex at life g (key ∷ keys) o t other h = absurd h
 no_data v k m (r ∷ rs) apex at life g [] o t other h = absurd h
@@ -64,7 +64,7 @@ no_data v k m (r ∷ rs) apex at life g (key ∷ keys) o t other h =
 
 -- ---- all of them
 
-data_in : (v : Dnskey → List ℕ → List ℕ → Bool) (k : ℕ) (m : List ℕ) (rs : List Spelled) (apex : Name) (at life : ℕ) (keys : List Dnskey) (gs : List Group) (o : Name) (t : ℕ) → eqb 46 t ≡ false → TellsGroups v k m rs apex at life keys gs
+data_in : (v : Dnskey → List ℕ → List ℕ → Bool) (k : ℕ) (m : List ℕ) (rs : List Spelled) (apex : Name) (at life : ℕ) (keys : List Dnskey) (gs : List ServedRrset) (o : Name) (t : ℕ) → eqb 46 t ≡ false → TellsGroups v k m rs apex at life keys gs
     → filter_map (datum_of k m o t) rs ≡ flat_map (λ g. taken (is_rrset o t g) g.datas) gs
 data_in v k m rs apex at life keys [] o t other h = ap (filter_map (datum_of k m o t)) h
 data_in v k m rs apex at life keys (g ∷ gs) o t other (own, signatures, rest, are, records, signs, more) =
@@ -76,28 +76,28 @@ data_in v k m rs apex at life keys (g ∷ gs) o t other (own, signatures, rest, 
     ap (filter_map f) are ∙ filter_map-append f (own ++ signatures) rest
     ∙ (λ i. first i ++ data_in v k m rest apex at life keys gs o t other more i)
 
-none_taken : (o : Name) (t : ℕ) (gs : List Group) → list_any (is_rrset o t) gs ≡ false → flat_map (λ g. taken (is_rrset o t g) g.datas) gs ≡ []
+none_taken : (o : Name) (t : ℕ) (gs : List ServedRrset) → list_any (is_rrset o t) gs ≡ false → flat_map (λ g. taken (is_rrset o t g) g.datas) gs ≡ []
 none_taken o t [] e = refl
 none_taken o t (g ∷ gs) e =
     let h = or_parts (is_rrset o t g) (list_any (is_rrset o t) gs) e in
     λ i. taken (h.0 i) g.datas ++ none_taken o t gs h.1 i
 
 -- an RRset's owner and type in place of another's
-rrset_as : (o p : Name) (t s : ℕ) (gs : List Group) → low o ≡ low p → t ≡ s → list_any (is_rrset o t) gs ≡ list_any (is_rrset p s) gs
+rrset_as : (o p : Name) (t s : ℕ) (gs : List ServedRrset) → low o ≡ low p → t ≡ s → list_any (is_rrset o t) gs ≡ list_any (is_rrset p s) gs
 rrset_as o p t s gs e f = λ i. list_any (λ g. eqb g.rtype (f i) && labels_eq (low g.owner) (e i)) gs
 
-pub rrset_here : (o : Name) (t : ℕ) (g : Group) → g.rtype ≡ t → low g.owner ≡ low o → is_rrset o t g ≡ true
+pub rrset_here : (o : Name) (t : ℕ) (g : ServedRrset) → g.rtype ≡ t → low g.owner ≡ low o → is_rrset o t g ≡ true
 rrset_here o t g f e = and_from (eqb g.rtype t) (same g.owner o) (eq-eqb g.rtype t f) (labels_eq-same (low g.owner) (low o) e)
 
-one_taken : (o : Name) (t : ℕ) (gs : List Group) (g : Group) → has_twins gs ≡ false → Has gs g → g.rtype ≡ t → low g.owner ≡ low o → flat_map (λ g. taken (is_rrset o t g) g.datas) gs ≡ g.datas
+one_taken : (o : Name) (t : ℕ) (gs : List ServedRrset) (g : ServedRrset) → has_twins gs ≡ false → Has gs g → g.rtype ≡ t → low g.owner ≡ low o → flat_map (λ g. taken (is_rrset o t g) g.datas) gs ≡ g.datas
 one_taken o t [] g alone h f e = absurd h
 one_taken o t (x ∷ gs) g alone h f e =
     let apart = or_parts (list_any (is_rrset x.owner x.rtype) gs) (has_twins gs) alone in
     ⊎_elim
     (λ (q : g ≡ x).
     let here : is_rrset o t x ≡ true = ap (is_rrset o t) (sym q) ∙ rrset_here o t g f e in
-    let others : list_any (is_rrset o t) gs ≡ false = rrset_as o x.owner t x.rtype gs (sym e ∙ ap (λ (y : Group). low y.owner) q) (sym f ∙ ap (λ (y : Group). y.rtype) q) ∙ apart.0 in
-    (λ i. taken (here i) x.datas ++ none_taken o t gs others i) ∙ append-nil x.datas ∙ ap (λ (y : Group). y.datas) (sym q))
+    let others : list_any (is_rrset o t) gs ≡ false = rrset_as o x.owner t x.rtype gs (sym e ∙ ap (λ (y : ServedRrset). low y.owner) q) (sym f ∙ ap (λ (y : ServedRrset). y.rtype) q) ∙ apart.0 in
+    (λ i. taken (here i) x.datas ++ none_taken o t gs others i) ∙ append-nil x.datas ∙ ap (λ (y : ServedRrset). y.datas) (sym q))
     (λ (later : Has gs g).
     ⊎_elim
     (λ (same_one : is_rrset o t x ≡ true).
@@ -110,7 +110,7 @@ one_taken o t (x ∷ gs) g alone h f e =
     h
 
 -- the RRset of a message
-pub rrset_given : (v : Dnskey → List ℕ → List ℕ → Bool) (k : ℕ) (m : List ℕ) (rs : List Spelled) (apex : Name) (at life : ℕ) (keys : List Dnskey) (gs : List Group) (o : Name) (t : ℕ) (g : Group) → eqb 46 t ≡ false → TellsGroups v k m rs apex at life keys gs
+pub rrset_given : (v : Dnskey → List ℕ → List ℕ → Bool) (k : ℕ) (m : List ℕ) (rs : List Spelled) (apex : Name) (at life : ℕ) (keys : List Dnskey) (gs : List ServedRrset) (o : Name) (t : ℕ) (g : ServedRrset) → eqb 46 t ≡ false → TellsGroups v k m rs apex at life keys gs
     → has_twins gs ≡ false → Has gs g → g.rtype ≡ t → low g.owner ≡ low o → rrset_in k m rs o t ≡ sorted_data g.datas
 rrset_given v k m rs apex at life keys gs o t g other are alone h f e =
     ap sorted_data (data_in v k m rs apex at life keys gs o t other are ∙ one_taken o t gs g alone h f e)

@@ -18,9 +18,9 @@ use Rattle.messages.specs.HandedRr.{HandedRr}
 use Rattle.messages.specs.Message.{AreOctets, Spelled, data_of, nsec3_of}
 use Rattle.messages.proofs.Lists.{some_is}
 use Rattle.messages.proofs.ReadNames.{labelled}
-use Rattle.answer_shared.specs.Accepting.{sorted_records}
-use Rattle.answer_shared.proofs.ZoneNaming.{chain_named, lower_name, next_name}
-use Rattle.answer_shared.specs.HashOwner.{hash_spelled}
+use Rattle.answer_terms.specs.Accepting.{sorted_records}
+use Rattle.answer_terms.proofs.ZoneNaming.{chain_named, lower_name, next_name}
+use Rattle.answer_terms.specs.HashOwner.{hash_spelled}
 use Rattle.answer_judge.specs.Versions.{IsNsecOf, IsNsec3Of, Version, zone_in}
 use Rattle.answer_judge.proofs.GivenGroups.{SaysHashLink, said_of}
 use Rattle.answer_judge.proofs.GivenHashes.{owner_spells}

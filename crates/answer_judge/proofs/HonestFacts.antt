@@ -19,8 +19,8 @@ use Rattle.messages.specs.Handed.{IsHanded}
 use Rattle.messages.specs.Message.{HashedNext, Message, Spelled, canonical_data, data_of, message, nsec3_at, nsec3_of, nsec_at}
 use Rattle.messages.proofs.Lists.{Has}
 use Rattle.messages.proofs.ZoneNames.{labels_eq-same}
-use Rattle.answer_shared.specs.Accepting.{sorted_records}
-use Rattle.answer_shared.specs.Hashing.{hash_in}
+use Rattle.answer_terms.specs.Accepting.{sorted_records}
+use Rattle.answer_terms.specs.Hashing.{hash_in}
 use Rattle.answer_scheme.specs.Answers.{Answers}
 use Rattle.answer_judge.specs.Honest.{IsHonest, Signing, WasSigned, sought_of_answer}
 use Rattle.answer_judge.specs.Versions.{IsOfChain, IsRrsetOf, OfZone, OfChain, OfParameters, SignedRrset, Version, zone_in}

@@ -12,10 +12,10 @@ use Rattle.denial_laws.proofs.Sound.{true_facts_decide_truly}
 use Rattle.messages.specs.Handed.{IsHanded}
 use Rattle.messages.proofs.Lists.{Has, all_at, all_sorted}
 use Rattle.answer_scheme.specs.Answers.{Answers}
-use Rattle.answer_shared.specs.Accepting.{record_cmp}
-use Rattle.answer_shared.specs.Chainable.{HasChain}
-use Rattle.answer_shared.specs.Hashing.{Hasher, hash_in}
-use Rattle.answer_judge.specs.Honest.{AnswersHonest, AreHonest, FewIterations, HasOneRrset, IsSaidByOne, IsVersion, OneAtATime, SaysOneOf, Settled, Signing}
+use Rattle.answer_terms.specs.Accepting.{record_cmp}
+use Rattle.answer_terms.specs.Chainable.{HasChain}
+use Rattle.answer_terms.specs.Hashing.{Hasher, hash_in}
+use Rattle.answer_judge.specs.Honest.{AnswersHonest, IsHonestInput, FewIterations, HasOneRrset, IsSaidByOne, IsVersion, OneAtATime, SaysOneOf, Settled, Signing}
 use Rattle.answer_judge.specs.Versions.{Version, zone_in}
 use Rattle.answer_judge_keys.specs.Trusted.{is_usable}
 use Rattle.answer_judge.specs.Judged.{AnswersAs, judged, keys_of}
@@ -64,7 +64,7 @@ fits_records : (hash : Hasher) (z : Zone) (mode : Mode) → FewIterations mode �
 fits_records hash z Nsec few chain = tt
 fits_records hash z (Nsec3 iterations salt optout) few chain = (few, chain.octets)
 
-module _ (a : Answers) (k : ℕ) (h : JudgeInput) (versions : List Version) (x : AreHonest a k h versions) where
+module _ (a : Answers) (k : ℕ) (h : JudgeInput) (versions : List Version) (x : IsHonestInput a k h versions) where
   version_is : (v : Version) → Has versions v → IsVersion a h v
   version_is v i = all_at (IsVersion a h) versions v x.versions_are i
 

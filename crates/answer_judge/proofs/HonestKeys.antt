@@ -14,8 +14,8 @@ use Rattle.denial_laws.specs.Truth.{is_added_type}
 use Rattle.messages.specs.Message.{AreOctets, Message, Spelled, data_of, message}
 use Rattle.messages.proofs.ZoneNames.{labels_eq-same}
 use Rattle.messages.proofs.Lists.{Has, all_at, all_more, all_sorted, some_is}
-use Rattle.answer_shared.specs.Hashing.{hash_in}
-use Rattle.answer_shared.proofs.KeyData.{key_read_back}
+use Rattle.answer_terms.specs.Hashing.{hash_in}
+use Rattle.answer_terms.proofs.KeyData.{key_read_back}
 use Rattle.answer_scheme.specs.Answers.{Answers}
 use Rattle.answer_judge.specs.Honest.{IsHonest, NoStranger, Signing, WasSigned, sought_of_keys}
 use Rattle.answer_judge.specs.Versions.{IsOfChain, IsRrsetOf, OfZone, OfChain, OfParameters, SignedRrset, Version, zone_in}

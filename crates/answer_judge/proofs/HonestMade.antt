@@ -20,16 +20,16 @@ use Rattle.denial_laws.proofs.ZoneCuts.{ce_lowered, IsCut, cut_is, cut_live, del
 use Rattle.messages.specs.Handed.{IsHanded}
 use Rattle.messages.specs.HandedRr.{HandedRr}
 use Rattle.messages.proofs.Lists.{Has, all_at}
-use Rattle.answer_shared.specs.Accepting.{rr_of, sorted_records, zone_of, zone_with}
-use Rattle.answer_shared.specs.Chainable.{HasChain}
-use Rattle.answer_shared.specs.Hashing.{Hasher, hash_in}
-use Rattle.answer_shared.specs.Made.{Content, OfKeys, OfZone, IsOf, groups_of}
-use Rattle.answer_shared.specs.Served.{Group, Served, ahead, ahead_open, chain_names, chain_record, expanded, if_any, key_group, keys_ttl, owner_among, proofs_of, rrset, served_of, served_owner, soa, speaks_for, spoken, under, unsigned_ns}
-use Rattle.answer_shared.proofs.HashedLinks.{apex_spelled}
-use Rattle.answer_shared.proofs.Servable.{asked_inside}
-use Rattle.answer_shared.proofs.ZoneCutNames.{cut_name}
-use Rattle.answer_shared.proofs.ZoneData.{label_count-low, low-owner_among}
-use Rattle.answer_shared.proofs.ZoneNaming.{chain_named, first_name, lower_name, owner_name}
+use Rattle.answer_terms.specs.Accepting.{rr_of, sorted_records, zone_of, zone_with}
+use Rattle.answer_terms.specs.Chainable.{HasChain}
+use Rattle.answer_terms.specs.Hashing.{Hasher, hash_in}
+use Rattle.answer_terms.specs.Made.{Content, OfKeys, OfZone, IsOf, groups_of}
+use Rattle.answer_terms.specs.Served.{ServedRrset, Served, ahead, ahead_open, chain_names, chain_record, expanded, if_any, key_group, keys_ttl, owner_among, proofs_of, rrset, served_of, served_owner, soa, speaks_for, spoken, under, unsigned_ns}
+use Rattle.answer_terms.proofs.HashedLinks.{apex_spelled}
+use Rattle.answer_terms.proofs.Servable.{asked_inside}
+use Rattle.answer_terms.proofs.ZoneCutNames.{cut_name}
+use Rattle.answer_terms.proofs.ZoneData.{label_count-low, low-owner_among}
+use Rattle.answer_terms.proofs.ZoneNaming.{chain_named, first_name, lower_name, owner_name}
 use Rattle.answer_judge.proofs.GivenFacts.{from_joined}
 use Rattle.answer_judge.proofs.GivenLists.{contained_has}
 use Rattle.answer_judge_keys.proofs.GivenSorted.{filter_from, in_has, sorted_from}
@@ -46,13 +46,13 @@ signed_only false xs x h = absurd h
 -- ---- kinds of RRsets
 
 -- one that the zone has signed, under the owner that its label count is of
-pub record IsZoneGroup (z : Zone) (g : Group) : Type 0 where
+pub record IsZoneGroup (z : Zone) (g : ServedRrset) : Type 0 where
   pub named : IsName g.owner
   pub signed : is_signed z (signed_owner (label_count g.source) g.owner) g.rtype ≡ true
   pub datas : g.datas ≡ data_at z (signed_owner (label_count g.source) g.owner) g.rtype
   pub source_is : signed_owner (label_count g.source) g.owner ≡ low g.source
 
-pub data Kind (s : Served) (apex : Name) (published : List Dnskey) (g : Group) : Type 0 where
+pub data Kind (s : Served) (apex : Name) (published : List Dnskey) (g : ServedRrset) : Type 0 where
   KeyKind : (present : List Dnskey) → AllByRecursion (Contains published) present → g ≡ key_group apex (keys_ttl s) present → Kind s apex published g
   ZoneKind : IsZoneGroup s.zone g → Kind s apex published g
   ChainKind : (o : Name) → Has (chain_names s) o → g ≡ chain_record s o → Kind s apex published g
@@ -65,7 +65,7 @@ module _ (apex : Name) (mode : Mode) (hash : Name → List ℕ) (rs : List Hande
   s = served_of apex mode hash rs
 
   -- one that is signed is one of the zone's
-  abbrev Part : Group → Type 0
+  abbrev Part : ServedRrset → Type 0
   Part g = g.signed ≡ true → IsZoneGroup z g
 
   -- an RRset of the zone as its records spell it
@@ -120,7 +120,7 @@ module _ (apex : Name) (mode : Mode) (hash : Name → List ℕ) (rs : List Hande
         let owner : signed_owner (length e) q ≡ star_under e = own_star_owner z q e t x c h in
         let lower : low (star_under e) ≡ star_under e = ap star_under (ce_lowered z (low q) e (low-low q) c) in
         let part : Part (under q (rrset s (star_under e) t)) = λ _. record { named = name; signed = r.signed; datas = r.datas; source_is = owner ∙ sym lower } in
-        subst (λ (o : Option Name). AllByRecursion Part (elim o as (λ _. List Group) [ None ↦ [] | Some n ↦ expanded s (star_under n) q t ])) (sym c) (part, tt)
+        subst (λ (o : Option Name). AllByRecursion Part (elim o as (λ _. List ServedRrset) [ None ↦ [] | Some n ↦ expanded s (star_under n) q t ])) (sym c) (part, tt)
 
     -- NS of a delegation is not signed
     unsigned_part : (c : Name) → AllByRecursion Part (unsigned_ns s c)
@@ -142,7 +142,7 @@ module _ (apex : Name) (mode : Mode) (hash : Name → List ℕ) (rs : List Hande
 
     cut_parts : (c : Name) → cut z (low q) ≡ Some c → Parts Delegated
     cut_parts c e =
-        subst (λ (o : Option Name). AllByRecursion Part (elim o as (λ _. List Group) [ None ↦ [] | Some d ↦ unsigned_ns s d ++ if_any s d 43 ])) (sym e)
+        subst (λ (o : Option Name). AllByRecursion Part (elim o as (λ _. List ServedRrset) [ None ↦ [] | Some d ↦ unsigned_ns s d ++ if_any s d 43 ])) (sym e)
         ((unsigned_part c).0, ds_part c e)
 
     told_parts : View z q t → Parts (verdict z false q t)
@@ -158,7 +158,7 @@ module _ (apex : Name) (mode : Mode) (hash : Name → List ℕ) (rs : List Hande
     abbrev OpenParts : Verdict → Type 0
     OpenParts v = AllByRecursion Part (ahead_open s q t v)
 
-    by_cut : (o : Option Name) → AllByRecursion Part (elim o as (λ _. List Group) [ None ↦ soa s ∷ [] | Some c ↦ if labels_eq c (low q) && (t == 43) then soa s ∷ [] else unsigned_ns s c ])
+    by_cut : (o : Option Name) → AllByRecursion Part (elim o as (λ _. List ServedRrset) [ None ↦ soa s ∷ [] | Some c ↦ if labels_eq c (low q) && (t == 43) then soa s ∷ [] else unsigned_ns s c ])
     by_cut None = (soa_part, tt)
     by_cut (Some c) = go (labels_eq c (low q) && (t == 43))
       where
@@ -183,12 +183,12 @@ module _ (apex : Name) (mode : Mode) (hash : Name → List ℕ) (rs : List Hande
 
   -- ---- whichever message it is of
 
-  chain_part : (published : List Dnskey) (qs : List Name) (g : Group) → Has (proofs_of s qs) g → Kind s apex published g
+  chain_part : (published : List Dnskey) (qs : List Name) (g : ServedRrset) → Has (proofs_of s qs) g → Kind s apex published g
   chain_part published qs g h =
       let o = has_from_map (chain_record s) (filter (λ o. list_any (speaks_for s o) qs) (chain_names s)) g h in
       ChainKind o.0 (filter_from (λ o. list_any (speaks_for s o) qs) (chain_names s) o.0 o.1) o.2
 
-  pub kind_of : (published : List Dnskey) (c : Content) (g : Group) → IsOf apex published c → Has (groups_of s apex c) g → g.signed ≡ true → Kind s apex published g
+  pub kind_of : (published : List Dnskey) (c : Content) (g : ServedRrset) → IsOf apex published c → Has (groups_of s apex c) g → g.signed ≡ true → Kind s apex published g
   kind_of published (OfKeys present) g of h signed = elim h [
     | inl e ↦ KeyKind present of e
     | inr i ↦ absurd i
@@ -206,7 +206,7 @@ module _ (apex : Name) (mode : Mode) (hash : Name → List ℕ) (rs : List Hande
 -- ---- what is said of an RRset's octets
 
 -- RRSIG fields have room for its type, a name owns it, and it has a record
-pub record IsRoomy (g : Group) : Type 0 where
+pub record IsRoomy (g : ServedRrset) : Type 0 where
   pub small : g.rtype < 65536
   pub named : IsName g.owner
   pub some : 0 < length g.datas
@@ -221,7 +221,7 @@ type_small (r ∷ rs) h x i = elim i [
 pub signed_has : (z : Zone) (o : Name) (t : ℕ) → is_signed z o t ≡ true → has z o t ≡ true
 signed_has z o t h = (and_parts (is_live z o && (not (is_delegation z o) || (t == 43))) (has z o t) h).1
 
-zone_roomy : (apex : Name) (rs : List HandedRr) → AllByRecursion IsHanded rs → (g : Group) → IsZoneGroup (zone_with apex rs) g → IsRoomy g
+zone_roomy : (apex : Name) (rs : List HandedRr) → AllByRecursion IsHanded rs → (g : ServedRrset) → IsZoneGroup (zone_with apex rs) g → IsRoomy g
 zone_roomy apex rs handed g is =
     let z : Zone = zone_with apex rs in
     let o : Name = signed_owner (label_count g.source) g.owner in
@@ -251,9 +251,9 @@ chain_roomy apex (Nsec3 iterations salt optout) hash rs handed fits o i = record
   some = lit< tt;
 }
 
-pub kind_roomy : (apex : Name) (mode : Mode) (hash : Name → List ℕ) (rs : List HandedRr) → IsName apex → AllByRecursion IsHanded rs → ChainFits apex mode hash rs → (published : List Dnskey) (g : Group) → g.signed ≡ true → Kind (served_of apex mode hash rs) apex published g → IsRoomy g
+pub kind_roomy : (apex : Name) (mode : Mode) (hash : Name → List ℕ) (rs : List HandedRr) → IsName apex → AllByRecursion IsHanded rs → ChainFits apex mode hash rs → (published : List Dnskey) (g : ServedRrset) → g.signed ≡ true → Kind (served_of apex mode hash rs) apex published g → IsRoomy g
 kind_roomy apex mode hash rs apex_is handed fits published g signed (KeyKind present of e) =
-    subst IsRoomy (sym e) (record { small = lit< tt; named = apex_is; some = ltb-true _ _ (ap (λ (x : Group). x.signed) (sym e) ∙ signed) })
+    subst IsRoomy (sym e) (record { small = lit< tt; named = apex_is; some = ltb-true _ _ (ap (λ (x : ServedRrset). x.signed) (sym e) ∙ signed) })
 kind_roomy apex mode hash rs apex_is handed fits published g signed (ZoneKind is) = zone_roomy apex rs handed g is
 kind_roomy apex mode hash rs apex_is handed fits published g signed (ChainKind o i e) = subst IsRoomy (sym e) (chain_roomy apex mode hash rs handed fits o i)
 

@@ -19,14 +19,14 @@ use Rattle.messages.proofs.Lists.{Has}
 use Rattle.messages.proofs.ZoneNames.{same_labels}
 use Rattle.std.proofs.lemmas.Bool.{and_parts}
 use Rattle.answer_scheme.specs.Answers.{Answers}
-use Rattle.answer_shared.specs.Accepting.{rr_of, sorted_records, zone_with}
-use Rattle.answer_shared.specs.Chainable.{HasChain}
-use Rattle.answer_shared.specs.Hashing.{hash_in}
-use Rattle.answer_shared.specs.Made.{IsShortGroup}
-use Rattle.answer_shared.specs.Served.{Group, Served, chain_record, key_group, served_of, spelled_as}
-use Rattle.answer_shared.specs.Told.{fields_for, octets_for}
-use Rattle.answer_shared.proofs.ZoneData.{label_count-low}
-use Rattle.answer_shared.proofs.ZoneNaming.{lower_name}
+use Rattle.answer_terms.specs.Accepting.{rr_of, sorted_records, zone_with}
+use Rattle.answer_terms.specs.Chainable.{HasChain}
+use Rattle.answer_terms.specs.Hashing.{hash_in}
+use Rattle.answer_terms.specs.Made.{IsShortGroup}
+use Rattle.answer_terms.specs.Served.{ServedRrset, Served, chain_record, key_group, served_of, spelled_as}
+use Rattle.answer_terms.specs.Told.{fields_for, octets_for}
+use Rattle.answer_terms.proofs.ZoneData.{label_count-low}
+use Rattle.answer_terms.proofs.ZoneNaming.{lower_name}
 use Rattle.answer_judge.specs.Honest.{IsMadeOver, Signing, SignedOfKeys, SignedOfVersion, WasSigned}
 use Rattle.answer_judge.specs.Versions.{IsRrsetOf, OfChain, OfZone, Version, zone_in}
 use Rattle.answer_judge_facts.specs.Times.{times_of}
@@ -40,7 +40,7 @@ use Rattle.answer_judge.proofs.OwnChain.{chain_labels, low-chain_owner, read_low
 use Rattle.answer_judge.proofs.OwnHashed.{by_hash, by_hash_total, low-hashed_owner}
 
 -- octets over a group are those over an RRset under its own owner
-made_over : (apex : Name) (at life : ℕ) (g : Group) (n : Name) (key : Dnskey) → IsName apex → label_count g.source ≡ label_count n → signed_owner (label_count g.source) g.owner ≡ low n → IsName n → IsRoomy g → IsShortGroup g
+made_over : (apex : Name) (at life : ℕ) (g : ServedRrset) (n : Name) (key : Dnskey) → IsName apex → label_count g.source ≡ label_count n → signed_owner (label_count g.source) g.owner ≡ low n → IsName n → IsRoomy g → IsShortGroup g
     → IsMadeOver apex (record { owner = n; rtype = g.rtype; datas = g.datas }) (tidied (fields_for apex at life g key)) (octets_for apex at life g key)
 made_over apex at life g n key apex_is count owner named roomy short =
     let f : Fields = fields_for apex at life g key in
@@ -79,7 +79,7 @@ zone_name apex rs o t handed h =
     subst IsName owner (record_name rs r.0 handed (in_has z.records r.0 r.1.0))
 
 -- its times, in seconds modulo 2^32
-signed_times : (apex : Name) (mode : Mode) (rs : List HandedRr) (at life : ℕ) (g : Group) (key : Dnskey) → times_of (tidied (fields_for apex at life g key)) ≡ (signing_of mode rs at life).times
+signed_times : (apex : Name) (mode : Mode) (rs : List HandedRr) (at life : ℕ) (g : ServedRrset) (key : Dnskey) → times_of (tidied (fields_for apex at life g key)) ≡ (signing_of mode rs at life).times
 signed_times apex mode rs at life g key = λ i. record {
   inception = kept_32 (at % 4294967296) (mod-lt at (lit< tt)) i;
   expiration = kept_32 ((at + life) % 4294967296) (mod-lt (at + life) (lit< tt)) i;
@@ -115,7 +115,7 @@ module _ (a : Answers) (apex : Name) (mode : Mode) (rs : List HandedRr) (publish
 
   module _ (there : Contains signings (signing_of mode rs at life)) (handed : AllByRecursion IsHanded sorted) (servable : IsServable z) where
     -- an RRset of the version
-    version_signed : (g : Group) (n : Name) (key : Dnskey) → label_count g.source ≡ label_count n → signed_owner (label_count g.source) g.owner ≡ low n → IsName n → IsRoomy g → IsShortGroup g
+    version_signed : (g : ServedRrset) (n : Name) (key : Dnskey) → label_count g.source ≡ label_count n → signed_owner (label_count g.source) g.owner ≡ low n → IsName n → IsRoomy g → IsShortGroup g
         → IsRrsetOf apex hash v (record { owner = n; rtype = g.rtype; datas = g.datas }) → Signed (octets_for apex at life g key)
     version_signed g n key count owner named roomy short of = SignedOfVersion (record {
       signing = signing_of mode rs at life;
@@ -127,7 +127,7 @@ module _ (a : Answers) (apex : Name) (mode : Mode) (rs : List HandedRr) (publish
       over = made_over apex at life g n key apex_is count owner named roomy short;
     })
 
-    zone_signed : (g : Group) (key : Dnskey) → IsZoneGroup z g → IsRoomy g → IsShortGroup g → Signed (octets_for apex at life g key)
+    zone_signed : (g : ServedRrset) (key : Dnskey) → IsZoneGroup z g → IsRoomy g → IsShortGroup g → Signed (octets_for apex at life g key)
     zone_signed g key is roomy short =
         let lower : low (low g.source) ≡ low g.source = low-low g.source in
         let signed : is_signed z (low g.source) g.rtype ≡ true = ap (λ n. is_signed z n g.rtype) (sym is.source_is) ∙ is.signed in
@@ -136,13 +136,13 @@ module _ (a : Answers) (apex : Name) (mode : Mode) (rs : List HandedRr) (publish
 
 -- a record of the chain of names
 next_signed : (a : Answers) (apex : Name) (rs : List HandedRr) (published : List Dnskey) (signings : List Signing) (at life : ℕ) → IsName apex → Contains signings (signing_of Nsec rs at life) → AllByRecursion IsHanded (sorted_records rs) → IsServable (zone_with apex (sorted_records rs))
-    → (o : Name) (key : Dnskey) → Has (nsec_names (zone_with apex (sorted_records rs))) o → (g : Group) → g ≡ chain_record (served_of apex Nsec (hash_in a.hash Nsec) (sorted_records rs)) o → IsRoomy g → IsShortGroup g
+    → (o : Name) (key : Dnskey) → Has (nsec_names (zone_with apex (sorted_records rs))) o → (g : ServedRrset) → g ≡ chain_record (served_of apex Nsec (hash_in a.hash Nsec) (sorted_records rs)) o → IsRoomy g → IsShortGroup g
     → WasSigned a apex published signings (octets_for apex at life g key)
 next_signed a apex rs published signings at life apex_is there handed servable o key i g e roomy short =
     let sorted : List HandedRr = sorted_records rs in
     let hash : Name → List ℕ = hash_in a.hash Nsec in
     let z : Zone = zone_with apex sorted in
-    let c : Group = chain_record (served_of apex Nsec hash sorted) o in
+    let c : ServedRrset = chain_record (served_of apex Nsec hash sorted) o in
     let here : In o (nsec_names z) = has_in (nsec_names z) o i in
     let owner : low c.owner ≡ o = low-chain_owner apex sorted hash o here in
     let same = chain_labels apex sorted hash o here in
@@ -160,14 +160,14 @@ next_signed a apex rs published signings at life apex_is there handed servable o
 -- a record of the chain of hashes
 hash_signed : (a : Answers) (apex : Name) (iterations : ℕ) (salt : List ℕ) (optout : Bool) (rs : List HandedRr) (published : List Dnskey) (signings : List Signing) (at life : ℕ) → IsName apex → Contains signings (signing_of (Nsec3 iterations salt optout) rs at life) → AllByRecursion IsHanded (sorted_records rs)
     → IsServable (zone_with apex (sorted_records rs)) → HasChain a.hash (Nsec3 iterations salt optout) (zone_with apex (sorted_records rs))
-    → (o : Name) (key : Dnskey) → Has (hashed_names (hash_in a.hash (Nsec3 iterations salt optout)) (zone_with apex (sorted_records rs)) optout) o → (g : Group) → g ≡ chain_record (served_of apex (Nsec3 iterations salt optout) (hash_in a.hash (Nsec3 iterations salt optout)) (sorted_records rs)) o
+    → (o : Name) (key : Dnskey) → Has (hashed_names (hash_in a.hash (Nsec3 iterations salt optout)) (zone_with apex (sorted_records rs)) optout) o → (g : ServedRrset) → g ≡ chain_record (served_of apex (Nsec3 iterations salt optout) (hash_in a.hash (Nsec3 iterations salt optout)) (sorted_records rs)) o
     → IsRoomy g → IsShortGroup g → WasSigned a apex published signings (octets_for apex at life g key)
 hash_signed a apex iterations salt optout rs published signings at life apex_is there handed servable chain o key i g e roomy short =
     let mode : Mode = Nsec3 iterations salt optout in
     let sorted : List HandedRr = sorted_records rs in
     let hash : Name → List ℕ = hash_in a.hash mode in
     let z : Zone = zone_with apex sorted in
-    let c : Group = chain_record (served_of apex mode hash sorted) o in
+    let c : ServedRrset = chain_record (served_of apex mode hash sorted) o in
     let named : In o (nsec3_names z optout) = sort_has (by_hash hash) (by_hash_total hash) (nsec3_names z optout) o (has_in (hashed_names hash z optout) o i) in
     let bytes : AllByRecursion (λ x. x < 256) (hash o) = chain.octets o (contained (nsec3_names z optout) o named) in
     subst (λ g. IsRoomy g → IsShortGroup g → WasSigned a apex published signings (octets_for apex at life g key)) (sym e)
@@ -183,7 +183,7 @@ hash_signed a apex iterations salt optout rs published signings at life apex_is 
 
 -- whichever RRset it is
 pub kind_signed : (a : Answers) (apex : Name) (mode : Mode) (rs : List HandedRr) (published : List Dnskey) (signings : List Signing) (at life : ℕ) → IsName apex → Contains signings (signing_of mode rs at life) → AllByRecursion IsHanded (sorted_records rs) → IsServable (zone_with apex (sorted_records rs))
-    → HasChain a.hash mode (zone_with apex (sorted_records rs)) → (g : Group) (key : Dnskey) → IsRoomy g → IsShortGroup g → Kind (served_of apex mode (hash_in a.hash mode) (sorted_records rs)) apex published g → WasSigned a apex published signings (octets_for apex at life g key)
+    → HasChain a.hash mode (zone_with apex (sorted_records rs)) → (g : ServedRrset) (key : Dnskey) → IsRoomy g → IsShortGroup g → Kind (served_of apex mode (hash_in a.hash mode) (sorted_records rs)) apex published g → WasSigned a apex published signings (octets_for apex at life g key)
 kind_signed a apex mode rs published signings at life apex_is there handed servable chain g key roomy short (KeyKind present of e) =
     subst (λ g. IsRoomy g → IsShortGroup g → WasSigned a apex published signings (octets_for apex at life g key)) (sym e) (λ roomy short. keys_signed a apex mode rs published signings at life apex_is present _ key of roomy short) roomy short
 kind_signed a apex mode rs published signings at life apex_is there handed servable chain g key roomy short (ZoneKind is) = zone_signed a apex mode rs published signings at life apex_is there handed servable g key is roomy short

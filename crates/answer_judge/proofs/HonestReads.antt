@@ -18,7 +18,7 @@ use Rattle.messages.specs.Message.{AreOctets, Message, Spelled, canonical_data, 
 use Rattle.messages.specs.Message as message
 use Rattle.messages.proofs.Lists.{all_more, all_sorted, some_is}
 use Rattle.messages.proofs.MessageParts.{Stands, each_stands, headed, number_there, octet_index, owner_reads}
-use Rattle.answer_shared.proofs.ZoneNaming.{lower_len, lower_name}
+use Rattle.answer_terms.proofs.ZoneNaming.{lower_len, lower_name}
 use Rattle.answer_judge_facts.specs.Verified.{datum_of, rrset_in}
 use Rattle.answer_judge.proofs.GivenNext.{canonical_by, if_true_some, name_in_at}
 

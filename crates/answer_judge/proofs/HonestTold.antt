@@ -11,7 +11,7 @@ use Rattle.definitions.proofs.SignedLaws.{signed_octets_spell}
 use Rattle.denial_laws.proofs.SignedNames.{whole_owner}
 use Rattle.messages.proofs.Lists.{Has}
 use Rattle.answer_scheme.specs.Answers.{Answers}
-use Rattle.answer_shared.specs.Hashing.{hash_in}
+use Rattle.answer_terms.specs.Hashing.{hash_in}
 use Rattle.answer_judge.specs.Honest.{IsMadeOver, IsSignedOfKeys, IsSignedOfVersion, Signing, SignedOfKeys, SignedOfVersion, WasSigned, rrset_of_keys}
 use Rattle.answer_judge.specs.Versions.{IsRrsetOf, SignedRrset, Version}
 use Rattle.answer_judge_facts.specs.Times.{times_of}

@@ -10,7 +10,7 @@ use Rattle.std.specs.Prelude.{false}
 use Rattle.messages.specs.Message.{AreOctets, Message, Spelled}
 use Rattle.messages.proofs.Lists.{Has}
 use Rattle.answer_scheme.specs.Answers.{Answers}
-use Rattle.answer_shared.specs.Hashing.{hash_in}
+use Rattle.answer_terms.specs.Hashing.{hash_in}
 use Rattle.answer_judge.specs.Versions.{Version, zone_in}
 use Rattle.answer_judge.specs.Judged.{trusting}
 use Rattle.answer_judge.specs.Judging.{JudgeInput}

@@ -9,7 +9,7 @@ use Rattle.definitions.specs.Signing.{Fields, signed_octets, signed_owner}
 use Rattle.messages.specs.Message.{Message, Spelled, message}
 use Rattle.messages.proofs.Lists.{Has, some_is}
 use Rattle.answer_scheme.specs.Answers.{Answers}
-use Rattle.answer_shared.specs.Hashing.{hash_in}
+use Rattle.answer_terms.specs.Hashing.{hash_in}
 use Rattle.answer_judge.specs.Honest.{HasOneRrset, HasSignature, IsHonest, Signing, WasSigned, over, sought_of_answer}
 use Rattle.answer_judge.specs.Versions.{Version}
 use Rattle.answer_judge.specs.Judged.{trusting}

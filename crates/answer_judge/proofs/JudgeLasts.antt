@@ -9,10 +9,10 @@ use Rattle.answer_judge.specs.Stages.{trusting_named}
 use Rattle.answer_judge.specs.Judging.{JudgeInput}
 use Rattle.answer_judge_keys.specs.DnskeyAnswer.{keys_in}
 use Rattle.answer_judge_keys.specs.Trusted.{is_trusted, is_usable}
-use Rattle.answer_judge_facts.specs.declared.lasting.Lasting.{Lasting}
+use Rattle.answer_judge_facts.specs.declared.validity.Validity.{Validity}
 use Rattle.answer_judge.specs.Judged.{keys_of, trusting}
-use Rattle.answer_judge_facts.specs.Lasting.{answer_lasting, answer_seconds, answer_ttls, key_seconds, least_of}
-use Rattle.answer_judge.specs.Lasts.{lasting_in_bytes, lasting_in_messages, lasting_of}
+use Rattle.answer_judge_facts.specs.Validity.{answer_validity, answer_seconds, answer_ttls, key_seconds, least_or_max}
+use Rattle.answer_judge.specs.Lasts.{validity_in_bytes, validity_in_messages, validity_of_input}
 use Rattle.answer_judge_facts.proofs.JudgeAsked.{agreed_by}
 use Rattle.answer_judge_facts.proofs.LeastOf.{least_twice}
 use Rattle.answer_judge.proofs.JudgeWhole.{BothRead}
@@ -30,29 +30,29 @@ module _ (a : Answers) (h : JudgeInput) (keys answer : Message) (rs : List Spell
   abbrev of_keys : List ℕ
   of_keys = key_seconds (trusting_named a h ks) pointer_limit h.dnskey_bytes rs ks
 
-  abbrev whole : List Spelled → List Dnskey → List Dnskey → List Spelled → Lasting
+  abbrev whole : List Spelled → List Dnskey → List Dnskey → List Spelled → Validity
   whole rs ks usable zone = record {
-    ttl = least_of (answer_ttls (trusting a h usable) pointer_limit h.answer_bytes zone h.asked.name h.asked.rtype);
-    seconds = least_of (key_seconds (trusting_named a h ks) pointer_limit h.dnskey_bytes rs ks ++ answer_seconds (trusting a h usable) pointer_limit h.answer_bytes zone h.asked.name h.asked.rtype);
+    ttl = least_or_max (answer_ttls (trusting a h usable) pointer_limit h.answer_bytes zone h.asked.name h.asked.rtype);
+    seconds = least_or_max (key_seconds (trusting_named a h ks) pointer_limit h.dnskey_bytes rs ks ++ answer_seconds (trusting a h usable) pointer_limit h.answer_bytes zone h.asked.name h.asked.rtype);
   }
 
-  pub lasts_as : (seconds : ℕ) (l : Lasting) → seconds ≡ least_of of_keys → l ≡ answer_lasting (trusting a h usable) pointer_limit h.answer_bytes zone h.asked.name h.asked.rtype
-      → Some (record { ttl = l.ttl; seconds = min seconds l.seconds }) ≡ lasting_in_bytes a pointer_limit h
+  pub lasts_as : (seconds : ℕ) (l : Validity) → seconds ≡ least_or_max of_keys → l ≡ answer_validity (trusting a h usable) pointer_limit h.answer_bytes zone h.asked.name h.asked.rtype
+      → Some (record { ttl = l.ttl; seconds = min seconds l.seconds }) ≡ validity_in_bytes a pointer_limit h
   lasts_as seconds l s e =
-      let first : min seconds l.seconds ≡ least_of (of_keys ++ answer_seconds (trusting a h usable) pointer_limit h.answer_bytes zone h.asked.name h.asked.rtype) =
+      let first : min seconds l.seconds ≡ least_or_max (of_keys ++ answer_seconds (trusting a h usable) pointer_limit h.answer_bytes zone h.asked.name h.asked.rtype) =
       (λ i. min (s i) (e i).seconds) ∙ least_twice 4294967295 of_keys (answer_seconds (trusting a h usable) pointer_limit h.answer_bytes zone h.asked.name h.asked.rtype) in
-      let some : Lasting → Option Lasting = λ l. Some l in
+      let some : Validity → Option Validity = λ l. Some l in
       (λ i. some (record { ttl = (e i).ttl; seconds = first i }))
       ∙ (λ i. some (whole (both.records_are i) (all_keys i) (are i) (read i)))
-      ∙ sym (λ i. elim (both.dnskey i) as (λ _. Option Lasting) [
+      ∙ sym (λ i. elim (both.dnskey i) as (λ _. Option Validity) [
         | Err e ↦ None
-        | Ok keys ↦ elim (both.zone i) as (λ _. Option Lasting) [ Err e ↦ None | Ok answer ↦ Some (lasting_in_messages a pointer_limit h keys answer) ]
+        | Ok keys ↦ elim (both.zone i) as (λ _. Option Validity) [ Err e ↦ None | Ok answer ↦ Some (validity_in_messages a pointer_limit h keys answer) ]
       ])
 
 -- beside a DS set that isn't empty, what is said of both messages is said of the case
-pub lasts_beyond : (own was : Answers) (agrees : SignatureTest → Type 0) (h : JudgeInput) (l : Option Lasting) → was ≡ own → nat_eq (length h.ds) 0 ≡ false
-    → EachAgreeing was agrees (λ a. l ≡ lasting_in_bytes a pointer_limit h) → EachAgreeing own agrees (λ a. l ≡ lasting_of a pointer_limit h)
+pub lasts_beyond : (own was : Answers) (agrees : SignatureTest → Type 0) (h : JudgeInput) (l : Option Validity) → was ≡ own → nat_eq (length h.ds) 0 ≡ false
+    → EachAgreeing was agrees (λ a. l ≡ validity_in_bytes a pointer_limit h) → EachAgreeing own agrees (λ a. l ≡ validity_of_input a pointer_limit h)
 lasts_beyond own was agrees h l same some said test fits =
     said test (agreed_by own was test (agrees test) same fits)
-    ∙ ap (λ x. lasting_in_bytes (with_test x test) pointer_limit h) same
-    ∙ sym (λ i. if some i then None else lasting_in_bytes (with_test own test) pointer_limit h)
+    ∙ ap (λ x. validity_in_bytes (with_test x test) pointer_limit h) same
+    ∙ sym (λ i. if some i then None else validity_in_bytes (with_test own test) pointer_limit h)

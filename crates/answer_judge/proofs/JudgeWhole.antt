@@ -13,7 +13,7 @@ use Rattle.answer_judge.specs.declared.verdict.Refusal.{Refusal}
 use Rattle.answer_judge.specs.declared.verdict.Refusal.TheVariants as r
 use Rattle.answer_judge.specs.Judging.{Answer, Refuses, RefusesFirst, JudgeInput, first_refusal, is_judged, may_ask, message_refusal, same_question, AnswersFirst}
 use Rattle.answer_judge_keys.specs.DnskeyAnswer.{keys_in}
-use Rattle.answer_shared.specs.EqualTags.{has_equal_tags}
+use Rattle.answer_terms.specs.EqualTags.{has_equal_tags}
 use Rattle.answer_judge_rules.specs.Rules.{verdict_of}
 use Rattle.messages.specs.Message.{Asked, Message, Spelled, message}
 use Rattle.answer_judge_facts.specs.Verified.{verified_facts}

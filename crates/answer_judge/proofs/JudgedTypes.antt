@@ -2,8 +2,8 @@
 use Rattle.std.proofs.Common.{◌≡◌, true, false, ◌&&◌, inl, inr}
 use Rattle.std.proofs.lemmas.Bool.{and_parts, or_cases}
 use Rattle.denial_laws.specs.Truth.{is_added_type}
-use Rattle.answer_shared.specs.Asking.{asks_alias, is_allowed}
-use Rattle.answer_shared.proofs.AllowedTypes.{Unsigned, alias_unsigned, unadded, unsigned_from}
+use Rattle.answer_terms.specs.Asking.{asks_alias, is_allowed}
+use Rattle.answer_terms.proofs.AllowedTypes.{Unsigned, alias_unsigned, unadded, unsigned_from}
 use Rattle.answer_judge.specs.Judging.{JudgeInput, is_judged}
 
 judged_unsigned : (h : JudgeInput) → is_judged h ≡ true → Unsigned h.asked.rtype

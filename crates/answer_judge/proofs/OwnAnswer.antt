@@ -21,9 +21,9 @@ use Rattle.denial_laws.proofs.ZoneCuts.{cut_is, delegation_low}
 use Rattle.messages.specs.HandedRr.{HandedRr}
 use Rattle.messages.proofs.Lists.{Has, eqb-back}
 use Rattle.messages.proofs.ZoneNames.{same_labels}
-use Rattle.answer_shared.specs.Accepting.{zone_with}
-use Rattle.answer_shared.specs.Served.{Group, Served, ahead, ahead_open, expanded, if_any, owner_among, rrset, served_of, soa, under, unsigned_ns}
-use Rattle.answer_shared.proofs.ZoneData.{label_count-low, low-owner_among}
+use Rattle.answer_terms.specs.Accepting.{zone_with}
+use Rattle.answer_terms.specs.Served.{ServedRrset, Served, ahead, ahead_open, expanded, if_any, owner_among, rrset, served_of, soa, under, unsigned_ns}
+use Rattle.answer_terms.proofs.ZoneData.{label_count-low, low-owner_among}
 use Rattle.answer_judge_keys.specs.Trusted.{may_expand}
 use Rattle.answer_judge.proofs.GivenGroups.{has_twins, is_nsec, is_nsec3, is_rrset}
 use Rattle.answer_judge.proofs.GivenRrset.{is_ordinary, is_signed_rrset}
@@ -31,7 +31,7 @@ use Rattle.answer_judge.proofs.GivenSignatures.{fits_equal, fits_owner}
 use Rattle.answer_judge_keys.proofs.GivenSorted.{data_has, in_has, some_length, sorted_twice}
 
 -- the RRset of the question, signed, and what it proves
-pub record IsRrsetOf (apex q : Name) (t : ℕ) (g : Group) (r : Rrset) : Type 0 where
+pub record IsRrsetOf (apex q : Name) (t : ℕ) (g : ServedRrset) (r : Rrset) : Type 0 where
   pub signed : g.signed ≡ true
   pub some : 0 < length g.datas
   pub fits : fits_owner apex g ≡ true
@@ -41,12 +41,12 @@ pub record IsRrsetOf (apex q : Name) (t : ℕ) (g : Group) (r : Rrset) : Type 0 
   pub is : record { datas = g.datas; labels = label_count g.source } ≡ r
 
 -- one of the RRsets is it, or none
-abbrev pub Proves : Name → Name → ℕ → List Group → Option Rrset → Type 0
+abbrev pub Proves : Name → Name → ℕ → List ServedRrset → Option Rrset → Type 0
 Proves apex q t gs None = list_any (is_signed_rrset q t) gs ≡ false
-Proves apex q t gs (Some r) = (g : Group) × Has gs g × IsRrsetOf apex q t g r
+Proves apex q t gs (Some r) = (g : ServedRrset) × Has gs g × IsRrsetOf apex q t g r
 
 -- what stands in front of the chain's records
-pub record IsFront (apex q : Name) (t : ℕ) (front : List Group) (r : Option Rrset) : Type 0 where
+pub record IsFront (apex q : Name) (t : ℕ) (front : List ServedRrset) (r : Option Rrset) : Type 0 where
   pub ordinary : AllByRecursion is_ordinary front
   pub beside : AllByRecursion (λ g. is_nsec g ≡ false) front
   pub unhashed : AllByRecursion (λ g. is_nsec3 g ≡ false) front
@@ -106,7 +106,7 @@ module _ (apex : Name) (mode : Mode) (hash : Name → List ℕ) (rs : List Hande
     -- expanded from the wildcard under the closest encloser
     abbrev by_encloser : Option Name → Type 0
     by_encloser o =
-        IsFront apex q t (elim o as (λ _. List Group) [ None ↦ [] | Some n ↦ expanded s (star_under n) q t ])
+        IsFront apex q t (elim o as (λ _. List ServedRrset) [ None ↦ [] | Some n ↦ expanded s (star_under n) q t ])
         (elim o as (λ _. Option Rrset) [ None ↦ None | Some n ↦ Some (record { datas = data_at z (star_under e) t; labels = length n }) ])
 
     own_starred : Front (StarRecords (data_at z (star_under e) t))
@@ -136,7 +136,7 @@ module _ (apex : Name) (mode : Mode) (hash : Name → List ℕ) (rs : List Hande
 
   -- ---- at or below a delegation
 
-  abbrev unsigned : Name → Group
+  abbrev unsigned : Name → ServedRrset
   unsigned c = record (rrset s c 2) { signed = false }
 
   -- NS without a signature proves nothing
@@ -164,7 +164,7 @@ module _ (apex : Name) (mode : Mode) (hash : Name → List ℕ) (rs : List Hande
 
   own_cut : (c : Name) → cut z (low q) ≡ Some c → (labels_eq c (low q) && (t == 43)) ≡ false → Front Delegated
   own_cut c e n =
-      subst (λ (o : Option Name). IsFront apex q t (elim o as (λ _. List Group) [ None ↦ [] | Some d ↦ unsigned_ns s d ++ if_any s d 43 ]) None) (sym e)
+      subst (λ (o : Option Name). IsFront apex q t (elim o as (λ _. List ServedRrset) [ None ↦ [] | Some d ↦ unsigned_ns s d ++ if_any s d 43 ]) None) (sym e)
       (ds_front c (delegation_low z c (cut_is z (low q) c (low-low q) e).delegation) n)
 
   -- ---- where nothing is left open
@@ -189,7 +189,7 @@ module _ (apex : Name) (mode : Mode) (hash : Name → List ℕ) (rs : List Hande
         false≢true (sym (not-true (kept z (optout_of mode) (low q)) gone) ∙ ap (kept z (optout_of mode)) is ∙ apex_in_chain z (optout_of mode) servable.apex)
 
     -- a delegation that is left out, or none
-    by_cut : (o : Option Name) → IsFront apex q t (elim o as (λ _. List Group) [ None ↦ soa s ∷ [] | Some c ↦ if labels_eq c (low q) && (t == 43) then soa s ∷ [] else unsigned_ns s c ]) None
+    by_cut : (o : Option Name) → IsFront apex q t (elim o as (λ _. List ServedRrset) [ None ↦ soa s ∷ [] | Some c ↦ if labels_eq c (low q) && (t == 43) then soa s ∷ [] else unsigned_ns s c ]) None
     by_cut None = soa_front not_apex
     by_cut (Some c) = go (labels_eq c (low q) && (t == 43))
       where

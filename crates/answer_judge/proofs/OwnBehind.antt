@@ -12,9 +12,9 @@ use Rattle.denial_laws.specs.OwnFacts.{hash_link_speaks, link_speaks, own_hash_l
 use Rattle.denial_laws.specs.Truth.{IsServable}
 use Rattle.messages.specs.HandedRr.{HandedRr}
 use Rattle.messages.proofs.Lists.{eqb-back}
-use Rattle.answer_shared.specs.Accepting.{zone_with}
-use Rattle.answer_shared.specs.FactsCase.{low_link}
-use Rattle.answer_shared.specs.Served.{Group, proofs_of, served_of}
+use Rattle.answer_terms.specs.Accepting.{zone_with}
+use Rattle.answer_terms.specs.FactsCase.{low_link}
+use Rattle.answer_terms.specs.Served.{ServedRrset, proofs_of, served_of}
 use Rattle.answer_judge.proofs.GivenGroups.{SaysHashLink, SaysLink, has_twins, is_nsec, is_nsec3}
 use Rattle.answer_judge.proofs.GivenRrset.{all_joined, is_ordinary, is_signed_rrset}
 use Rattle.answer_judge.proofs.GivenSignatures.{fits_equal, fits_owner}
@@ -22,14 +22,14 @@ use Rattle.answer_judge.proofs.OwnChain.{AreNamed, apart_behind, chain_apart, ch
 use Rattle.answer_judge.proofs.OwnHashed.{by_hash, by_hash_total, hash_link, hashed_apart, hashed_group, hashed_say}
 
 -- an RRset of the chain can be verified
-pub record IsVerifiable (apex : Name) (g : Group) : Type 0 where
+pub record IsVerifiable (apex : Name) (g : ServedRrset) : Type 0 where
   pub signed : g.signed ≡ true
   pub some : 0 < length g.datas
   pub fits : fits_owner apex g ≡ true
   pub below : g.rtype ≡ 47 → at_or_above apex g.owner ≡ true
 
 -- the chain's RRsets behind others say these links
-pub record IsBehind (apex q : Name) (t : ℕ) (front chain : List Group) (links : List Link) (hash_links : List HashLink) : Type 0 where
+pub record IsBehind (apex q : Name) (t : ℕ) (front chain : List ServedRrset) (links : List Link) (hash_links : List HashLink) : Type 0 where
   pub ordinary : AllByRecursion is_ordinary chain
   pub unasked : list_any (is_signed_rrset q t) chain ≡ false
   pub alone : has_twins (front ++ chain) ≡ false
@@ -40,21 +40,21 @@ pub record IsBehind (apex q : Name) (t : ℕ) (front chain : List Group) (links 
   pub hashed : AllZip (SaysHashLink apex) (filter is_nsec3 (front ++ chain)) hash_links
 
 -- what is told of each name of a list
-all_mapped : (P : Group → Type 0) (f : Name → Group) (ns : List Name) → ((o : Name) → In o ns → P (f o)) → AllByRecursion P (map f ns)
+all_mapped : (P : ServedRrset → Type 0) (f : Name → ServedRrset) (ns : List Name) → ((o : Name) → In o ns → P (f o)) → AllByRecursion P (map f ns)
 all_mapped P f [] h = tt
 all_mapped P f (n ∷ ns) h = (h n (inl refl), all_mapped P f ns (λ o i. h o (inr i)))
 
 -- no RRset of theirs is asked for
-none_asked : (f : Name → Group) (u : ℕ) → ((n : Name) → (f n).rtype ≡ u) → (q : Name) (t : ℕ) → eqb t u ≡ false → (ns : List Name) → list_any (is_signed_rrset q t) (map f ns) ≡ false
+none_asked : (f : Name → ServedRrset) (u : ℕ) → ((n : Name) → (f n).rtype ≡ u) → (q : Name) (t : ℕ) → eqb t u ≡ false → (ns : List Name) → list_any (is_signed_rrset q t) (map f ns) ≡ false
 none_asked f u k q t e [] = refl
 none_asked f u k q t e (n ∷ ns) =
     let other : eqb (f n).rtype t ≡ false = ap (λ x. eqb x t) (k n) ∙ eqb-back u t ∙ e in
     or_from _ _ (and_left _ _ (and_left (eqb (f n).rtype t) _ other)) (none_asked f u k q t e ns)
 
-both_none : (p : Group → Bool) (f : Name → Group) → ((o : Name) → p (f o) ≡ false) → (front : List Group) (ns : List Name) → AllByRecursion (λ g. p g ≡ false) front → filter p (front ++ map f ns) ≡ []
+both_none : (p : ServedRrset → Bool) (f : Name → ServedRrset) → ((o : Name) → p (f o) ≡ false) → (front : List ServedRrset) (ns : List Name) → AllByRecursion (λ g. p g ≡ false) front → filter p (front ++ map f ns) ≡ []
 both_none p f h front ns none = none_kept p (front ++ map f ns) (all_joined (λ g. p g ≡ false) front (map f ns) none (all_mapped (λ g. p g ≡ false) f ns (λ o i. h o)))
 
-module _ (apex : Name) (rs : List HandedRr) (q : Name) (t : ℕ) (hash : Name → List ℕ) (qs : List Name) (front : List Group)
+module _ (apex : Name) (rs : List HandedRr) (q : Name) (t : ℕ) (hash : Name → List ℕ) (qs : List Name) (front : List ServedRrset)
     (beside : AllByRecursion (λ g. is_nsec g ≡ false) front) (unhashed : AllByRecursion (λ g. is_nsec3 g ≡ false) front) (alone : has_twins front ≡ false) where
   abbrev z : Zone
   z = zone_with apex rs
@@ -69,7 +69,7 @@ module _ (apex : Name) (rs : List HandedRr) (q : Name) (t : ℕ) (hash : Name �
 
   pub names_behind : IsServable z → AllByRecursion IsLabel apex → AreNamed rs → eqb t 47 ≡ false → IsBehind apex q t front (proofs_of (served_of apex Nsec hash rs) qs) (own_links z Nsec qs) (own_hash_links z hash Nsec qs)
   names_behind s labels named other =
-      let f : Name → Group = chain_group apex rs hash in
+      let f : Name → ServedRrset = chain_group apex rs hash in
       let rise = kept_rise name_cmp name_cmp_total (λ o. list_any (link_speaks z o) qs) (nsec_names z) (sort_rises name_cmp name_cmp_total (kept_owners z false)) in
       record {
         ordinary = all_mapped is_ordinary f chosen (λ o i. refl);
@@ -101,7 +101,7 @@ module _ (apex : Name) (rs : List HandedRr) (q : Name) (t : ℕ) (hash : Name �
 
     pub hashes_behind : ((n : Name) → Contains (nsec3_names z optout) n → AllByRecursion (λ x. x < 256) (hash n)) → iterations < 65536 → eqb t 50 ≡ false → IsBehind apex q t front (proofs_of (served_of apex mode hash rs) qs) (own_links z mode qs) (own_hash_links z hash mode qs)
     hashes_behind octets small other =
-        let f : Name → Group = hashed_group apex rs hash iterations salt optout in
+        let f : Name → ServedRrset = hashed_group apex rs hash iterations salt optout in
         let bytes : (o : Name) → In o taken → AllByRecursion (λ x. x < 256) (hash o) = λ o i. octets o (contained (nsec3_names z optout) o (taken_in o i)) in
         let rise = kept_rise (by_hash hash) (by_hash_total hash) (λ o. list_any (hash_link_speaks z hash optout o) qs) (hashed_names hash z optout) (sort_rises (by_hash hash) (by_hash_total hash) (nsec3_names z optout)) in
         record {

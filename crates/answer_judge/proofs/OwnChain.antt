@@ -22,10 +22,10 @@ use Rattle.denial_laws.proofs.Adjacent.{chain_inside, next_in}
 use Rattle.messages.specs.HandedRr.{HandedRr}
 use Rattle.messages.proofs.Lists.{eqb-back}
 use Rattle.messages.proofs.ZoneNames.{labels_eq-same, same_labels}
-use Rattle.answer_shared.specs.Accepting.{rr_of, zone_with}
-use Rattle.answer_shared.specs.Served.{Group, chain_record, served_of, spelled_among, spelled_as}
-use Rattle.answer_shared.proofs.ZoneData.{label_count-low, low-spelled_among}
-use Rattle.answer_shared.specs.FactsCase.{low_link}
+use Rattle.answer_terms.specs.Accepting.{rr_of, zone_with}
+use Rattle.answer_terms.specs.Served.{ServedRrset, chain_record, served_of, spelled_among, spelled_as}
+use Rattle.answer_terms.proofs.ZoneData.{label_count-low, low-spelled_among}
+use Rattle.answer_terms.specs.FactsCase.{low_link}
 use Rattle.answer_judge.proofs.GivenGroups.{SaysLink, has_twins, is_rrset}
 
 -- the labels of each owner are labels
@@ -64,16 +64,16 @@ spelled_as_named apex rs a h n i = go (labels_eq (low apex) n)
 -- ---- lists of RRsets
 
 -- all of them are of a kind, or none
-all_kept : (p : Group → Bool) (f : Name → Group) → ((o : Name) → p (f o) ≡ true) → (ns : List Name) → filter p (map f ns) ≡ map f ns
+all_kept : (p : ServedRrset → Bool) (f : Name → ServedRrset) → ((o : Name) → p (f o) ≡ true) → (ns : List Name) → filter p (map f ns) ≡ map f ns
 all_kept p f h [] = refl
 all_kept p f h (o ∷ ns) = ap (λ b. cond b (f o ∷ filter p (map f ns)) (filter p (map f ns))) (h o) ∙ ap (λ gs. f o ∷ gs) (all_kept p f h ns)
 
-pub none_kept : (p : Group → Bool) (gs : List Group) → AllByRecursion (λ g. p g ≡ false) gs → filter p gs ≡ []
+pub none_kept : (p : ServedRrset → Bool) (gs : List ServedRrset) → AllByRecursion (λ g. p g ≡ false) gs → filter p gs ≡ []
 none_kept p [] h = refl
 none_kept p (g ∷ gs) h = ap (λ b. cond b (g ∷ filter p gs) (filter p gs)) h.0 ∙ none_kept p gs h.1
 
 -- behind others
-pub kept_behind : (p : Group → Bool) (f : Name → Group) → ((o : Name) → p (f o) ≡ true) → (front : List Group) (ns : List Name) → AllByRecursion (λ g. p g ≡ false) front → filter p (front ++ map f ns) ≡ map f ns
+pub kept_behind : (p : ServedRrset → Bool) (f : Name → ServedRrset) → ((o : Name) → p (f o) ≡ true) → (front : List ServedRrset) (ns : List Name) → AllByRecursion (λ g. p g ≡ false) front → filter p (front ++ map f ns) ≡ map f ns
 kept_behind p f h front ns none = filter-append p front (map f ns) ∙ (λ i. none_kept p front none i ++ all_kept p f h ns i)
 
 -- what is kept of items that rise rises
@@ -86,14 +86,14 @@ kept_rise R o p (n ∷ ns) h = go (p n) (kept_rise R o p ns h.1)
     go false r = r
 
 -- RRsets of one type are none of another
-pub all_other : (f : Name → Group) (u : ℕ) → ((n : Name) → (f n).rtype ≡ u) → (o : Name) (t : ℕ) → eqb u t ≡ false → (ns : List Name) → list_any (is_rrset o t) (map f ns) ≡ false
+pub all_other : (f : Name → ServedRrset) (u : ℕ) → ((n : Name) → (f n).rtype ≡ u) → (o : Name) (t : ℕ) → eqb u t ≡ false → (ns : List Name) → list_any (is_rrset o t) (map f ns) ≡ false
 all_other f u k o t e [] = refl
 all_other f u k o t e (n ∷ ns) = λ i. ((ap (λ x. eqb x t) (k n) ∙ e) i && same (f n).owner o) || all_other f u k o t e ns i
 
 other_way : (a b : ℕ) → eqb a b ≡ false → eqb b a ≡ false
 other_way a b e = eqb-back b a ∙ e
 
-pub apart_behind : (f : Name → Group) (u : ℕ) → ((n : Name) → (f n).rtype ≡ u) → (front : List Group) (ns : List Name) → AllByRecursion (λ g. eqb g.rtype u ≡ false) front → has_twins front ≡ false → has_twins (map f ns) ≡ false → has_twins (front ++ map f ns) ≡ false
+pub apart_behind : (f : Name → ServedRrset) (u : ℕ) → ((n : Name) → (f n).rtype ≡ u) → (front : List ServedRrset) (ns : List Name) → AllByRecursion (λ g. eqb g.rtype u ≡ false) front → has_twins front ≡ false → has_twins (map f ns) ≡ false → has_twins (front ++ map f ns) ≡ false
 apart_behind f u k [] ns h alone e = e
 apart_behind f u k (g ∷ gs) ns h alone e =
     let parts = or_parts (list_any (is_rrset g.owner g.rtype) gs) (has_twins gs) alone in
@@ -115,7 +115,7 @@ module _ (apex : Name) (rs : List HandedRr) (hash : Name → List ℕ) where
   abbrev z : Zone
   z = zone_with apex rs
 
-  abbrev pub chain_group : Name → Group
+  abbrev pub chain_group : Name → ServedRrset
   chain_group o = chain_record (served_of apex Nsec hash rs) o
 
   -- what a judge reads of one

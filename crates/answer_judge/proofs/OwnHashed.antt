@@ -23,8 +23,8 @@ use Rattle.messages.specs.HandedRr.{HandedRr}
 use Rattle.messages.specs.Message.{HashedNext}
 use Rattle.messages.proofs.Nsec3Read.{chain_reads}
 use Rattle.messages.proofs.ZoneNames.{low-low, same_labels}
-use Rattle.answer_shared.specs.Accepting.{zone_with}
-use Rattle.answer_shared.specs.Served.{Group, chain_record, served_of}
+use Rattle.answer_terms.specs.Accepting.{zone_with}
+use Rattle.answer_terms.specs.Served.{ServedRrset, chain_record, served_of}
 use Rattle.answer_judge_facts.specs.Verified.{is_known}
 use Rattle.answer_judge.proofs.GivenGroups.{SaysHashLink, has_twins, is_rrset}
 use Rattle.answer_judge.proofs.GivenHashes.{first_label}
@@ -97,7 +97,7 @@ module _ (apex : Name) (rs : List HandedRr) (hash : Name → List ℕ) (iteratio
   abbrev parameters : ChainParameters
   parameters = parameters_of mode
 
-  abbrev pub hashed_group : Name → Group
+  abbrev pub hashed_group : Name → ServedRrset
   hashed_group o = chain_record (served_of apex mode hash rs) o
 
   abbrev pub hash_link : Name → HashLink

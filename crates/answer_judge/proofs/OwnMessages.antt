@@ -13,13 +13,13 @@ use Rattle.messages.specs.Handed.{IsHanded}
 use Rattle.messages.specs.Message.{AreOctets, Asked, Message, Spelled}
 use Rattle.messages.specs.WrittenLaws.{IsQuestion}
 use Rattle.messages.proofs.Lists.{Has, all_at, all_more, all_sorted, eqb-back, some_is}
-use Rattle.answer_shared.specs.Accepting.{record_cmp, soas, sorted_records, zone_of}
-use Rattle.answer_shared.specs.Hashing.{hash_in}
-use Rattle.answer_shared.specs.Made.{IsShortGroup, OfZone}
-use Rattle.answer_shared.specs.Served.{Group, Served, ahead, ahead_open, answer_groups, by_tag, chain_record, expanded, if_any, key_group, proofs_of, rrset, served_of, soa, spoken, unsigned_ns}
-use Rattle.answer_shared.specs.Told.{fields_for, octets_for}
-use Rattle.answer_shared.proofs.AllowedTypes.{unadded, unsigned_from}
-use Rattle.answer_shared.proofs.Servable.{servable}
+use Rattle.answer_terms.specs.Accepting.{record_cmp, soas, sorted_records, zone_of}
+use Rattle.answer_terms.specs.Hashing.{hash_in}
+use Rattle.answer_terms.specs.Made.{IsShortGroup, OfZone}
+use Rattle.answer_terms.specs.Served.{ServedRrset, Served, ahead, ahead_open, answer_groups, by_tag, chain_record, expanded, if_any, key_group, proofs_of, rrset, served_of, soa, spoken, unsigned_ns}
+use Rattle.answer_terms.specs.Told.{fields_for, octets_for}
+use Rattle.answer_terms.proofs.AllowedTypes.{unadded, unsigned_from}
+use Rattle.answer_terms.proofs.Servable.{servable}
 use Rattle.denial_laws.specs.Truth.{IsServable}
 use Rattle.answer_judge_facts.specs.Verified.{Trusting, rrset_in}
 use Rattle.answer_judge_keys.proofs.GivenSorted.{sorted_twice}
@@ -45,7 +45,7 @@ use Rattle.answer_judge.proofs.Spliced.{IsSignatureOf, ok_is, signature_of}
 -- ---- RRsets of an answer
 
 -- data that ascend, each once, of another type than DNSKEY
-record IsPlain (g : Group) : Type 0 where
+record IsPlain (g : ServedRrset) : Type 0 where
   pub sorted : sorted_data g.datas ≡ g.datas
   pub other : eqb g.rtype 48 ≡ false
 
@@ -56,7 +56,7 @@ soa_plain : (s : Served) → IsPlain (soa s)
 soa_plain s = rrset_plain s (apex_of s.zone) 6 refl
 
 -- of a record that is alone
-one_plain : (g : Group) (d : List ℕ) → g.datas ≡ d ∷ [] → eqb g.rtype 48 ≡ false → IsPlain g
+one_plain : (g : ServedRrset) (d : List ℕ) → g.datas ≡ d ∷ [] → eqb g.rtype 48 ≡ false → IsPlain g
 one_plain g d is n = record { sorted = ap sorted_data is ∙ sym is; other = n }
 
 chain_plain : (apex : Name) (mode : Mode) (hash : Name → List ℕ) (rs : List HandedRr) (o : Name) → IsPlain (chain_record (served_of apex mode hash rs) o)
@@ -65,7 +65,7 @@ chain_plain apex (Nsec3 iterations salt optout) hash rs o = one_plain (chain_rec
 
 module _ (s : Served) (q : Name) (t : ℕ) (other : eqb t 48 ≡ false) where
   -- a wildcard's, under the name
-  star_plain : (o : Option Name) → AllByRecursion IsPlain (elim o as (λ _. List Group) [ None ↦ [] | Some e ↦ expanded s (star_under e) q t ])
+  star_plain : (o : Option Name) → AllByRecursion IsPlain (elim o as (λ _. List ServedRrset) [ None ↦ [] | Some e ↦ expanded s (star_under e) q t ])
   star_plain None = tt
   star_plain (Some e) = let is = rrset_plain s (star_under e) t other in (record { sorted = is.sorted; other = other }, tt)
 
@@ -79,11 +79,11 @@ module _ (s : Served) (q : Name) (t : ℕ) (other : eqb t 48 ≡ false) where
       go true = (rrset_plain s c 43 refl, tt)
       go false = tt
 
-  cut_plain : (o : Option Name) → AllByRecursion IsPlain (elim o as (λ _. List Group) [ None ↦ [] | Some c ↦ unsigned_ns s c ++ if_any s c 43 ])
+  cut_plain : (o : Option Name) → AllByRecursion IsPlain (elim o as (λ _. List ServedRrset) [ None ↦ [] | Some c ↦ unsigned_ns s c ++ if_any s c 43 ])
   cut_plain None = tt
   cut_plain (Some c) = all_joined IsPlain (unsigned_ns s c) (if_any s c 43) (ns_plain c) (ds_plain c)
 
-  left_plain : (o : Option Name) → AllByRecursion IsPlain (elim o as (λ _. List Group) [ None ↦ soa s ∷ [] | Some c ↦ if labels_eq c (low q) && (t == 43) then soa s ∷ [] else unsigned_ns s c ])
+  left_plain : (o : Option Name) → AllByRecursion IsPlain (elim o as (λ _. List ServedRrset) [ None ↦ soa s ∷ [] | Some c ↦ if labels_eq c (low q) && (t == 43) then soa s ∷ [] else unsigned_ns s c ])
   left_plain None = (soa_plain s, tt)
   left_plain (Some c) = go (labels_eq c (low q) && (t == 43))
     where
@@ -111,7 +111,7 @@ module _ (s : Served) (q : Name) (t : ℕ) (other : eqb t 48 ≡ false) where
   ahead_plain Open = open_plain (verdict s.zone false q t)
   ahead_plain Unsigned = tt
 
-each_plain : (f : Name → Group) → ((o : Name) → IsPlain (f o)) → (ns : List Name) → AllByRecursion IsPlain (map f ns)
+each_plain : (f : Name → ServedRrset) → ((o : Name) → IsPlain (f o)) → (ns : List Name) → AllByRecursion IsPlain (map f ns)
 each_plain f h [] = tt
 each_plain f h (n ∷ ns) = (h n, each_plain f h ns)
 
@@ -128,11 +128,11 @@ over_is : (f g : Fields) (r : Spelled) (owner : Name) (ds es : List (List ℕ)) 
 over_is f g r owner ds es is contents owners = ap (signed_octets f r.owner 1) contents ∙ ap (λ (x : Fields). signed_octets x r.owner 1 es) is ∙ signed_octets-owner g r.owner owner es owners
 
 -- data that were read are no longer than a record can say
-short_read : (g : Group) (ds : List (List ℕ)) → AllByRecursion IsDatum ds → ds ≡ g.datas → IsShortGroup g
+short_read : (g : ServedRrset) (ds : List (List ℕ)) → AllByRecursion IsDatum ds → ds ≡ g.datas → IsShortGroup g
 short_read g ds are is = subst (λ ds. AllByRecursion (λ (d : List ℕ). length d < 65536) ds) is (all_more IsDatum (λ (d : List ℕ). length d < 65536) ds (λ d i. i.short) are)
 
 -- the RRsets of an answer
-abbrev told_groups : Trusting → Mode → List HandedRr → Asked → List Group
+abbrev told_groups : Trusting → Mode → List HandedRr → Asked → List ServedRrset
 told_groups w mode rs asked = answer_groups (served_of w.apex mode (hash_in w.answers.hash mode) (sorted_records rs)) asked.name asked.rtype
 
 module _ (w : Trusting) (k : ℕ) (mode : Mode) (rs : List HandedRr) (h : JudgeInput) (published : List Dnskey) (signings : List Signing) (same_apex : h.apex ≡ w.apex) (octets : AreOctets h.answer_bytes) (asked_is : IsQuestion h.asked)
@@ -143,7 +143,7 @@ module _ (w : Trusting) (k : ℕ) (mode : Mode) (rs : List HandedRr) (h : JudgeI
   abbrev sorted : List HandedRr
   sorted = sorted_records rs
 
-  abbrev groups : List Group
+  abbrev groups : List ServedRrset
   groups = told_groups w mode rs h.asked
 
   abbrev rs_told : List Spelled
@@ -161,8 +161,8 @@ module _ (w : Trusting) (k : ℕ) (mode : Mode) (rs : List HandedRr) (h : JudgeI
   alone : has_twins groups ≡ false
   alone = groups_alone w k h.answer_bytes rs_told w.apex mode hash sorted h.asked.name h.asked.rtype told fits
 
-  types : AllByRecursion (λ (g : Group). g.rtype ≡ 46 → ⊥) groups
-  types = all_more is_ordinary (λ (g : Group). g.rtype ≡ 46 → ⊥) groups (λ g n e. false≢true (sym n ∙ ap (λ u. eqb u 46) e)) ordinary
+  types : AllByRecursion (λ (g : ServedRrset). g.rtype ≡ 46 → ⊥) groups
+  types = all_more is_ordinary (λ (g : ServedRrset). g.rtype ≡ 46 → ⊥) groups (λ g n e. false≢true (sym n ∙ ap (λ u. eqb u 46) e)) ordinary
 
   plain : AllByRecursion IsPlain groups
   plain = answer_plain w.apex mode hash sorted h.asked.name h.asked.rtype (not_keys h.asked.rtype (unadded h.asked.rtype (unsigned_from w.apex h.asked t.allowed)))
@@ -177,7 +177,7 @@ module _ (w : Trusting) (k : ℕ) (mode : Mode) (rs : List HandedRr) (h : JudgeI
   soa_one = t.accepted.soa
 
   -- an RRset of it that has signatures was signed
-  group_signed : (g : Group) (key : Dnskey) → Has groups g → g.signed ≡ true → IsShortGroup g → WasSigned w.answers w.apex published signings (octets_for w.apex t.at t.life g key)
+  group_signed : (g : ServedRrset) (key : Dnskey) → Has groups g → g.signed ≡ true → IsShortGroup g → WasSigned w.answers w.apex published signings (octets_for w.apex t.at t.life g key)
   group_signed g key i signed short =
       let kind = kind_of w.apex mode hash sorted zone_servable (soa_has w.apex sorted (omega (arith, soa_one))) t.apex_is handed published (OfZone h.asked) g (asked_is, t.allowed) i signed in
       let roomy = kind_roomy w.apex mode hash sorted t.apex_is handed (chain_fits w.answers.hash w.apex mode rs t.accepted.chain) published g signed kind in
@@ -212,14 +212,14 @@ pub own_keys_are_honest : OwnKeysAreHonest
 own_keys_are_honest a k ttl h present signers published at life signings apex_is octets small of tells = record {
   octets_are = octets;
   unforged = λ read r f signature key reads used known usable some passes.
-      let g : Group = key_group h.apex ttl present in
+      let g : ServedRrset = key_group h.apex ttl present in
       let same : read ≡ tells.read = ok_is read tells.read (sym reads ∙ tells.reads) in
       let here : Has tells.read.records r = subst (λ (x : Message). Has x.records r) same (has_contained read.records r used.there) in
       let x : IsSignatureOf a.verifies k h.dnskey_bytes r h.apex at life (by_tag signers) (g ∷ []) = signature_of a.verifies k h.dnskey_bytes tells.read.records h.apex at life (by_tag signers) (g ∷ []) r ((λ e. false≢true (ap (λ u. eqb u 46) e)), tt) tells.groups_are here used.rtype_is in
       let one : (f, signature) ≡ (fields_for h.apex at life x.group x.key, x.is.signature) = some_is (f, signature) (fields_for h.apex at life x.group x.key, x.is.signature) (sym used.reads ∙ x.is.fields_are) in
       let is : x.group ≡ g = only g x.group x.inside in
-      let fields : f ≡ fields_for h.apex at life g x.key = ap (λ (y : Fields × List ℕ). y.0) one ∙ ap (λ (y : Group). fields_for h.apex at life y x.key) is in
-      let owner : low r.owner ≡ low h.apex = x.is.owner_is ∙ ap (λ (y : Group). low y.owner) is in
+      let fields : f ≡ fields_for h.apex at life g x.key = ap (λ (y : Fields × List ℕ). y.0) one ∙ ap (λ (y : ServedRrset). fields_for h.apex at life y x.key) is in
+      let owner : low r.owner ≡ low h.apex = x.is.owner_is ∙ ap (λ (y : ServedRrset). low y.owner) is in
       let ds : List (List ℕ) = sorted_data (map dnskey_data (keys_in h.dnskey_bytes h.apex read.records)) in
       let covers : ds ≡ g.datas =
       ap (λ (y : Message). sorted_data (map dnskey_data (keys_in h.dnskey_bytes h.apex y.records))) same
@@ -231,5 +231,5 @@ own_keys_are_honest a k ttl h present signers published at life signings apex_is
       (keys_signed a h.apex Nsec [] published signings at life apex_is present ttl x.key of roomy short);
 }
   where
-    only : (g x : Group) → Has (g ∷ []) x → x ≡ g
+    only : (g x : ServedRrset) → Has (g ∷ []) x → x ≡ g
     only g x i = elim i [ inl e ↦ e | inr none ↦ absurd none ]

@@ -12,8 +12,8 @@ use Rattle.definitions.proofs.SignedLaws.{pieces}
 use Rattle.messages.specs.declared.error.MessageError.{MessageError}
 use Rattle.messages.specs.Message.{AreOctets, Asked, Message, Spelled}
 use Rattle.messages.proofs.Lists.{Has, some_is}
-use Rattle.answer_shared.specs.Served.{Group}
-use Rattle.answer_shared.specs.Told.{AreRecords, AreSignatures, IsRecord, IsSignature, Tells, TellsGroups, fields_for, octets_for}
+use Rattle.answer_terms.specs.Served.{ServedRrset}
+use Rattle.answer_terms.specs.Told.{AreRecords, AreSignatures, IsRecord, IsValidSignature, Tells, TellsGroups, fields_for, octets_for}
 use Rattle.answer_judge.proofs.GivenFacts.{from_joined}
 use Rattle.answer_judge.proofs.GivenLists.{contained_has, has_contained}
 use Rattle.answer_judge.proofs.HonestMade.{signed_only}
@@ -54,15 +54,15 @@ abbrev f_and : Fields × List ℕ → Option (Fields × List ℕ)
 f_and x = Some x
 
 -- a record is a signature of one of the RRsets by one of the keys
-pub record IsSignatureOf (v : Dnskey → List ℕ → List ℕ → Bool) (k : ℕ) (m : List ℕ) (r : Spelled) (apex : Name) (at life : ℕ) (keys : List Dnskey) (gs : List Group) : Type 0 where
-  pub group : Group
+pub record IsSignatureOf (v : Dnskey → List ℕ → List ℕ → Bool) (k : ℕ) (m : List ℕ) (r : Spelled) (apex : Name) (at life : ℕ) (keys : List Dnskey) (gs : List ServedRrset) : Type 0 where
+  pub group : ServedRrset
   pub inside : Has gs group
   pub signed : group.signed ≡ true
   pub key : Dnskey
   pub signs : Has keys key
-  pub is : IsSignature v k m r apex at life group key
+  pub is : IsValidSignature v k m r apex at life group key
 
-own_type : (k : ℕ) (m : List ℕ) (rs : List Spelled) (g : Group) (ds : List (List ℕ)) (r : Spelled) → AreRecords k m rs g ds → Has rs r → r.rtype ≡ g.rtype
+own_type : (k : ℕ) (m : List ℕ) (rs : List Spelled) (g : ServedRrset) (ds : List (List ℕ)) (r : Spelled) → AreRecords k m rs g ds → Has rs r → r.rtype ≡ g.rtype
 own_type k m [] g ds r h i = absurd i
 own_type k m (x ∷ rs) g [] r h i = absurd h
 own_type k m (x ∷ rs) g (d ∷ ds) r h i = elim i [
@@ -70,15 +70,15 @@ own_type k m (x ∷ rs) g (d ∷ ds) r h i = elim i [
   | inr j ↦ own_type k m rs g ds r h.1 j
 ]
 
-its_signature : (v : Dnskey → List ℕ → List ℕ → Bool) (k : ℕ) (m : List ℕ) (rs : List Spelled) (apex : Name) (at life : ℕ) (g : Group) (keys : List Dnskey) (r : Spelled) → AreSignatures v k m rs apex at life g keys → Has rs r → (key : Dnskey) × Has keys key × IsSignature v k m r apex at life g key
+its_signature : (v : Dnskey → List ℕ → List ℕ → Bool) (k : ℕ) (m : List ℕ) (rs : List Spelled) (apex : Name) (at life : ℕ) (g : ServedRrset) (keys : List Dnskey) (r : Spelled) → AreSignatures v k m rs apex at life g keys → Has rs r → (key : Dnskey) × Has keys key × IsValidSignature v k m r apex at life g key
 its_signature v k m [] apex at life g keys r h i = absurd i
 its_signature v k m (x ∷ rs) apex at life g [] r h i = absurd h
 its_signature v k m (x ∷ rs) apex at life g (key ∷ keys) r h i = elim i [
-  | inl e ↦ (key, inl refl, subst (λ (y : Spelled). IsSignature v k m y apex at life g key) (sym e) h.0)
+  | inl e ↦ (key, inl refl, subst (λ (y : Spelled). IsValidSignature v k m y apex at life g key) (sym e) h.0)
   | inr j ↦ let s = its_signature v k m rs apex at life g keys r h.1 j in (s.0, inr s.1, s.2)
 ]
 
-pub signature_of : (v : Dnskey → List ℕ → List ℕ → Bool) (k : ℕ) (m : List ℕ) (rs : List Spelled) (apex : Name) (at life : ℕ) (keys : List Dnskey) (gs : List Group) (r : Spelled) → AllByRecursion (λ (g : Group). g.rtype ≡ 46 → ⊥) gs → TellsGroups v k m rs apex at life keys gs → Has rs r → r.rtype ≡ 46
+pub signature_of : (v : Dnskey → List ℕ → List ℕ → Bool) (k : ℕ) (m : List ℕ) (rs : List Spelled) (apex : Name) (at life : ℕ) (keys : List Dnskey) (gs : List ServedRrset) (r : Spelled) → AllByRecursion (λ (g : ServedRrset). g.rtype ≡ 46 → ⊥) gs → TellsGroups v k m rs apex at life keys gs → Has rs r → r.rtype ≡ 46
     → IsSignatureOf v k m r apex at life keys gs
 signature_of v k m rs apex at life keys [] r types tells i e = absurd (subst (λ xs. Has xs r) tells i)
 signature_of v k m rs apex at life keys (g ∷ gs) r types (own, signatures, rest, split, records, signs, more) i e =
@@ -98,8 +98,8 @@ signature_of v k m rs apex at life keys (g ∷ gs) r types (own, signatures, res
 pub ok_is : (x y : Message) → message_ok x ≡ message_ok y → x ≡ y
 ok_is x y e = cc
 
-pub told_spliced : (a : Answers) (k now : ℕ) (published signers : List Dnskey) (Signed : List ℕ → Type 0) (apex : Name) (at life : ℕ) (asked : Asked) (groups : List Group) (m : List ℕ)
-    → AllByRecursion (λ (g : Group). g.rtype ≡ 46 → ⊥) groups → AreSigned Signed apex at life groups → Tells a.verifies k apex at life signers asked groups m → IsSpliced a k now published Signed m
+pub told_spliced : (a : Answers) (k now : ℕ) (published signers : List Dnskey) (Signed : List ℕ → Type 0) (apex : Name) (at life : ℕ) (asked : Asked) (groups : List ServedRrset) (m : List ℕ)
+    → AllByRecursion (λ (g : ServedRrset). g.rtype ≡ 46 → ⊥) groups → AreSigned Signed apex at life groups → Tells a.verifies k apex at life signers asked groups m → IsSpliced a k now published Signed m
 told_spliced a k now published signers Signed apex at life asked groups m types signed tells read r f signature reads inside kind fields time =
     let same : read ≡ tells.read = ok_is read tells.read (sym reads ∙ tells.reads) in
     let here : Has tells.read.records r = subst (λ (x : Message). Has x.records r) same (has_contained read.records r inside) in

@@ -18,11 +18,11 @@ use Rattle.answer_scheme.specs.Answers.{Answers}
 use Rattle.answer_scheme.specs.Moments.{second_of}
 use Rattle.answer_judge_keys.specs.Trusted.{fits_key, is_signature, is_trusted, is_usable, labels_fit, signs}
 use Rattle.answer_judge.specs.Judging.{Answer, JudgeInput, Refuses, Says, first_refusal}
-use Rattle.answer_judge_facts.specs.declared.lasting.Lasting.{Lasting}
+use Rattle.answer_judge_facts.specs.declared.validity.Validity.{Validity}
 use Rattle.answer_judge.specs.declared.verdict.Refusal.TheVariants as r
 use Rattle.answer_judge.specs.Judged.{ds_authenticates_keys, judged, judged_answer, judged_bytes, judged_messages, judged_proof, keys_of, trusting}
-use Rattle.answer_judge_facts.specs.Lasting.{answer_seconds, held_for, idle_at, idle_for, key_seconds, least_of, seconds_of, wait_at}
-use Rattle.answer_judge.specs.Lasts.{at_moment, lasting_in_bytes, lasting_in_messages, lasting_of, VerdictsLast}
+use Rattle.answer_judge_facts.specs.Validity.{answer_seconds, held_for, idle_at, idle_for, key_seconds, least_or_max, seconds_of, wait_at}
+use Rattle.answer_judge.specs.Lasts.{at_moment, validity_in_bytes, validity_in_messages, validity_of_input, VerdictsLast}
 use Rattle.answer_judge_facts.specs.Sought.{Sought, answer_sought, is_alone, keys_sought}
 use Rattle.answer_judge_facts.specs.Times.{Times, are_unlike, proof_times, times_at, times_of}
 use Rattle.answer_judge_facts.specs.Verified.{Trusting, hash_link_at, hash_link_with, is_hash_alone, is_hash_link, is_link, is_verified, link_at, link_of, rrset_in, verified_by, verified_facts, verified_with, verifies_with}
@@ -253,7 +253,7 @@ module _ (a : Answers) (k : ℕ) (h : JudgeInput) (d : ℕ) (small : h.now < 429
   abbrev moved : JudgeInput
   moved = record h { now = later h.now d }
 
-  messages_later : (keys answer : Message) → d ≤ (lasting_in_messages a k h keys answer).seconds → judged_messages a k moved keys answer ≡ judged_messages a k h keys answer
+  messages_later : (keys answer : Message) → d ≤ (validity_in_messages a k h keys answer).seconds → judged_messages a k moved keys answer ≡ judged_messages a k h keys answer
   messages_later keys answer few =
       let ks = keys_of h keys in
       let named = trusting a h (filter (is_trusted a h.apex h.ds) ks) in
@@ -273,18 +273,18 @@ module _ (a : Answers) (k : ℕ) (h : JudgeInput) (d : ℕ) (small : h.now < 429
     | Ok keys ↦ elim y [ Err e ↦ Refuses r.BadAnswerMessage | Ok answer ↦ judged_messages a k g keys answer ]
   ]
 
-  abbrev lasting_by : Result Message MessageError → Result Message MessageError → Option Lasting
-  lasting_by x y = elim x [
+  abbrev validity_by : Result Message MessageError → Result Message MessageError → Option Validity
+  validity_by x y = elim x [
     | Err e ↦ None
-    | Ok keys ↦ elim y [ Err e ↦ None | Ok answer ↦ Some (lasting_in_messages a k h keys answer) ]
+    | Ok keys ↦ elim y [ Err e ↦ None | Ok answer ↦ Some (validity_in_messages a k h keys answer) ]
   ]
 
-  bytes_later : (x y : Result Message MessageError) (l : Lasting) → lasting_by x y ≡ Some l → d ≤ l.seconds → judged_by moved x y ≡ judged_by h x y
+  bytes_later : (x y : Result Message MessageError) (l : Validity) → validity_by x y ≡ Some l → d ≤ l.seconds → judged_by moved x y ≡ judged_by h x y
   bytes_later (Err e) y l is few = refl
   bytes_later (Ok keys) (Err e) l is few = refl
   bytes_later (Ok keys) (Ok answer) l is few =
-      let same = some_is (lasting_in_messages a k h keys answer) l is in
-      messages_later keys answer (subst (λ (l : Lasting). d ≤ l.seconds) (sym same) few)
+      let same = some_is (validity_in_messages a k h keys answer) l is in
+      messages_later keys answer (subst (λ (l : Validity). d ≤ l.seconds) (sym same) few)
 
   abbrev said_by : JudgeInput → Bool → Answer
   said_by g empty = elim (first_refusal k h) [
@@ -292,10 +292,10 @@ module _ (a : Answers) (k : ℕ) (h : JudgeInput) (d : ℕ) (small : h.now < 429
     | None ↦ if empty then Says Unsigned else judged_bytes a k g
   ]
 
-  pub later_alike : (l : Lasting) → lasting_of a k h ≡ Some l → d ≤ l.seconds → judged a k moved ≡ judged a k h
+  pub later_alike : (l : Validity) → validity_of_input a k h ≡ Some l → d ≤ l.seconds → judged a k moved ≡ judged a k h
   later_alike l is few = go (nat_eq (length h.ds) 0) is
     where
-      go : (empty : Bool) → (if empty then None else lasting_in_bytes a k h) ≡ Some l → said_by moved empty ≡ said_by h empty
+      go : (empty : Bool) → (if empty then None else validity_in_bytes a k h) ≡ Some l → said_by moved empty ≡ said_by h empty
       go true e = refl
       go false e = λ i. elim (first_refusal k h) as (λ _. Answer) [ Some e ↦ Refuses e | None ↦ bytes_later (message k h.dnskey_bytes) (message k h.answer_bytes) l e few i ]
 

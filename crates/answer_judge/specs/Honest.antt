@@ -13,8 +13,8 @@ use Rattle.messages.specs.Handed.{IsHanded}
 use Rattle.messages.specs.Message.{AreOctets, Message, Spelled, message, rrsig_at}
 use Rattle.messages.specs.WrittenLaws.{IsQuestion}
 use Rattle.answer_scheme.specs.Answers.{Answers}
-use Rattle.answer_shared.specs.Chainable.{HasChain}
-use Rattle.answer_shared.specs.Hashing.{hash_in}
+use Rattle.answer_terms.specs.Chainable.{HasChain}
+use Rattle.answer_terms.specs.Hashing.{hash_in}
 use Rattle.answer_judge_keys.specs.Trusted.{is_trusted, is_usable}
 use Rattle.answer_judge.specs.Judging.{Answer, Says, Refuses, JudgeInput}
 use Rattle.answer_judge_keys.specs.DnskeyAnswer.{keys_in}
@@ -158,7 +158,7 @@ Settled a k h published versions signings =
 
 -- What is handed in beside a DS set that isn't empty: two messages that are honest in the life of a zone that had these versions,
 -- one at least, whoever signs and serves it. Some keys were published in it, and its versions were signed at some moments.
-pub record AreHonest (a : Answers) (k : ℕ) (h : JudgeInput) (versions : List Version) : Type 0 where
+pub record IsHonestInput (a : Answers) (k : ℕ) (h : JudgeInput) (versions : List Version) : Type 0 where
   pub published : List Dnskey
   pub signings : List Signing
   pub apex_is : IsName h.apex
@@ -196,7 +196,7 @@ SaysOneOf h versions (Refuses e) = Unit {0}
 
 -- A judge says of honest messages the verdict of one version, or refuses: never one that a mixture of them brings.
 abbrev pub AnswersHonest : Answers → ℕ → JudgeInput → Answer → Type 0
-AnswersHonest a k h answer = (versions : List Version) → AreHonest a k h versions → SaysOneOf h versions answer
+AnswersHonest a k h answer = (versions : List Version) → IsHonestInput a k h versions → SaysOneOf h versions answer
 
 -- ---- a zone that doesn't change
 
@@ -207,7 +207,7 @@ SaysAtMost h v (Refuses e) = Unit {0}
 
 -- all that was signed is of one version
 abbrev pub AreHonestOf : Answers → ℕ → JudgeInput → Version → Type 0
-AreHonestOf a k h v = AreHonest a k h (v ∷ [])
+AreHonestOf a k h v = IsHonestInput a k h (v ∷ [])
 
 -- of honest messages a judge says the zone's verdict, or refuses, whether or not signatures must be of one moment
 abbrev pub AnswersHonestOf : Answers → ℕ → JudgeInput → Answer → Type 0

@@ -4,8 +4,8 @@ use Rattle.definitions.specs.Name.{Name, same}
 use Rattle.definitions.specs.Dnskey.{Ds}
 use Rattle.definitions.specs.Zone.{Verdict, Unsigned}
 use Rattle.messages.specs.Message.{Asked, message}
-use Rattle.answer_shared.specs.Asking.{asks_alias, is_allowed}
-use Rattle.answer_shared.specs.EqualTags.{has_equal_tags}
+use Rattle.answer_terms.specs.Asking.{asks_alias, is_allowed}
+use Rattle.answer_terms.specs.EqualTags.{has_equal_tags}
 use Rattle.answer_judge_rules.specs.Rules.{verdict_of}
 use Rattle.answer_scheme.specs.Moments.{second_of}
 use Rattle.answer_judge.specs.declared.verdict.Refusal.{Refusal}

@@ -7,25 +7,25 @@ use Rattle.definitions.specs.Serial.{serial_le}
 use Rattle.definitions.specs.Zone.{verdict}
 use Rattle.definitions.specs.ZoneChain.{Mode, optout_of}
 use Rattle.messages.specs.HandedRr.{HandedRr}
-use Rattle.answer_shared.specs.Accepting.{sorted_records, zone_of}
+use Rattle.answer_terms.specs.Accepting.{sorted_records, zone_of}
 use Rattle.answer_scheme.specs.Answers.{Answers}
 use Rattle.answer_judge_keys.specs.Trusted.{is_usable}
-use Rattle.answer_shared.specs.Told.{TellsKeys, TellsAnswer}
+use Rattle.answer_terms.specs.Told.{TellsKeys, TellsAnswer}
 use Rattle.messages.specs.Handed.{IsHanded}
 use Rattle.answer_judge.specs.Judging.{Answer, Says, JudgeInput, Judges, answer_of, verifications_of, hashes_of}
-use Rattle.answer_shared.specs.Accepted.{IsAccepted}
-use Rattle.answer_shared.specs.Asking.{is_allowed}
-use Rattle.answer_shared.specs.EqualTags.{has_equal_tags}
+use Rattle.answer_terms.specs.Accepted.{IsAccepted}
+use Rattle.answer_terms.specs.Asking.{is_allowed}
+use Rattle.answer_terms.specs.EqualTags.{has_equal_tags}
 use Rattle.answer_judge.specs.declared.verdict.Judgement.{Judgement}
 use Rattle.answer_judge.specs.declared.verdict.Refused.{Refused}
 use Rattle.answer_judge.specs.Honest.{AnswersHonest}
 use Rattle.answer_judge.specs.Timely.{RefusesUntimely}
 use Rattle.answer_judge.specs.Judged.{AnswersAs, judged}
 use Rattle.answer_judge.specs.Due.{Counts, hashes_due, verifications_due}
-use Rattle.answer_shared.specs.Hashing.{HashesHold, served}
-use Rattle.answer_shared.specs.Served.{Served}
+use Rattle.answer_terms.specs.Hashing.{HashesHold, served}
+use Rattle.answer_terms.specs.Served.{Served}
 use Rattle.messages.specs.WrittenLaws.{IsQuestion}
-use Rattle.answer_shared.specs.ZoneView.{AcceptedZone}
+use Rattle.answer_terms.specs.ZoneView.{AcceptedZone}
 
 -- a DS record names the key, by a digest of a type that is made (RFC 4034, 5.1)
 pub record HasDs (a : Answers) (apex : Name) (ds : List Ds) (k : Dnskey) : Type 0 where

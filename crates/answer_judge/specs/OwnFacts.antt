@@ -8,13 +8,13 @@ use Rattle.denial_laws.specs.OwnFacts.{own_facts}
 use Rattle.messages.specs.Handed.{IsHanded}
 use Rattle.messages.specs.HandedRr.{HandedRr}
 use Rattle.messages.specs.Message.{Asked}
-use Rattle.answer_shared.specs.Accepting.{sorted_records, zone_of}
-use Rattle.answer_shared.specs.Accepted.{IsAccepted}
-use Rattle.answer_shared.specs.Hashing.{hash_in}
-use Rattle.answer_shared.specs.Asking.{is_allowed}
-use Rattle.answer_shared.specs.FactsCase.{low_facts}
-use Rattle.answer_shared.specs.Served.{answer_groups, served_of}
-use Rattle.answer_shared.specs.Told.{Tells}
+use Rattle.answer_terms.specs.Accepting.{sorted_records, zone_of}
+use Rattle.answer_terms.specs.Accepted.{IsAccepted}
+use Rattle.answer_terms.specs.Hashing.{hash_in}
+use Rattle.answer_terms.specs.Asking.{is_allowed}
+use Rattle.answer_terms.specs.FactsCase.{low_facts}
+use Rattle.answer_terms.specs.Served.{answer_groups, served_of}
+use Rattle.answer_terms.specs.Told.{Tells}
 use Rattle.answer_judge.specs.Meeting.{holds}
 use Rattle.answer_judge_facts.specs.Verified.{Trusting, verified_facts}
 

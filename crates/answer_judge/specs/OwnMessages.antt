@@ -8,7 +8,7 @@ use Rattle.messages.specs.HandedRr.{HandedRr}
 use Rattle.messages.specs.Message.{AreOctets}
 use Rattle.messages.specs.WrittenLaws.{IsQuestion}
 use Rattle.answer_scheme.specs.Answers.{Answers}
-use Rattle.answer_shared.specs.Told.{TellsKeys}
+use Rattle.answer_terms.specs.Told.{TellsKeys}
 use Rattle.answer_judge.specs.Judging.{JudgeInput}
 use Rattle.answer_judge_facts.specs.Verified.{Trusting}
 use Rattle.answer_judge.specs.Honest.{IsHonest, Signing, WasSigned, sought_of_answer, sought_of_keys}

@@ -7,8 +7,8 @@ use Rattle.definitions.specs.Signing.{Fields, in_time}
 use Rattle.definitions.specs.Name.{Name}
 use Rattle.std.specs.List.{AllByRecursion}
 use Rattle.messages.specs.Message.{AreOctets, Asked, Message, Spelled, message, rrsig_at}
-use Rattle.answer_shared.specs.Served.{Group}
-use Rattle.answer_shared.specs.Told.{Tells, octets_for}
+use Rattle.answer_terms.specs.Served.{ServedRrset}
+use Rattle.answer_terms.specs.Told.{Tells, octets_for}
 use Rattle.answer_scheme.specs.Answers.{Answers}
 use Rattle.answer_judge.specs.Honest.{IsHonest, Signing, WasSigned}
 use Rattle.answer_judge_facts.specs.Sought.{Sought}
@@ -54,13 +54,13 @@ abbrev pub PlainSchemeBinds : Type 0
 PlainSchemeBinds = (digest : ℕ → List ℕ → Option (List ℕ)) (hash : List ℕ → ℕ → ℕ → List ℕ → Option (List ℕ)) → Binds (plain_answers digest hash)
 
 -- each RRset that has signatures was signed, whichever key signs it
-abbrev pub AreSigned : (List ℕ → Type 0) → Name → ℕ → ℕ → List Group → Type 0
-AreSigned Signed apex at life groups = (g : Group) (key : Dnskey) → Contains groups g → g.signed ≡ true → Signed (octets_for apex at life g key)
+abbrev pub AreSigned : (List ℕ → Type 0) → Name → ℕ → ℕ → List ServedRrset → Type 0
+AreSigned Signed apex at life groups = (g : ServedRrset) (key : Dnskey) → Contains groups g → g.signed ≡ true → Signed (octets_for apex at life g key)
 
 -- Bytes that tell RRsets which were signed are such, whatever the case of owners, the TTLs and the compression; no RRset in it is
 -- one of signatures.
 abbrev pub ToldIsSpliced : Type 0
 ToldIsSpliced =
-    (a : Answers) (k now : ℕ) (published keys signers : List Dnskey) (signings : List Signing) (apex : Name) (at life : ℕ) (asked : Asked) (groups : List Group) (m : List ℕ)
+    (a : Answers) (k now : ℕ) (published keys signers : List Dnskey) (signings : List Signing) (apex : Name) (at life : ℕ) (asked : Asked) (groups : List ServedRrset) (m : List ℕ)
     → AllByRecursion (λ g. g.rtype ≡ 46 → ⊥) groups → AreSigned (WasSigned a apex keys signings) apex at life groups
     → Tells a.verifies k apex at life signers asked groups m → IsSpliced a k now published (WasSigned a apex keys signings) m

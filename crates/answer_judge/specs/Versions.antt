@@ -7,7 +7,7 @@ use Rattle.definitions.specs.Zone.{Zone, apex_of, data_at}
 use Rattle.definitions.specs.ZoneChain.{Mode, Nsec, Nsec3, parameters_of, nsec_names, nsec_next, nsec_types, hashed_names, nsec3_data}
 use Rattle.denial_laws.specs.Truth.{is_signed}
 use Rattle.messages.specs.HandedRr.{HandedRr}
-use Rattle.answer_shared.specs.Accepting.{zone_of}
+use Rattle.answer_terms.specs.Accepting.{zone_of}
 
 -- its records, and how its chain is made
 pub record Version : Type 0 where

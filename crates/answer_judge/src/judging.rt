@@ -11,8 +11,8 @@ ghost use Rattle.answer_judge.specs.Decided.{HashesDecided, HashesDecidedBeyond}
 ghost use Rattle.answer_judge.specs.Honest.{AnswersHonest};
 ghost use Rattle.answer_judge.specs.Timely.{RefusesUntimely};
 ghost use Rattle.answer_judge.specs.Judged.{judged, said, AnswersAs};
-ghost use Rattle.answer_judge.specs.Lasts.{LastsSo, lasting_in_bytes};
-ghost use Rattle.answer_judge_facts.specs.declared.lasting.Lasting.{Lasting};
+ghost use Rattle.answer_judge.specs.Lasts.{LastsSo, validity_in_bytes};
+ghost use Rattle.answer_judge_facts.specs.declared.validity.Validity.{Validity};
 ghost use Rattle.answer_judge.specs.Meeting.{AnswersGiven, JudgesSo};
 ghost use Rattle.answer_judge.specs.Judging.{Judges, RefusesFirst, answer_of, handed, verifications_of, hashes_of, is_first, is_judged, may_ask, message_refusal, same_question, hash_bound, verification_bound};
 ghost use Rattle.answer_scheme.specs.Answers.{EachAgreeing, SignatureTest, with_test};
@@ -26,11 +26,11 @@ mod trusting;
 use crate::case::Case;
 use crate::judging::deciding::judge_proof;
 use crate::judging::trusting::{keys_that_may_sign, read_proof, read_unlike_keys};
-use crate::verdict::{Judgement, Lasting, Refusal, Refused, Verdict};
+use crate::verdict::{Judgement, Refusal, Refused, Validity, Verdict};
 use answer_judge_keys::check_run::CheckRun;
 use answer_scheme::checks::Checks;
-use answer_shared::question::asks_alias;
-pub use answer_shared::question::is_allowed;
+use answer_terms::question::asks_alias;
+pub use answer_terms::question::is_allowed;
 use denial_data::Ds;
 use denial_fields::unix_time::UnixTime;
 use messages::error::MessageError;
@@ -149,19 +149,19 @@ impl<'a> Case<'a> {
                 verdict: Verdict::Unsigned,
                 verifications: 0,
                 hashes: 0,
-                lasting: None,
+                validity: None,
             });
         }
         let mut octets = Vec::new(alloc);
         let mut check_run = CheckRun::new(alloc, checks, &mut octets);
         let mut hashes = 0;
-        let mut lasting = None;
-        match judge_messages(self, &mut check_run, &mut hashes, &mut lasting) {
+        let mut validity = None;
+        match judge_messages(self, &mut check_run, &mut hashes, &mut validity) {
             Ok(verdict) => Ok(Judgement {
                 verdict,
                 verifications: check_run.count,
                 hashes,
-                lasting,
+                validity,
             }),
             Err(refusal) => Err(Refused {
                 refusal,
@@ -196,7 +196,7 @@ fn judge_messages<C: Checks>(
     case: &Case,
     check_run: &mut CheckRun<C>,
     hashes: &mut u32,
-    lasting: &mut Option<Lasting>,
+    validity: &mut Option<Validity>,
 ) -> Result<Verdict, Refusal>
     requires counts { check_run.old.count ≡ 0 }
     requires none_hashed { hashes.old ≡ 0 }
@@ -211,7 +211,7 @@ fn judge_messages<C: Checks>(
     ensures verdict { OnOk result (message_refusal pointer_limit case.now ≡ None) }
     ensures lasts { EachAgreeing (C.answers check_run.old.checks.now)
         (C.agrees check_run.new.checks.now)
-        (λ a. OnOk result (lasting.new ≡ lasting_in_bytes a pointer_limit case.now)) }
+        (λ a. OnOk result (validity.new ≡ validity_in_bytes a pointer_limit case.now)) }
     ensures refusal { IfErr result
         (λ e. RefusesFirst e (message_refusal pointer_limit case.now)) }
     ensures bound { check_run.new.count ≤ verification_bound pointer_limit case.now }
@@ -234,19 +234,19 @@ fn judge_messages<C: Checks>(
     let mut seconds = 0;
     let usable = keys_that_may_sign(case, &messages.key_records, keys, check_run, &mut seconds)?;
     let proof = read_proof(&*case, &messages.answer_records, &usable, check_run)?;
-    *lasting = Some(shortened(proof.lasting, seconds));
+    *validity = Some(shortened(proof.validity, seconds));
     judge_proof(alloc, case, proof, check_run.checks, hashes)
 }
 
 /// How long something lasts that lasts for no more than some seconds.
-fn shortened(lasting: Lasting, seconds: u32) -> Lasting
-    ensures { let is : Lasting =
-        record { ttl = lasting.ttl; seconds = min seconds lasting.seconds } in
+fn shortened(validity: Validity, seconds: u32) -> Validity
+    ensures { let is : Validity =
+        record { ttl = validity.ttl; seconds = min seconds validity.seconds } in
         result ≡ is }
 {
-    Lasting {
-        ttl: lasting.ttl,
-        seconds: seconds.min(lasting.seconds),
+    Validity {
+        ttl: validity.ttl,
+        seconds: seconds.min(validity.seconds),
     }
 }
 

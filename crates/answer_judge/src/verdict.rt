@@ -2,7 +2,7 @@
 ghost use Rattle.std.specs.Prelude.{◌≡◌};
 ghost use Rattle.answer_judge.specs.declared.verdict.Refusal.TheVariants.{Memory};
 
-pub use answer_judge_facts::lasting::Lasting;
+pub use answer_judge_facts::validity::Validity;
 pub use answer_judge_rules::verdict::{DataList, Verdict};
 use denial_nsec3_hash::hasher::HashError;
 use std::alloc::AllocError;
@@ -80,7 +80,7 @@ pub struct Judgement {
     pub hashes: u32,
     /// How long the verdict lasts. Beside an empty DS set nothing is verified, and nothing says how
     /// long that lasts.
-    pub lasting: Option<Lasting>,
+    pub validity: Option<Validity>,
 }
 
 /// A refusal, and how often `verify` and `hash` were called.

@@ -20,7 +20,7 @@ use Rattle.messages.specs.Message.{Spelled, canonical_data}
 use Rattle.answer_judge_facts.specs.Marked.{AreGathered, IsAlone, IsGathered, has_place, holds_one, is_chain, is_chain_type, is_of, stands_alone}
 use Rattle.answer_judge_facts.specs.Ranked.{AreRanked, IsRun, alike_len, are_alike, chain_cmp, place_of, run_data, sought_cmp, type_rank}
 use Rattle.answer_judge_facts.specs.Verified.{datum_of, rrset_in}
-use Rattle.answer_judge_facts.specs.declared.groups.Group.{Group}
+use Rattle.answer_judge_facts.specs.declared.groups.SignedRrset.{SignedRrset}
 use Rattle.answer_judge_facts.proofs.JudgeFacts.{alone_is, alone_owner}
 use Rattle.answer_judge_facts.proofs.JudgeGathered.{all_push, any_kept, any_push, same_swap}
 use Rattle.answer_judge_facts.proofs.JudgeMarks.{are_apart, is_like}
@@ -175,14 +175,14 @@ all_joined P (x ∷ xs) ys h k = (h.0, all_joined P xs ys h.1 k)
 -- ---- groups run by run
 
 -- what was gathered of the records done, and what is left of those in order
-pub record Gathering (m : List ℕ) (apex : Name) (rs left : List Spelled) (gs : List Group) : Type 0 where
+pub record Gathering (m : List ℕ) (apex : Name) (rs left : List Spelled) (gs : List SignedRrset) : Type 0 where
   pub done : List Spelled
   pub whole : done ++ left ≡ rs
   pub sorted : IsUp left
   pub chain : AllByRecursion (λ r. is_chain r ≡ true) left
   pub below : AllByRecursion (λ d. AllByRecursion (λ r. chain_cmp d r ≡ Less) left) done
   pub ranked : AreRanked gs
-  pub under : AllByRecursion (λ (g : Group). AllByRecursion (λ r. sought_cmp (place_of g) (r.rtype, r.owner) ≡ Less) left) gs
+  pub under : AllByRecursion (λ (g : SignedRrset). AllByRecursion (λ r. sought_cmp (place_of g) (r.rtype, r.owner) ≡ Less) left) gs
   pub each : AllByRecursion (IsAlone m apex rs) gs
   pub all : AllByRecursion (IsGathered m apex rs gs) done
 
@@ -199,19 +199,19 @@ nothing_yet m apex rs c s = record {
   all = tt;
 }
 
-like_equal : (a b : Group) → is_like a b ≡ true → sought_cmp (place_of a) (place_of b) ≡ Equal
+like_equal : (a b : SignedRrset) → is_like a b ≡ true → sought_cmp (place_of a) (place_of b) ≡ Equal
 like_equal a b h =
     let p = and_parts (a.rtype == b.rtype) (same a.owner b.owner) h in
     let types : nat_cmp (type_rank a.rtype) (type_rank b.rtype) ≡ Equal = ap (λ t. nat_cmp (type_rank a.rtype) (type_rank t)) (sym (eqb-true a.rtype b.rtype p.0)) ∙ tied_itself nat_cmp_total (type_rank a.rtype) in
     (λ i. ordering_then (types i) (same_is_equal a.owner b.owner p.1 i))
 
-pub ranked_apart : (gs : List Group) → AreRanked gs → are_apart gs ≡ true
+pub ranked_apart : (gs : List SignedRrset) → AreRanked gs → are_apart gs ≡ true
 ranked_apart [] s = refl
 ranked_apart (g ∷ gs) s =
     let p = apart_parts place_of sought_cmp sought_total is_like like_equal g gs s in
     (λ i. not (p.0 i) && ranked_apart gs p.1 i)
 
-pub all_gathered : (m : List ℕ) (apex : Name) (rs : List Spelled) (gs : List Group) → Gathering m apex rs [] gs → AreGathered m apex rs rs gs
+pub all_gathered : (m : List ℕ) (apex : Name) (rs : List Spelled) (gs : List SignedRrset) → Gathering m apex rs [] gs → AreGathered m apex rs rs gs
 all_gathered m apex rs gs c =
     let done : c.done ≡ rs = sym (append-nil c.done) ∙ c.whole in
     record {
@@ -238,7 +238,7 @@ all_parts : {X Y : Type 0} (P : X → Y → Type 0) (ys zs : List Y) → ((Q : Y
 all_parts P ys zs f [] h = tt
 all_parts P ys zs f (x ∷ xs) h = (f (P x) h.0, all_parts P ys zs f xs h.1)
 
-module _ (m : List ℕ) (apex : Name) (rs : List Spelled) (r : Spelled) (others : List Spelled) (gs : List Group) (now : Gathering m apex rs (r ∷ others) gs) where
+module _ (m : List ℕ) (apex : Name) (rs : List Spelled) (r : Spelled) (others : List Spelled) (gs : List SignedRrset) (now : Gathering m apex rs (r ∷ others) gs) where
   abbrev run : List Spelled
   run = r ∷ take (alike_len r others) others
 
@@ -288,8 +288,8 @@ module _ (m : List ℕ) (apex : Name) (rs : List Spelled) (r : Spelled) (others 
       (all_parts (λ d s. chain_cmp d s ≡ Less) (r ∷ others) behind (λ Q h. (all_split Q (alike_len r others) others h.1).1) now.done now.below)
       (all_more (λ d. are_alike r d ≡ true) (λ d. AllByRecursion (λ s. chain_cmp d s ≡ Less) behind) run (λ d a. all_more (λ s. chain_cmp r s ≡ Less) (λ s. chain_cmp d s ≡ Less) behind (λ s e. less_alike d r s (alike_swap r d a) e) greater) front)
 
-  under_less : AllByRecursion (λ (g : Group). AllByRecursion (λ s. sought_cmp (place_of g) (s.rtype, s.owner) ≡ Less) behind) gs
-  under_less = all_parts (λ (g : Group) s. sought_cmp (place_of g) (s.rtype, s.owner) ≡ Less) (r ∷ others) behind (λ Q h. (all_split Q (alike_len r others) others h.1).1) gs now.under
+  under_less : AllByRecursion (λ (g : SignedRrset). AllByRecursion (λ s. sought_cmp (place_of g) (s.rtype, s.owner) ≡ Less) behind) gs
+  under_less = all_parts (λ (g : SignedRrset) s. sought_cmp (place_of g) (s.rtype, s.owner) ≡ Less) (r ∷ others) behind (λ Q h. (all_split Q (alike_len r others) others h.1).1) gs now.under
 
   -- where the run is no RRset that stands alone
   pub run_none : (has_place r.rtype apex r.owner && holds_one r.rtype (run_data m run)) ≡ false → Gathering m apex rs behind gs
@@ -309,7 +309,7 @@ module _ (m : List ℕ) (apex : Name) (rs : List Spelled) (r : Spelled) (others 
       moved d a = let p = alike_parts r d a in ap (λ t. stands_alone m apex rs t d.owner) (sym p.0) ∙ alone_owner m rs apex r.rtype r.owner d.owner p.1
 
   -- and where it is one
-  module _ (g : Group) (is : IsRun m apex r (run_data m run) g) where
+  module _ (g : SignedRrset) (is : IsRun m apex r (run_data m run) g) where
     alone : stands_alone m apex rs r.rtype r.owner ≡ true
     alone = stands_is ∙ (λ i. is.place i && is.held i)
 
@@ -328,8 +328,8 @@ module _ (m : List ℕ) (apex : Name) (rs : List Spelled) (r : Spelled) (others 
     place_is : place_of g ≡ (r.rtype, r.owner)
     place_is = (λ i. (is.rtype i, is.owner i))
 
-    above_all : AllByRecursion (λ (x : Group). sought_cmp (place_of x) (place_of g) ≡ Less) gs
-    above_all = all_more (λ (x : Group). AllByRecursion (λ s. sought_cmp (place_of x) (s.rtype, s.owner) ≡ Less) (r ∷ others)) (λ (x : Group). sought_cmp (place_of x) (place_of g) ≡ Less) gs (λ x h. ap (sought_cmp (place_of x)) place_is ∙ h.0) now.under
+    above_all : AllByRecursion (λ (x : SignedRrset). sought_cmp (place_of x) (place_of g) ≡ Less) gs
+    above_all = all_more (λ (x : SignedRrset). AllByRecursion (λ s. sought_cmp (place_of x) (s.rtype, s.owner) ≡ Less) (r ∷ others)) (λ (x : SignedRrset). sought_cmp (place_of x) (place_of g) ≡ Less) gs (λ x h. ap (sought_cmp (place_of x)) place_is ∙ h.0) now.under
 
     pub run_more : Gathering m apex rs behind (gs ++ g ∷ [])
     run_more = record {
@@ -339,7 +339,7 @@ module _ (m : List ℕ) (apex : Name) (rs : List Spelled) (r : Spelled) (others 
       chain = split_chain.1;
       below = below_more;
       ranked = ranked_push place_of sought_cmp sought_total gs g now.ranked above_all;
-      under = all_push (λ (x : Group). AllByRecursion (λ s. sought_cmp (place_of x) (s.rtype, s.owner) ≡ Less) behind) gs g under_less (subst (λ p. AllByRecursion (λ s. sought_cmp p (s.rtype, s.owner) ≡ Less) behind) (sym place_is) (all_less r behind now.chain.0 split_chain.1 greater));
+      under = all_push (λ (x : SignedRrset). AllByRecursion (λ s. sought_cmp (place_of x) (s.rtype, s.owner) ≡ Less) behind) gs g under_less (subst (λ p. AllByRecursion (λ s. sought_cmp p (s.rtype, s.owner) ≡ Less) behind) (sym place_is) (all_less r behind now.chain.0 split_chain.1 greater));
       each = all_push (IsAlone m apex rs) gs g now.each is_alone;
       all = all_joined (IsGathered m apex rs (gs ++ g ∷ [])) now.done run
           (all_more (IsGathered m apex rs gs) (IsGathered m apex rs (gs ++ g ∷ [])) now.done (λ d f c s. any_kept (is_of d.owner d.rtype) gs g (f c s)) now.all)

@@ -9,7 +9,7 @@ use Rattle.messages.specs.Record.{spelled}
 use Rattle.messages.specs.declared.view.ViewRecord.{ViewRecord}
 use Rattle.answer_judge_facts.specs.Marked.{has_place, holds_one, is_chain_type}
 use Rattle.answer_judge_facts.specs.Ranked.{IsRun, alike_len, are_alike, run_data}
-use Rattle.answer_judge_facts.specs.declared.groups.Group.{Group}
+use Rattle.answer_judge_facts.specs.declared.groups.SignedRrset.{SignedRrset}
 use Rattle.answer_judge_facts.proofs.ChainRuns.{Gathering, run_front, run_more, run_none}
 use Rattle.messages.proofs.Lists.{items_from}
 
@@ -50,7 +50,7 @@ types : (r : Spelled) (vs : List ViewRecord) → AllByRecursion (λ (v : ViewRec
 types r [] h = tt
 types r (v ∷ vs) h = (sym (eqb-true r.rtype v.rtype (and_parts _ (same r.owner v.owner) h.0).0), types r vs h.1)
 
-module _ (m : List ℕ) (apex : Name) (vs : List ViewRecord) (i : ℕ) (v : ViewRecord) (gs : List Group) (inside : i < length vs) (is : v ≡ get_or vs i v) (now : Gathering m apex (map spelled vs) (map spelled (drop i vs)) gs) (end : ℕ) (ends : end ≡ i + 1 + alike_len (spelled v) (map spelled (drop (i + 1) vs))) where
+module _ (m : List ℕ) (apex : Name) (vs : List ViewRecord) (i : ℕ) (v : ViewRecord) (gs : List SignedRrset) (inside : i < length vs) (is : v ≡ get_or vs i v) (now : Gathering m apex (map spelled vs) (map spelled (drop i vs)) gs) (end : ℕ) (ends : end ≡ i + 1 + alike_len (spelled v) (map spelled (drop (i + 1) vs))) where
   abbrev others : List Spelled
   others = map spelled (drop (i + 1) vs)
 
@@ -88,7 +88,7 @@ module _ (m : List ℕ) (apex : Name) (vs : List ViewRecord) (i : ℕ) (v : View
       subst (λ ss. Gathering m apex (map spelled vs) ss gs) (sym behind_is)
       (run_none m apex (map spelled vs) (spelled v) others gs state (ap (λ ss. has_place v.rtype apex v.owner && holds_one v.rtype (run_data m ss)) (sym run_is) ∙ fails))
 
-  pub step_more : (g : Group) → IsRun m apex (spelled v) (run_data m (map spelled (take (end - i) (drop i vs)))) g → Gathering m apex (map spelled vs) (map spelled (drop end vs)) (gs ++ g ∷ [])
+  pub step_more : (g : SignedRrset) → IsRun m apex (spelled v) (run_data m (map spelled (take (end - i) (drop i vs)))) g → Gathering m apex (map spelled vs) (map spelled (drop end vs)) (gs ++ g ∷ [])
   step_more g made =
       subst (λ ss. Gathering m apex (map spelled vs) ss (gs ++ g ∷ [])) (sym behind_is)
       (run_more m apex (map spelled vs) (spelled v) others gs state g (subst (λ ss. IsRun m apex (spelled v) (run_data m ss) g) run_is made))

@@ -22,8 +22,8 @@ use Rattle.messages.specs.declared.view.ViewRecord.{ViewRecord}
 use Rattle.answer_judge_facts.specs.Marked.{AreGathered, IsAlone, IsGathered, is_chain, is_chain_type, stands_alone}
 use Rattle.answer_judge_facts.specs.Ranked.{chain_cmp}
 use Rattle.answer_judge_facts.specs.Verified.{datum_of, one_known, rrset_in}
-use Rattle.answer_shared.specs.HashOwner.{spells_hash}
-use Rattle.answer_judge_facts.specs.declared.groups.Group.{Group}
+use Rattle.answer_terms.specs.HashOwner.{spells_hash}
+use Rattle.answer_judge_facts.specs.declared.groups.SignedRrset.{SignedRrset}
 use Rattle.answer_judge_facts.proofs.ChainRuns.{chain_total}
 use Rattle.answer_judge_keys.proofs.GivenSorted.{all_has}
 use Rattle.answer_judge_facts.proofs.JudgeFacts.{chain_type}
@@ -123,7 +123,7 @@ module _ (m : List ℕ) (apex : Name) (rs ys : List Spelled) (moved : IsPermutat
   alone_same : (t : ℕ) (o : Name) → stands_alone m apex ys t o ≡ stands_alone m apex rs t o
   alone_same t o = (λ i. ((47 == t) && (at_or_above apex o && (length (rrset_same o 47 refl i) == 1))) || ((50 == t) && (spells_hash apex o && one_known (rrset_same o 50 refl i))))
 
-  each_same : (g : Group) → IsAlone m apex ys g → IsAlone m apex rs g
+  each_same : (g : SignedRrset) → IsAlone m apex ys g → IsAlone m apex rs g
   each_same g a = record {
     data_are = a.data_are ∙ rrset_same g.owner g.rtype (chain_type m apex ys g.rtype g.owner a.alone);
     alone = sym (alone_same g.rtype g.owner) ∙ a.alone;
@@ -131,7 +131,7 @@ module _ (m : List ℕ) (apex : Name) (rs ys : List Spelled) (moved : IsPermutat
   }
 
   -- what was gathered of them was gathered of the message
-  pub gathered_whole : (gs : List Group) → AreGathered m apex ys ys gs → AreGathered m apex rs rs gs
+  pub gathered_whole : (gs : List SignedRrset) → AreGathered m apex ys ys gs → AreGathered m apex rs rs gs
   gathered_whole gs a = record {
     each = all_more (IsAlone m apex ys) (IsAlone m apex rs) gs each_same a.each;
     all = all_has (IsGathered m apex rs gs) rs (λ r h c s. all_at (IsGathered m apex ys gs) ys r a.all (to_has ys r (chained r (to_in rs r h) c)) c (alone_same r.rtype r.owner ∙ s));

@@ -8,13 +8,13 @@ use Rattle.std.proofs.lemmas.Bool.{and_parts, eqb-true}
 use Rattle.definitions.proofs.Members.{both_ways}
 use Rattle.definitions.specs.Name.{Name, low, same, at_or_above}
 use Rattle.definitions.specs.Limits.{pointer_limit}
-use Rattle.answer_judge_facts.specs.declared.groups.Group.{Group}
+use Rattle.answer_judge_facts.specs.declared.groups.SignedRrset.{SignedRrset}
 use Rattle.answer_judge_facts.specs.declared.groups.Signed.{Signed}
 use Rattle.denial_laws.specs.Facts.{HashLink, Link, Rrset}
 use Rattle.messages.specs.Message.{Spelled, nsec3_at}
 use Rattle.answer_judge_facts.specs.Sought.{is_alone}
 use Rattle.answer_judge_facts.specs.Verified.{Trusting, hash_link_at, hash_link_with, is_hash_alone, is_hash_link, is_verified, link_at, link_of, one_known, rrset_in, verified_by, verified_facts, verified_hash_links, verified_links, verified_rrset}
-use Rattle.answer_shared.specs.HashOwner.{spells_hash}
+use Rattle.answer_terms.specs.HashOwner.{spells_hash}
 use Rattle.answer_judge_facts.specs.Marked.{data_in, has_place, hash_link_by, hash_link_of, holds_one, is_chain, is_chain_type, is_of, is_proved, is_record_of, stands_alone, marked, IsAlone, IsGathered, AreGathered, facts_by, link_by, or_first, rrset_verified, signed_of}
 use Rattle.answer_judge_facts.specs.Ranked.{AskedLast}
 use Rattle.std.proofs.lemmas.List.{map-append}
@@ -54,7 +54,7 @@ signed_labels ds None = refl
 signed_labels ds (Some f) = refl
 
 -- the RRset that was asked for, with the labels of its first signature
-asked_rrset : (w : Trusting) (m : List ℕ) (rs : List Spelled) (g : Group) (owner : Name) (t : ℕ) → g.owner ≡ owner → g.rtype ≡ t → data_in g ≡ rrset_in pointer_limit m rs owner t → g.verified ≡ None → rrset_verified (Some (marked w m rs g)) ≡ verified_rrset w pointer_limit m rs owner t
+asked_rrset : (w : Trusting) (m : List ℕ) (rs : List Spelled) (g : SignedRrset) (owner : Name) (t : ℕ) → g.owner ≡ owner → g.rtype ≡ t → data_in g ≡ rrset_in pointer_limit m rs owner t → g.verified ≡ None → rrset_verified (Some (marked w m rs g)) ≡ verified_rrset w pointer_limit m rs owner t
 asked_rrset w m rs g owner t o r d v =
     (λ i. option_map (λ (s : Signed). with_labels (d i) s.labels) (or_first (v i) (option_map signed_of (verified_by w pointer_limit m rs (o i) (r i) (d i)))))
     ∙ signed_labels (rrset_in pointer_limit m rs owner t) (verified_by w pointer_limit m rs owner t (rrset_in pointer_limit m rs owner t))
@@ -62,7 +62,7 @@ asked_rrset w m rs g owner t o r d v =
 -- ---- links
 
 -- a group of the owner is verified where the owner's RRset is
-marked_owner : (w : Trusting) (m : List ℕ) (rs : List Spelled) (apex : Name) (o : Name) (t : ℕ) (g : Group) → IsAlone m apex rs g → is_of o t g ≡ true → is_some (marked w m rs g).verified ≡ is_verified w pointer_limit m rs o t (rrset_in pointer_limit m rs o t)
+marked_owner : (w : Trusting) (m : List ℕ) (rs : List Spelled) (apex : Name) (o : Name) (t : ℕ) (g : SignedRrset) → IsAlone m apex rs g → is_of o t g ≡ true → is_some (marked w m rs g).verified ≡ is_verified w pointer_limit m rs o t (rrset_in pointer_limit m rs o t)
 marked_owner w m rs apex o t g a s =
     let p = and_parts (g.rtype == t) (same o g.owner) s in
     let e : low g.owner ≡ low o = sym (same_labels (low o) (low g.owner) p.1) in
@@ -81,12 +81,12 @@ alone_owner m rs apex t a b s =
     (λ i. ((47 == t) && (above-owner apex b a e i && (length (rrset_in-owner pointer_limit m rs b a 47 e i) == 1))) || ((50 == t) && (spells-owner apex b a e i && one_known (rrset_in-owner pointer_limit m rs b a 50 e i))))
 
 -- a group of an owner and a type stands alone
-pub group_alone : (m : List ℕ) (rs : List Spelled) (apex : Name) (o : Name) (t : ℕ) (g : Group) → IsAlone m apex rs g → is_of o t g ≡ true → stands_alone m apex rs t o ≡ true
+pub group_alone : (m : List ℕ) (rs : List Spelled) (apex : Name) (o : Name) (t : ℕ) (g : SignedRrset) → IsAlone m apex rs g → is_of o t g ≡ true → stands_alone m apex rs t o ≡ true
 group_alone m rs apex o t g a s =
     let p = and_parts (g.rtype == t) (same o g.owner) s in
     sym (alone_owner m rs apex t o g.owner p.1) ∙ ap (λ n. stands_alone m apex rs n g.owner) (sym (eqb-true g.rtype t p.0)) ∙ a.alone
 
-proved_of : (w : Trusting) (m : List ℕ) (rs : List Spelled) (apex : Name) (gs : List Group) (o : Name) (t : ℕ) → AllByRecursion (IsAlone m apex rs) gs → list_any (λ g. is_proved o t (marked w m rs g)) gs ≡ true
+proved_of : (w : Trusting) (m : List ℕ) (rs : List Spelled) (apex : Name) (gs : List SignedRrset) (o : Name) (t : ℕ) → AllByRecursion (IsAlone m apex rs) gs → list_any (λ g. is_proved o t (marked w m rs g)) gs ≡ true
     → (stands_alone m apex rs t o && is_verified w pointer_limit m rs o t (rrset_in pointer_limit m rs o t)) ≡ true
 proved_of w m rs apex gs o t each h =
     let f = found (λ g. is_proved o t (marked w m rs g)) gs h in
@@ -97,7 +97,7 @@ proved_of w m rs apex gs o t each h =
     let v = sym (marked_owner w m rs apex o t g alone p.1) ∙ p.0 in
     (λ i. a i && v i)
 
-proved_by : (w : Trusting) (m : List ℕ) (rs : List Spelled) (apex : Name) (gs : List Group) (o : Name) (t : ℕ) → AllByRecursion (IsAlone m apex rs) gs → (stands_alone m apex rs t o ≡ true → list_any (is_of o t) gs ≡ true)
+proved_by : (w : Trusting) (m : List ℕ) (rs : List Spelled) (apex : Name) (gs : List SignedRrset) (o : Name) (t : ℕ) → AllByRecursion (IsAlone m apex rs) gs → (stands_alone m apex rs t o ≡ true → list_any (is_of o t) gs ≡ true)
     → (stands_alone m apex rs t o && is_verified w pointer_limit m rs o t (rrset_in pointer_limit m rs o t)) ≡ true → list_any (λ g. is_proved o t (marked w m rs g)) gs ≡ true
 proved_by w m rs apex gs o t each has h =
     let p = and_parts (stands_alone m apex rs t o) (is_verified w pointer_limit m rs o t (rrset_in pointer_limit m rs o t)) h in
@@ -124,7 +124,7 @@ under_test true x y f = f refl
 under_test false x y f = refl
 
 -- a record's owner has a verified group of its type where its RRset stands alone and is verified
-any_proved : (w : Trusting) (m : List ℕ) (rs : List Spelled) (gs : List Group) (r : Spelled) (t : ℕ) → is_chain_type t ≡ true → AllByRecursion (IsAlone m w.apex rs) gs → IsGathered m w.apex rs gs r → is_record_of t r ≡ true
+any_proved : (w : Trusting) (m : List ℕ) (rs : List Spelled) (gs : List SignedRrset) (r : Spelled) (t : ℕ) → is_chain_type t ≡ true → AllByRecursion (IsAlone m w.apex rs) gs → IsGathered m w.apex rs gs r → is_record_of t r ≡ true
     → list_any (is_proved r.owner t) (map (marked w m rs) gs) ≡ (stands_alone m w.apex rs t r.owner && is_verified w pointer_limit m rs r.owner t (rrset_in pointer_limit m rs r.owner t))
 any_proved w m rs gs r t chain each has n =
     let p = and_parts (r.rtype == t) (r.class == 1) n in
@@ -136,18 +136,18 @@ any_proved w m rs gs r t chain each has n =
     ∙ both_ways _ _ (proved_of w m rs w.apex gs r.owner t each) (proved_by w m rs w.apex gs r.owner t each gathered)
 
 -- a record's link by the groups is its link by what is verified
-link_same : (w : Trusting) (m : List ℕ) (rs : List Spelled) (gs : List Group) (r : Spelled) → AllByRecursion (IsAlone m w.apex rs) gs → IsGathered m w.apex rs gs r → link_by m (map (marked w m rs) gs) r ≡ link_at w pointer_limit m rs r
+link_same : (w : Trusting) (m : List ℕ) (rs : List Spelled) (gs : List SignedRrset) (r : Spelled) → AllByRecursion (IsAlone m w.apex rs) gs → IsGathered m w.apex rs gs r → link_by m (map (marked w m rs) gs) r ≡ link_at w pointer_limit m rs r
 link_same w m rs gs r each has =
     let test = under_test (is_record_of 47 r) _ _ (any_proved w m rs gs r 47 refl each has)
     ∙ and_regroup (r.rtype == 47) (r.class == 1) (at_or_above w.apex r.owner) (length (rrset_in pointer_limit m rs r.owner 47) == 1) (is_verified w pointer_limit m rs r.owner 47 (rrset_in pointer_limit m rs r.owner 47)) in
     ap (λ (b : Bool). elim b as (λ _. Option Link) [ true ↦ link_of pointer_limit m r | false ↦ None ]) test
 
-links_same : (w : Trusting) (m : List ℕ) (rs some : List Spelled) (gs : List Group) → AllByRecursion (IsAlone m w.apex rs) gs → AllByRecursion (IsGathered m w.apex rs gs) some → filter_map (link_by m (map (marked w m rs) gs)) some ≡ filter_map (link_at w pointer_limit m rs) some
+links_same : (w : Trusting) (m : List ℕ) (rs some : List Spelled) (gs : List SignedRrset) → AllByRecursion (IsAlone m w.apex rs) gs → AllByRecursion (IsGathered m w.apex rs gs) some → filter_map (link_by m (map (marked w m rs) gs)) some ≡ filter_map (link_at w pointer_limit m rs) some
 links_same w m rs [] gs each has = refl
 links_same w m rs (r ∷ some) gs each has = (λ i. cons_option (link_same w m rs gs r each has.0 i) (links_same w m rs some gs each has.1 i))
 
 -- the links by the groups are those of the message
-links_verified : (w : Trusting) (m : List ℕ) (rs : List Spelled) (gs : List Group) → AreGathered m w.apex rs rs gs → filter_map (link_by m (map (marked w m rs) gs)) rs ≡ verified_links w pointer_limit m rs
+links_verified : (w : Trusting) (m : List ℕ) (rs : List Spelled) (gs : List SignedRrset) → AreGathered m w.apex rs rs gs → filter_map (link_by m (map (marked w m rs) gs)) rs ≡ verified_links w pointer_limit m rs
 links_verified w m rs gs a = links_same w m rs rs gs a.each a.all
 
 -- ---- links of hashes
@@ -164,7 +164,7 @@ spells_of w m rs r h =
     let stands = (and_parts ((r.rtype == 50) && (r.class == 1)) alone front).1 in
     (and_parts (spells_hash w.apex r.owner) (one_known (rrset_in pointer_limit m rs r.owner 50)) stands).0
 
-hash_link_same : (w : Trusting) (m : List ℕ) (rs : List Spelled) (gs : List Group) (r : Spelled) → AllByRecursion (IsAlone m w.apex rs) gs → IsGathered m w.apex rs gs r → hash_link_by w.apex m (map (marked w m rs) gs) r ≡ hash_link_at w pointer_limit m rs r
+hash_link_same : (w : Trusting) (m : List ℕ) (rs : List Spelled) (gs : List SignedRrset) (r : Spelled) → AllByRecursion (IsAlone m w.apex rs) gs → IsGathered m w.apex rs gs r → hash_link_by w.apex m (map (marked w m rs) gs) r ≡ hash_link_at w pointer_limit m rs r
 hash_link_same w m rs gs r each has =
     let test : (is_record_of 50 r && list_any (is_proved r.owner 50) (map (marked w m rs) gs)) ≡ is_hash_link w pointer_limit m rs r =
     under_test (is_record_of 50 r) _ _ (any_proved w m rs gs r 50 refl each has)
@@ -172,12 +172,12 @@ hash_link_same w m rs gs r each has =
     ap (λ (b : Bool). elim b as (λ _. Option HashLink) [ true ↦ hash_link_of w.apex m r | false ↦ None ]) test
     ∙ inner_test (is_hash_link w pointer_limit m rs r) (spells_hash w.apex r.owner) (option_map (hash_link_with r.owner) (nsec3_at m r)) (spells_of w m rs r)
 
-hash_links_same : (w : Trusting) (m : List ℕ) (rs some : List Spelled) (gs : List Group) → AllByRecursion (IsAlone m w.apex rs) gs → AllByRecursion (IsGathered m w.apex rs gs) some
+hash_links_same : (w : Trusting) (m : List ℕ) (rs some : List Spelled) (gs : List SignedRrset) → AllByRecursion (IsAlone m w.apex rs) gs → AllByRecursion (IsGathered m w.apex rs gs) some
     → filter_map (hash_link_by w.apex m (map (marked w m rs) gs)) some ≡ filter_map (hash_link_at w pointer_limit m rs) some
 hash_links_same w m rs [] gs each has = refl
 hash_links_same w m rs (r ∷ some) gs each has = (λ i. cons_option (hash_link_same w m rs gs r each has.0 i) (hash_links_same w m rs some gs each has.1 i))
 
-hash_links_verified : (w : Trusting) (m : List ℕ) (rs : List Spelled) (gs : List Group) → AreGathered m w.apex rs rs gs → filter_map (hash_link_by w.apex m (map (marked w m rs) gs)) rs ≡ verified_hash_links w pointer_limit m rs
+hash_links_verified : (w : Trusting) (m : List ℕ) (rs : List Spelled) (gs : List SignedRrset) → AreGathered m w.apex rs rs gs → filter_map (hash_link_by w.apex m (map (marked w m rs) gs)) rs ≡ verified_hash_links w pointer_limit m rs
 hash_links_verified w m rs gs a = hash_links_same w m rs rs gs a.each a.all
 
 -- ---- the last group is taken off
@@ -211,10 +211,10 @@ module _ {X : Type 0} (xs : List X) (y : X) (all : List X) (n : ℕ) (e : all �
 -- ---- all facts
 
 -- groups that are marked, the one that was asked for still behind the others
-pub marked_last : (w : Trusting) (m : List ℕ) (rs : List Spelled) (q : Name) (t : ℕ) (gs : List Group) (l : AskedLast m w.apex rs q t gs) → map (marked w m rs) gs ≡ map (marked w m rs) l.chains ++ marked w m rs l.asked ∷ []
+pub marked_last : (w : Trusting) (m : List ℕ) (rs : List Spelled) (q : Name) (t : ℕ) (gs : List SignedRrset) (l : AskedLast m w.apex rs q t gs) → map (marked w m rs) gs ≡ map (marked w m rs) l.chains ++ marked w m rs l.asked ∷ []
 marked_last w m rs q t gs l = ap (map (marked w m rs)) l.are ∙ map-append (marked w m rs) l.chains (l.asked ∷ [])
 
-pub facts_verified : (w : Trusting) (m : List ℕ) (rs : List Spelled) (q : Name) (t : ℕ) (gs : List Group) (l : AskedLast m w.apex rs q t gs) → facts_by w.apex m rs (map (marked w m rs) l.chains) (marked w m rs l.asked) ≡ verified_facts w pointer_limit m rs q t
+pub facts_verified : (w : Trusting) (m : List ℕ) (rs : List Spelled) (q : Name) (t : ℕ) (gs : List SignedRrset) (l : AskedLast m w.apex rs q t gs) → facts_by w.apex m rs (map (marked w m rs) l.chains) (marked w m rs l.asked) ≡ verified_facts w pointer_limit m rs q t
 facts_verified w m rs q t gs l = λ i. record {
   rrset = asked_rrset w m rs l.asked q t l.owner_is l.rtype_is l.datas_are l.unverified i;
   links = links_verified w m rs l.chains l.gathered i;

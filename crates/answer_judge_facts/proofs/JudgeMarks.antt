@@ -2,7 +2,7 @@
 use Rattle.std.proofs.Common.{◌≡◌, ℕ, zero, suc, ◌<◌, Bool, true, false, ◌&&◌, ◌||◌, not, List, [], ◌∷◌, map, length, get_or, set, refl, sym, ap, ◌∙◌, arith}
 use Rattle.std.specs.List.{list_any}
 use Rattle.std.proofs.lemmas.Bool.{or_parts, and_parts, not-true, false≢true}
-use Rattle.answer_judge_facts.specs.declared.groups.Group.{Group}
+use Rattle.answer_judge_facts.specs.declared.groups.SignedRrset.{SignedRrset}
 use Rattle.std.specs.Prelude.{◌==◌, Option, Some, None, is_some}
 use Rattle.std.specs.Option.{option_map}
 use Rattle.definitions.specs.Name.{Name, same}
@@ -15,11 +15,11 @@ use Rattle.answer_judge_facts.specs.Marked.{data_in, marked_if, marked, or_first
 use Rattle.definitions.specs.Limits.{pointer_limit}
 
 -- two groups of one type and one owner
-abbrev pub is_like : Group → Group → Bool
+abbrev pub is_like : SignedRrset → SignedRrset → Bool
 is_like a b = (a.rtype == b.rtype) && same a.owner b.owner
 
 -- no two are
-abbrev pub are_apart : List Group → Bool
+abbrev pub are_apart : List SignedRrset → Bool
 are_apart [] = true
 are_apart (g ∷ gs) = not (list_any (is_like g) gs) && are_apart gs
 
@@ -46,15 +46,15 @@ pub first_no : (s : Option Signed) → or_first s None ≡ s
 first_no None = refl
 first_no (Some s) = refl
 
-pub unmarked_one : (g : Group) → marked_if None g ≡ g
+pub unmarked_one : (g : SignedRrset) → marked_if None g ≡ g
 unmarked_one g = λ i. record { owner = g.owner; rtype = g.rtype; items = g.items; verified = first_no g.verified i }
 
-pub unmarked_by : (b : Group → Option Signed) → ((g : Group) → b g ≡ None) → (gs : List Group) → map (λ g. marked_if (b g) g) gs ≡ gs
+pub unmarked_by : (b : SignedRrset → Option Signed) → ((g : SignedRrset) → b g ≡ None) → (gs : List SignedRrset) → map (λ g. marked_if (b g) g) gs ≡ gs
 unmarked_by b f [] = refl
 unmarked_by b f (g ∷ gs) = let one = ap (λ v. marked_if v g) (f g) ∙ unmarked_one g in let rest = unmarked_by b f gs in (λ i. one i ∷ rest i)
 
 -- none of them is meant
-pub unmarked : (p : Group → Bool) (b : Group → Option Signed) → ((g : Group) → p g ≡ false → b g ≡ None) → (gs : List Group) → list_any p gs ≡ false → map (λ g. marked_if (b g) g) gs ≡ gs
+pub unmarked : (p : SignedRrset → Bool) (b : SignedRrset → Option Signed) → ((g : SignedRrset) → p g ≡ false → b g ≡ None) → (gs : List SignedRrset) → list_any p gs ≡ false → map (λ g. marked_if (b g) g) gs ≡ gs
 unmarked p b f [] h = refl
 unmarked p b f (g ∷ gs) h =
     let o = or_parts (p g) (list_any p gs) h in
@@ -62,7 +62,7 @@ unmarked p b f (g ∷ gs) h =
     let rest = unmarked p b f gs o.1 in
     (λ i. one i ∷ rest i)
 
-pub none_like : (p q : Group → Bool) → ((g : Group) → p g ≡ true → q g ≡ true) → (gs : List Group) → list_any q gs ≡ false → list_any p gs ≡ false
+pub none_like : (p q : SignedRrset → Bool) → ((g : SignedRrset) → p g ≡ true → q g ≡ true) → (gs : List SignedRrset) → list_any q gs ≡ false → list_any p gs ≡ false
 none_like p q f [] h = refl
 none_like p q f (g ∷ gs) h =
     let o = or_parts (q g) (list_any q gs) h in
@@ -70,8 +70,8 @@ none_like p q f (g ∷ gs) h =
     (λ i. first (p g) refl i || none_like p q f gs o.1 i)
 
 -- only the one at a place is meant
-pub marked_at : (p : Group → Bool) (b : Group → Option Signed) → ((g : Group) → p g ≡ false → b g ≡ None) → ((g h : Group) → p g ≡ true → p h ≡ true → is_like g h ≡ true)
-    → (gs : List Group) (i : ℕ) (g : Group) → are_apart gs ≡ true → i < length gs → g ≡ get_or gs i g → p g ≡ true → map (λ g. marked_if (b g) g) gs ≡ set gs i (marked_if (b g) g)
+pub marked_at : (p : SignedRrset → Bool) (b : SignedRrset → Option Signed) → ((g : SignedRrset) → p g ≡ false → b g ≡ None) → ((g h : SignedRrset) → p g ≡ true → p h ≡ true → is_like g h ≡ true)
+    → (gs : List SignedRrset) (i : ℕ) (g : SignedRrset) → are_apart gs ≡ true → i < length gs → g ≡ get_or gs i g → p g ≡ true → map (λ g. marked_if (b g) g) gs ≡ set gs i (marked_if (b g) g)
 marked_at p b f like [] i g a h e k = absurd (omega arith)
 marked_at p b f like (x ∷ gs) zero g a h e k =
     let o = and_parts (not (list_any (is_like x) gs)) (are_apart gs) a in
@@ -139,18 +139,18 @@ by_is w k m (r ∷ rs) o t items =
     rest_is (verified_with w k m o t items r) (verified_by w k m rs o t items)
     ∙ (λ i. with_is w k m o t items r i || by_is w k m rs o t items i)
 
-pub marked_is : (w : Trusting) (m : List ℕ) (rs : List Spelled) (g : Group) → is_some (marked w m rs g).verified ≡ (is_some g.verified || is_verified w pointer_limit m rs g.owner g.rtype (data_in g))
+pub marked_is : (w : Trusting) (m : List ℕ) (rs : List Spelled) (g : SignedRrset) → is_some (marked w m rs g).verified ≡ (is_some g.verified || is_verified w pointer_limit m rs g.owner g.rtype (data_in g))
 marked_is w m rs g =
     first_is g.verified (verified_by w pointer_limit m rs g.owner g.rtype (data_in g))
     ∙ ap (λ b. is_some g.verified || b) (by_is w pointer_limit m rs g.owner g.rtype (data_in g))
 
-pub marked_next : (w : Trusting) (m : List ℕ) (r : Spelled) (rs : List Spelled) (gs : List Group) → map (marked w m rs) (map (marked w m (r ∷ [])) gs) ≡ map (marked w m (r ∷ rs)) gs
+pub marked_next : (w : Trusting) (m : List ℕ) (r : Spelled) (rs : List Spelled) (gs : List SignedRrset) → map (marked w m rs) (map (marked w m (r ∷ [])) gs) ≡ map (marked w m (r ∷ rs)) gs
 marked_next w m r rs [] = refl
 marked_next w m r rs (g ∷ gs) =
     let v = first_next g.verified (verified_with w pointer_limit m g.owner g.rtype (data_in g) r) (verified_by w pointer_limit m rs g.owner g.rtype (data_in g)) in
     let rest = marked_next w m r rs gs in
     (λ i. record { owner = g.owner; rtype = g.rtype; items = g.items; verified = v i } ∷ rest i)
 
-pub marked_done : (w : Trusting) (m : List ℕ) (gs : List Group) → map (marked w m []) gs ≡ gs
+pub marked_done : (w : Trusting) (m : List ℕ) (gs : List SignedRrset) → map (marked w m []) gs ≡ gs
 marked_done w m [] = refl
 marked_done w m (g ∷ gs) = let one = unmarked_one g in let rest = marked_done w m gs in (λ i. one i ∷ rest i)

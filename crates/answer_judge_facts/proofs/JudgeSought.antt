@@ -15,8 +15,8 @@ use Rattle.answer_judge_facts.specs.Sought.{answer_sought, is_alone, keys_sought
 use Rattle.answer_judge_facts.specs.Marked.{AreGathered, IsAlone, IsGathered, data_in, is_chain, is_chain_type, is_of, stands_alone}
 use Rattle.answer_judge_facts.specs.Ranked.{AskedLast}
 use Rattle.answer_judge_facts.specs.Verified.{datum_of, is_hash_alone, one_known, rrset_in}
-use Rattle.answer_shared.specs.HashOwner.{spells_hash}
-use Rattle.answer_judge_facts.specs.declared.groups.Group.{Group}
+use Rattle.answer_terms.specs.HashOwner.{spells_hash}
+use Rattle.answer_judge_facts.specs.declared.groups.SignedRrset.{SignedRrset}
 use Rattle.answer_judge_facts.proofs.JudgeCase.{rrset_in-owner}
 use Rattle.answer_judge_facts.proofs.JudgeCounted.{AreSought}
 use Rattle.answer_judge_facts.proofs.JudgeFacts.{alone_owner, chain_cases, chain_type, group_alone}
@@ -24,7 +24,7 @@ use Rattle.answer_judge_facts.proofs.JudgeMarks.{or_no}
 
 -- ---- the keys
 
-pub keys_are : (apex : Name) (ks : List Dnskey) (g : Group) → g.owner ≡ apex → g.rtype ≡ 48 → data_in g ≡ sorted_data (map dnskey_data ks) → g.verified ≡ None → AreSought (keys_sought apex ks) (g ∷ [])
+pub keys_are : (apex : Name) (ks : List Dnskey) (g : SignedRrset) → g.owner ≡ apex → g.rtype ≡ 48 → data_in g ≡ sorted_data (map dnskey_data ks) → g.verified ≡ None → AreSought (keys_sought apex ks) (g ∷ [])
 keys_are apex ks g o t d v = record {
   found = λ p u. sym ((λ i. ((t i == u) && same p (o i)) || false) ∙ or_no ((48 == u) && same p apex));
   datas = λ p u. ((λ is. d), tt);
@@ -71,12 +71,12 @@ not_empty m apex rs t o h e = ⊎_elim
     false≢true (sym (ap one_known none) ∙ one))
     (chain_cases t (is_alone pointer_limit m apex rs o) (is_hash_alone pointer_limit m apex rs o) h)
 
-chain_from : (m : List ℕ) (apex : Name) (rs : List Spelled) (gs : List Group) (o : Name) (t : ℕ) → AllByRecursion (IsAlone m apex rs) gs → list_any (is_of o t) gs ≡ true → stands_alone m apex rs t o ≡ true
+chain_from : (m : List ℕ) (apex : Name) (rs : List Spelled) (gs : List SignedRrset) (o : Name) (t : ℕ) → AllByRecursion (IsAlone m apex rs) gs → list_any (is_of o t) gs ≡ true → stands_alone m apex rs t o ≡ true
 chain_from m apex rs gs o t each h =
     let f = found (is_of o t) gs h in
     group_alone m rs apex o t f.0 (all_at (IsAlone m apex rs) gs f.0 each f.1) f.2
 
-chain_to : (m : List ℕ) (apex : Name) (rs : List Spelled) (gs : List Group) (o : Name) (t : ℕ) → AreGathered m apex rs rs gs → stands_alone m apex rs t o ≡ true → list_any (is_of o t) gs ≡ true
+chain_to : (m : List ℕ) (apex : Name) (rs : List Spelled) (gs : List SignedRrset) (o : Name) (t : ℕ) → AreGathered m apex rs rs gs → stands_alone m apex rs t o ≡ true → list_any (is_of o t) gs ≡ true
 chain_to m apex rs gs o t a h =
     let f = record_there pointer_limit m rs o t (not_empty m apex rs t o h) in
     let r : Spelled = f.0 in
@@ -90,7 +90,7 @@ chain_to m apex rs gs o t a h =
     let p = and_parts ((g.0).rtype == r.rtype) (same r.owner (g.0).owner) g.2 in
     any_from (is_of o t) gs g.0 g.1 (and_from _ _ (ap (λ n. (g.0).rtype == n) (sym kind) ∙ p.0) (both_owners r.owner o (g.0).owner q.1 p.1))
 
-chain_data : (m : List ℕ) (apex : Name) (rs : List Spelled) (gs : List Group) (o : Name) (t : ℕ) → AllByRecursion (IsAlone m apex rs) gs → AllByRecursion (λ g. is_of o t g ≡ true → data_in g ≡ rrset_in pointer_limit m rs o t) gs
+chain_data : (m : List ℕ) (apex : Name) (rs : List Spelled) (gs : List SignedRrset) (o : Name) (t : ℕ) → AllByRecursion (IsAlone m apex rs) gs → AllByRecursion (λ g. is_of o t g ≡ true → data_in g ≡ rrset_in pointer_limit m rs o t) gs
 chain_data m apex rs [] o t each = tt
 chain_data m apex rs (g ∷ gs) o t each = (
   (λ is.
@@ -99,11 +99,11 @@ chain_data m apex rs (g ∷ gs) o t each = (
   chain_data m apex rs gs o t each.1,
 )
 
-chain_fresh : (m : List ℕ) (apex : Name) (rs : List Spelled) (gs : List Group) → AllByRecursion (IsAlone m apex rs) gs → AllByRecursion (λ g. g.verified ≡ None) gs
+chain_fresh : (m : List ℕ) (apex : Name) (rs : List Spelled) (gs : List SignedRrset) → AllByRecursion (IsAlone m apex rs) gs → AllByRecursion (λ g. g.verified ≡ None) gs
 chain_fresh m apex rs [] each = tt
 chain_fresh m apex rs (g ∷ gs) each = ((each.0).unverified, chain_fresh m apex rs gs each.1)
 
-any_last : (p : Group → Bool) (gs : List Group) (x : Group) → list_any p (gs ++ x ∷ []) ≡ (list_any p gs || p x)
+any_last : (p : SignedRrset → Bool) (gs : List SignedRrset) (x : SignedRrset) → list_any p (gs ++ x ∷ []) ≡ (list_any p gs || p x)
 any_last p [] x = or_no (p x)
 any_last p (g ∷ gs) x = ap (λ b. p g || b) (any_last p gs x) ∙ or_assoc (p g) (list_any p gs) (p x)
   where
@@ -111,11 +111,11 @@ any_last p (g ∷ gs) x = ap (λ b. p g || b) (any_last p gs x) ∙ or_assoc (p 
     or_assoc true b c = refl
     or_assoc false b c = refl
 
-all_last : (P : Group → Type 0) (gs : List Group) (x : Group) → AllByRecursion P gs → P x → AllByRecursion P (gs ++ x ∷ [])
+all_last : (P : SignedRrset → Type 0) (gs : List SignedRrset) (x : SignedRrset) → AllByRecursion P gs → P x → AllByRecursion P (gs ++ x ∷ [])
 all_last P [] x h k = (k, tt)
 all_last P (g ∷ gs) x h k = (h.0, all_last P gs x h.1 k)
 
-one_behind : (m : List ℕ) (apex : Name) (rs : List Spelled) (name : Name) (rtype : ℕ) (gs : List Group) (x : Group) → AreGathered m apex rs rs gs → x.owner ≡ name → x.rtype ≡ rtype → data_in x ≡ rrset_in pointer_limit m rs name rtype → x.verified ≡ None
+one_behind : (m : List ℕ) (apex : Name) (rs : List Spelled) (name : Name) (rtype : ℕ) (gs : List SignedRrset) (x : SignedRrset) → AreGathered m apex rs rs gs → x.owner ≡ name → x.rtype ≡ rtype → data_in x ≡ rrset_in pointer_limit m rs name rtype → x.verified ≡ None
     → AreSought (answer_sought pointer_limit m apex rs name rtype) (gs ++ x ∷ [])
 one_behind m apex rs name rtype gs x a o k d v = record {
   found = λ p t.
@@ -128,5 +128,5 @@ one_behind m apex rs name rtype gs x a o k d v = record {
   fresh = all_last (λ g. g.verified ≡ None) gs x (chain_fresh m apex rs gs a.each) v;
 }
 
-pub answer_is : (m : List ℕ) (apex : Name) (rs : List Spelled) (name : Name) (rtype : ℕ) (gs : List Group) → AskedLast m apex rs name rtype gs → AreSought (answer_sought pointer_limit m apex rs name rtype) gs
+pub answer_is : (m : List ℕ) (apex : Name) (rs : List Spelled) (name : Name) (rtype : ℕ) (gs : List SignedRrset) → AskedLast m apex rs name rtype gs → AreSought (answer_sought pointer_limit m apex rs name rtype) gs
 answer_is m apex rs name rtype gs l = subst (AreSought (answer_sought pointer_limit m apex rs name rtype)) (sym l.are) (one_behind m apex rs name rtype l.chains l.asked l.gathered l.owner_is l.rtype_is l.datas_are l.unverified)

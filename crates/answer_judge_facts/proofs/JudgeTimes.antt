@@ -12,12 +12,12 @@ use Rattle.messages.specs.Message.{Spelled, rrsig_at}
 use Rattle.messages.proofs.Lists.{Has, all_at, any_from, both_ways, found}
 use Rattle.messages.proofs.ZoneNames.{labels_eq-same, same_labels}
 use Rattle.answer_judge_keys.specs.Trusted.{is_signature, signs}
-use Rattle.answer_judge_facts.specs.Lasting.{rests_on}
+use Rattle.answer_judge_facts.specs.Validity.{rests_on}
 use Rattle.answer_judge_facts.specs.Marked.{data_in, is_of, is_unlike, marked, or_first, signed_of, times_by, times_in}
 use Rattle.answer_judge_facts.specs.Sought.{Sought, answer_sought, is_alone}
 use Rattle.answer_judge_facts.specs.Times.{Times, are_unlike, proof_times, same_times, times_at, times_of}
 use Rattle.answer_judge_facts.specs.Verified.{Trusting, is_hash_alone, is_verified, one_known, rrset_in, verified_by, verifies_with}
-use Rattle.answer_judge_facts.specs.declared.groups.Group.{Group}
+use Rattle.answer_judge_facts.specs.declared.groups.SignedRrset.{SignedRrset}
 use Rattle.answer_judge_facts.specs.declared.groups.Signed.{Signed}
 use Rattle.answer_judge_facts.proofs.JudgeCase.{above-owner, rrset_in-owner, spells-owner, verifies_with-owner}
 use Rattle.answer_judge_facts.proofs.JudgeCounted.{AreSought}
@@ -80,13 +80,13 @@ alike_all t ts same = false_from_ne_true (are_unlike ts) (λ h.
 
 -- ---- groups
 
-abbrev verified_of : Group → Option Signed
+abbrev verified_of : SignedRrset → Option Signed
 verified_of g = g.verified
 
-abbrev beside : List Group → Option Signed → Bool
+abbrev beside : List SignedRrset → Option Signed → Bool
 beside gs o = elim o as (λ _. Bool) [ None ↦ false | Some s ↦ list_any (is_unlike s) gs ]
 
-unlike_each : (s : Signed) (gs : List Group) → list_any (is_unlike s) gs ≡ list_any (differs (times_in s)) (filter_map times_by gs)
+unlike_each : (s : Signed) (gs : List SignedRrset) → list_any (is_unlike s) gs ≡ list_any (differs (times_in s)) (filter_map times_by gs)
 unlike_each s [] = refl
 unlike_each s (g ∷ gs) = go g.verified (unlike_each s gs)
   where
@@ -100,7 +100,7 @@ abbrev IsFirst : List Times → Option Signed → Type 0
 IsFirst ts None = ts ≡ []
 IsFirst ts (Some s) = (rest : List Times) × (ts ≡ times_in s ∷ rest)
 
-first_is : (gs : List Group) → IsFirst (filter_map times_by gs) (first_some verified_of gs)
+first_is : (gs : List SignedRrset) → IsFirst (filter_map times_by gs) (first_some verified_of gs)
 first_is [] = refl
 first_is (g ∷ gs) = go g.verified (first_is gs)
   where
@@ -108,7 +108,7 @@ first_is (g ∷ gs) = go g.verified (first_is gs)
     go None later = later
     go (Some s) later = (filter_map times_by gs, refl)
 
-pub unlike_groups : (gs : List Group) (o : Option Signed) → o ≡ first_some verified_of gs → are_unlike (filter_map times_by gs) ≡ beside gs o
+pub unlike_groups : (gs : List SignedRrset) (o : Option Signed) → o ≡ first_some verified_of gs → are_unlike (filter_map times_by gs) ≡ beside gs o
 unlike_groups gs o e = go o (subst (IsFirst (filter_map times_by gs)) (sym e) (first_is gs))
   where
     go : (o : Option Signed) → IsFirst (filter_map times_by gs) o → are_unlike (filter_map times_by gs) ≡ beside gs o
@@ -205,10 +205,10 @@ marked_said {X} of by says v o e = ap (λ v. option_map by (or_first v (option_m
     go None = refl
     go (Some f) = ap (λ (x : X). Some x) (says f)
 
-is_own : (g : Group) → is_of g.owner g.rtype g ≡ true
+is_own : (g : SignedRrset) → is_of g.owner g.rtype g ≡ true
 is_own g = and_from _ _ (eq-eqb g.rtype g.rtype refl) (labels_eq-same (low g.owner) (low g.owner) refl)
 
-module _ (w : Trusting) (m : List ℕ) (rs : List Spelled) (q : Name) (t : ℕ) (gs : List Group) (a : AreSought (answer_sought pointer_limit m w.apex rs q t) gs) where
+module _ (w : Trusting) (m : List ℕ) (rs : List Spelled) (q : Name) (t : ℕ) (gs : List SignedRrset) (a : AreSought (answer_sought pointer_limit m w.apex rs q t) gs) where
   abbrev s : Sought
   s = answer_sought pointer_limit m w.apex rs q t
 
@@ -217,19 +217,19 @@ module _ (w : Trusting) (m : List ℕ) (rs : List Spelled) (q : Name) (t : ℕ) 
     abbrev first_said : Name → ℕ → Option X
     first_said o u = option_map of (verified_by w pointer_limit m rs o u (rrset_in pointer_limit m rs o u))
 
-    abbrev said_in : Group → Option X
+    abbrev said_in : SignedRrset → Option X
     said_in g = option_map by g.verified
 
     alike_said : (o p : Name) (u v : ℕ) → low o ≡ low p → u ≡ v → first_said o u ≡ first_said p v
     alike_said o p u v h e = ap (option_map of) (alike_verified w pointer_limit m rs o p u v h e)
 
-    group_said : (g : Group) → Has gs g → said_in (marked w m rs g) ≡ first_said g.owner g.rtype
+    group_said : (g : SignedRrset) → Has gs g → said_in (marked w m rs g) ≡ first_said g.owner g.rtype
     group_said g i =
-        marked_said of by says g.verified (verified_by w pointer_limit m rs g.owner g.rtype (data_in g)) (all_at (λ (y : Group). y.verified ≡ None) gs g a.fresh i)
-        ∙ ap (λ ds. option_map of (verified_by w pointer_limit m rs g.owner g.rtype ds)) (all_at (λ (y : Group). is_of g.owner g.rtype y ≡ true → data_in y ≡ rrset_in pointer_limit m rs g.owner g.rtype) gs g (a.datas g.owner g.rtype) i (is_own g))
+        marked_said of by says g.verified (verified_by w pointer_limit m rs g.owner g.rtype (data_in g)) (all_at (λ (y : SignedRrset). y.verified ≡ None) gs g a.fresh i)
+        ∙ ap (λ ds. option_map of (verified_by w pointer_limit m rs g.owner g.rtype ds)) (all_at (λ (y : SignedRrset). is_of g.owner g.rtype y ≡ true → data_in y ≡ rrset_in pointer_limit m rs g.owner g.rtype) gs g (a.datas g.owner g.rtype) i (is_own g))
 
     -- a record of a group's RRset has what is said of it
-    record_said : (g : Group) → Has gs g → (r : Spelled) → ((r.class == 1) && (r.rtype == g.rtype) && same r.owner g.owner) ≡ true → rests_on of w pointer_limit m rs q t r ≡ first_said g.owner g.rtype
+    record_said : (g : SignedRrset) → Has gs g → (r : Spelled) → ((r.class == 1) && (r.rtype == g.rtype) && same r.owner g.owner) ≡ true → rests_on of w pointer_limit m rs q t r ≡ first_said g.owner g.rtype
     record_said g i r e =
         let p = and_parts ((r.class == 1) && (r.rtype == g.rtype)) (same r.owner g.owner) e in
         let c = and_parts (r.class == 1) (r.rtype == g.rtype) p.0 in
@@ -243,7 +243,7 @@ module _ (w : Trusting) (m : List ℕ) (rs : List Spelled) (q : Name) (t : ℕ) 
     to_records x h =
         let k = kept_from said_in (map (marked w m rs) gs) x h in
         let from = has_from_map (marked w m rs) gs k.0 k.1 in
-        let g : Group = from.0 in
+        let g : SignedRrset = from.0 in
         let said : first_said g.owner g.rtype ≡ Some x = sym (group_said g from.1) ∙ ap said_in (sym from.2) ∙ k.2 in
         let f = mapped of (verified_by w pointer_limit m rs g.owner g.rtype (rrset_in pointer_limit m rs g.owner g.rtype)) x said in
         let r = record_there pointer_limit m rs g.owner g.rtype (some_items w pointer_limit m rs g.owner g.rtype (rrset_in pointer_limit m rs g.owner g.rtype) f.0 f.1) in
@@ -269,5 +269,5 @@ module _ (w : Trusting) (m : List ℕ) (rs : List Spelled) (q : Name) (t : ℕ) 
   pub times_to_groups : (x : Times) → Has (proof_times w pointer_limit m rs q t) x → Has (filter_map times_by (map (marked w m rs) gs)) x
   times_to_groups = to_groups times_of times_in (λ f. refl)
 
-  pub times_verified : (new : List Group) → new ≡ map (marked w m rs) gs → are_unlike (filter_map times_by new) ≡ are_unlike (proof_times w pointer_limit m rs q t)
+  pub times_verified : (new : List SignedRrset) → new ≡ map (marked w m rs) gs → are_unlike (filter_map times_by new) ≡ are_unlike (proof_times w pointer_limit m rs q t)
   times_verified new n = ap (λ ys. are_unlike (filter_map times_by ys)) n ∙ same_unlike (filter_map times_by (map (marked w m rs) gs)) (proof_times w pointer_limit m rs q t) times_to_records times_to_groups

@@ -3,7 +3,7 @@ use Rattle.std.proofs.Common.{◌≡◌, ℕ, ◌≤◌, List, [], ◌∷◌, �
 use Rattle.std.specs.Prelude.{min}
 use Rattle.std.proofs.Math.Nat.{min-le_left, min-le_right}
 use Rattle.messages.proofs.Lists.{Has}
-use Rattle.answer_judge_facts.specs.Lasting.{least}
+use Rattle.answer_judge_facts.specs.Validity.{least}
 
 at_most : (a b c : ℕ) → a ≤ b → b ≤ c → a ≤ c
 at_most a b c h k = omega (arith, h, k)

@@ -7,7 +7,7 @@ pub mod JudgeCase
 pub mod JudgeCounted
 pub mod JudgeFacts
 pub mod JudgeGathered
-pub mod JudgeLasting
+pub mod JudgeValidity
 pub mod JudgeMarks
 pub mod JudgeSought
 pub mod JudgeTimes

@@ -9,7 +9,7 @@ use Rattle.definitions.specs.Signing.{Fields}
 use Rattle.messages.specs.Message.{AreOctets, Spelled, behind, fits, if_true, name_in, name_upto, pair, quad, rrsig_at, rrsig_fields}
 use Rattle.messages.proofs.Lists.{some_is}
 use Rattle.messages.proofs.MessageParts.{octet_index}
-use Rattle.answer_judge_facts.specs.Lasting.{held_for, idle_for, seconds_to}
+use Rattle.answer_judge_facts.specs.Validity.{held_for, idle_for, seconds_to}
 use Rattle.answer_judge_facts.specs.Times.{Times, times_of}
 
 -- some seconds later

@@ -8,13 +8,13 @@ use Rattle.definitions.specs.Serial.{serial_le}
 use Rattle.definitions.specs.Signing.{Fields}
 use Rattle.messages.specs.Message.{Spelled, quad, rrsig_at}
 use Rattle.answer_judge_keys.specs.Trusted.{is_signature}
-use Rattle.answer_judge_facts.specs.Lasting.{idle_at, idle_for, wait_in}
+use Rattle.answer_judge_facts.specs.Validity.{idle_at, idle_for, wait_in}
 use Rattle.answer_judge_facts.specs.Marked.{is_of}
 use Rattle.answer_judge_facts.specs.Times.{Times, times_of}
-use Rattle.answer_judge_facts.specs.declared.groups.Group.{Group}
+use Rattle.answer_judge_facts.specs.declared.groups.SignedRrset.{SignedRrset}
 use Rattle.answer_judge_facts.proofs.Seconds.{holds, stand_there}
 
-abbrev wait_from : ℕ → List Group → Spelled → Bool → Option (Fields × List ℕ) → Option ℕ
+abbrev wait_from : ℕ → List SignedRrset → Spelled → Bool → Option (Fields × List ℕ) → Option ℕ
 wait_from now gs r b x = elim b [
   | false ↦ None
   | true ↦ elim x [ None ↦ None | Some f ↦ if list_any (is_of r.owner f.0.covered) gs then idle_at now (times_of f.0) else None ]
@@ -34,7 +34,7 @@ passes_at p [] i l h = absurd (omega (arith, l))
 passes_at p (x ∷ xs) zero l h = or_left (p x) (list_any p xs) (h x refl)
 passes_at p (x ∷ xs) (suc i) l h = or_right (p x) (list_any p xs) (passes_at p xs i (omega (arith, l)) (λ y e. h y e))
 
-module _ (now : ℕ) (m : List ℕ) (gs : List Group) (r : Spelled) where
+module _ (now : ℕ) (m : List ℕ) (gs : List SignedRrset) (r : Spelled) where
   abbrev gate : Bool
   gate = is_signature r && (r.class == 1)
 

@@ -13,7 +13,7 @@ use Rattle.answer_judge_facts.specs.Counted.{is_tried}
 use Rattle.answer_judge_facts.specs.Marked.{data_in, marked, tries_group}
 use Rattle.answer_judge_facts.specs.Sought.{Sought}
 use Rattle.answer_judge_facts.specs.Verified.{Trusting}
-use Rattle.answer_judge_facts.specs.declared.groups.Group.{Group}
+use Rattle.answer_judge_facts.specs.declared.groups.SignedRrset.{SignedRrset}
 
 -- ---- what a test has to pass for
 
@@ -22,17 +22,17 @@ abbrev pub PassesOver : SignatureTest → List Dnskey → Fields → List ℕ �
 PassesOver test keys f signature owner items = (key : Dnskey) → find (fits_key f) keys ≡ Some key → test key (signed_octets f owner 1 items) signature ≡ true
 
 -- the same, over a group that it is tried on
-abbrev pub PassesGroup : SignatureTest → Trusting → Name → Fields → List ℕ → Group → Type 0
+abbrev pub PassesGroup : SignatureTest → Trusting → Name → Fields → List ℕ → SignedRrset → Type 0
 PassesGroup test w owner f signature g = tries_group w owner f g ≡ true → PassesOver test w.keys f signature g.owner (data_in g)
 
 -- a record's signature, over each of some groups that it is tried on
-abbrev pub PassesRecord : SignatureTest → Trusting → List ℕ → List Group → Spelled → Type 0
+abbrev pub PassesRecord : SignatureTest → Trusting → List ℕ → List SignedRrset → Spelled → Type 0
 PassesRecord test w m gs r =
     (f : Fields) (signature : List ℕ) → (is_signature r && (r.class == 1)) ≡ true → rrsig_at pointer_limit m r ≡ Some (f, signature)
     → AllByRecursion (PassesGroup test w r.owner f signature) gs
 
 -- the signatures of some records in turn, each of which may verify a group
-abbrev pub PassesGroups : SignatureTest → Trusting → List ℕ → List Group → List Spelled → Type 0
+abbrev pub PassesGroups : SignatureTest → Trusting → List ℕ → List SignedRrset → List Spelled → Type 0
 PassesGroups test w m gs [] = ⊤
 PassesGroups test w m gs (r ∷ rs) = PassesRecord test w m gs r × PassesGroups test w m (map (marked w m (r ∷ [])) gs) rs
 

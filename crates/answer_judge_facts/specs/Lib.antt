@@ -1,6 +1,6 @@
 pub mod Asked
 pub mod Counted
-pub mod Lasting
+pub mod Validity
 pub mod Marked
 pub mod Ranked
 pub mod Sought

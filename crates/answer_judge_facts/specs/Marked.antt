@@ -13,10 +13,10 @@ use Rattle.answer_judge_keys.specs.Trusted.{is_signature, signs}
 use Rattle.denial_laws.specs.Facts.{Facts, HashLink, Link, Rrset}
 use Rattle.messages.specs.Message.{Spelled, nsec3_at, rrsig_at}
 use Rattle.answer_judge_facts.specs.Verified.{Trusting, hash_link_with, is_hash_alone, link_of, one_known, rrset_in, verified_by}
-use Rattle.answer_shared.specs.HashOwner.{spells_hash}
+use Rattle.answer_terms.specs.HashOwner.{spells_hash}
 use Rattle.answer_judge_facts.specs.declared.groups.Signed.{Signed}
 use Rattle.std.specs.Option.{option_map}
-use Rattle.answer_judge_facts.specs.declared.groups.Group.{Group}
+use Rattle.answer_judge_facts.specs.declared.groups.SignedRrset.{SignedRrset}
 use Rattle.answer_judge_keys.specs.declared.trust.Trust.{Trust}
 
 -- what is verified with, under a scheme's answers
@@ -24,11 +24,11 @@ abbrev pub held_by : Answers → Trust → Trusting
 held_by a t = record { answers = a; apex = t.apex.now; keys = t.keys.now; now = t.moment }
 
 -- the canonical data of a group
-abbrev pub data_in : Group → List (List ℕ)
+abbrev pub data_in : SignedRrset → List (List ℕ)
 data_in g = map cow_slice_items g.items.items
 
 -- the group is of a type and an owner, up to case
-abbrev pub is_of : Name → ℕ → Group → Bool
+abbrev pub is_of : Name → ℕ → SignedRrset → Bool
 is_of owner t g = (g.rtype == t) && same owner g.owner
 
 -- what a signature says beside the RRset and the name
@@ -46,43 +46,43 @@ signed_of f = record {
 abbrev pub times_in : Signed → Times
 times_in s = record { inception = s.inception; expiration = s.expiration }
 
-abbrev pub times_by : Group → Option Times
+abbrev pub times_by : SignedRrset → Option Times
 times_by g = option_map times_in g.verified
 
 -- a signature of other times verified it
-abbrev pub is_unlike : Signed → Group → Bool
+abbrev pub is_unlike : Signed → SignedRrset → Bool
 is_unlike first g = elim g.verified [ None ↦ false | Some s ↦ not (same_times (times_in first) (times_in s)) ]
 
 abbrev pub or_first : Option Signed → Option Signed → Option Signed
 or_first (Some s) t = Some s
 or_first None t = t
 
-abbrev pub marked_if : Option Signed → Group → Group
+abbrev pub marked_if : Option Signed → SignedRrset → SignedRrset
 marked_if s g = record { owner = g.owner; rtype = g.rtype; items = g.items; verified = or_first g.verified s }
 
 -- verified as it was, or as the first of the records says that verifies it
-abbrev pub marked : Trusting → List ℕ → List Spelled → Group → Group
+abbrev pub marked : Trusting → List ℕ → List Spelled → SignedRrset → SignedRrset
 marked w m rs g = marked_if (option_map signed_of (verified_by w pointer_limit m rs g.owner g.rtype (data_in g))) g
 
 -- a signature verifies a group's data
-abbrev pub signs_group : Trusting → Group → Fields → List ℕ → Bool
+abbrev pub signs_group : Trusting → SignedRrset → Fields → List ℕ → Bool
 signs_group w g f signature = signs w.answers w.apex w.keys w.now g.owner (data_in g) f signature
 
 -- ---- signatures that are tried
 
 -- a signature of a group that is not verified yet
-abbrev pub tries_group : Trusting → Name → Fields → Group → Bool
+abbrev pub tries_group : Trusting → Name → Fields → SignedRrset → Bool
 tries_group w owner f g = is_of owner f.covered g && (not (is_some g.verified) && can_try w g.owner (data_in g) f)
 
 -- a record is one
-abbrev pub is_tried_in : Trusting → List ℕ → List Group → Spelled → Bool
+abbrev pub is_tried_in : Trusting → List ℕ → List SignedRrset → Spelled → Bool
 is_tried_in w m gs r = elim (is_signature r && (r.class == 1)) [
   | false ↦ false
   | true ↦ elim (rrsig_at pointer_limit m r) [ None ↦ false | Some f ↦ list_any (tries_group w r.owner f.0) gs ]
 ]
 
 -- of some records in turn, each of which may verify a group
-abbrev pub tries_in : Trusting → List ℕ → List Group → List Spelled → ℕ
+abbrev pub tries_in : Trusting → List ℕ → List SignedRrset → List Spelled → ℕ
 tries_in w m gs [] = 0
 tries_in w m gs (r ∷ rs) = one_if (is_tried_in w m gs r) + tries_in w m (map (marked w m (r ∷ [])) gs) rs
 
@@ -112,46 +112,46 @@ abbrev pub stands_alone : List ℕ → Name → List Spelled → ℕ → Name �
 stands_alone m apex rs t owner = ((47 == t) && is_alone pointer_limit m apex rs owner) || ((50 == t) && is_hash_alone pointer_limit m apex rs owner)
 
 -- data of NSEC3 records are no longer than a message can say
-abbrev pub AreShort : Group → Type 0
+abbrev pub AreShort : SignedRrset → Type 0
 AreShort g = g.rtype ≡ 50 → AllByRecursion (λ d. length d ≤ 65535) (data_in g)
 
 -- a group of an owner and a type is verified
-abbrev pub is_proved : Name → ℕ → Group → Bool
+abbrev pub is_proved : Name → ℕ → SignedRrset → Bool
 is_proved owner t g = is_some g.verified && is_of owner t g
 
 -- the RRset of such an owner, not yet verified
-pub record IsAlone (m : List ℕ) (apex : Name) (rs : List Spelled) (g : Group) : Type 0 where
+pub record IsAlone (m : List ℕ) (apex : Name) (rs : List Spelled) (g : SignedRrset) : Type 0 where
   pub data_are : data_in g ≡ rrset_in pointer_limit m rs g.owner g.rtype
   pub alone : stands_alone m apex rs g.rtype g.owner ≡ true
   pub unverified : g.verified ≡ None
 
 -- the owner of a chain's record has a group of its type, where it stands alone
-abbrev pub IsGathered : List ℕ → Name → List Spelled → List Group → Spelled → Type 0
+abbrev pub IsGathered : List ℕ → Name → List Spelled → List SignedRrset → Spelled → Type 0
 IsGathered m apex rs gs r = is_chain r ≡ true → stands_alone m apex rs r.rtype r.owner ≡ true → list_any (is_of r.owner r.rtype) gs ≡ true
 
 -- groups of the owners of some of a message's records
-pub record AreGathered (m : List ℕ) (apex : Name) (rs some : List Spelled) (gs : List Group) : Type 0 where
+pub record AreGathered (m : List ℕ) (apex : Name) (rs some : List Spelled) (gs : List SignedRrset) : Type 0 where
   pub each : AllByRecursion (IsAlone m apex rs) gs
   pub all : AllByRecursion (IsGathered m apex rs gs) some
 
 -- the link of a record whose owner has a verified group
-abbrev pub link_by : List ℕ → List Group → Spelled → Option Link
+abbrev pub link_by : List ℕ → List SignedRrset → Spelled → Option Link
 link_by m gs r = elim (is_record_of 47 r && list_any (is_proved r.owner 47) gs) [ true ↦ link_of pointer_limit m r | false ↦ None ]
 
 -- the hash that a record's owner spells, and what its data say
 abbrev pub hash_link_of : Name → List ℕ → Spelled → Option HashLink
 hash_link_of apex m r = elim (spells_hash apex r.owner) [ true ↦ option_map (hash_link_with r.owner) (nsec3_at m r) | false ↦ None ]
 
-abbrev pub hash_link_by : Name → List ℕ → List Group → Spelled → Option HashLink
+abbrev pub hash_link_by : Name → List ℕ → List SignedRrset → Spelled → Option HashLink
 hash_link_by apex m gs r = elim (is_record_of 50 r && list_any (is_proved r.owner 50) gs) [ true ↦ hash_link_of apex m r | false ↦ None ]
 
 -- a group that is verified, with the label count of its signature
-abbrev pub rrset_verified : Option Group → Option Rrset
+abbrev pub rrset_verified : Option SignedRrset → Option Rrset
 rrset_verified None = None
 rrset_verified (Some g) = option_map (λ s. record { datas = data_in g; labels = s.labels }) g.verified
 
 -- what groups say of chains' records, and one of the RRset that was asked for
-abbrev pub facts_by : Name → List ℕ → List Spelled → List Group → Group → Facts
+abbrev pub facts_by : Name → List ℕ → List Spelled → List SignedRrset → SignedRrset → Facts
 facts_by apex m rs chains asked = record {
   rrset = rrset_verified (Some asked);
   links = filter_map (link_by m chains) rs;

@@ -10,7 +10,7 @@ use Rattle.definitions.specs.Zone.{sorted_data}
 use Rattle.messages.specs.Message.{Spelled, canonical_data}
 use Rattle.answer_judge_facts.specs.Marked.{AreGathered, data_in, has_place, holds_one, is_chain_type}
 use Rattle.answer_judge_facts.specs.Verified.{rrset_in}
-use Rattle.answer_judge_facts.specs.declared.groups.Group.{Group}
+use Rattle.answer_judge_facts.specs.declared.groups.SignedRrset.{SignedRrset}
 
 -- ---- RRsets by type and owner
 
@@ -21,17 +21,17 @@ type_rank t = if is_chain_type t then t else t + 65536
 abbrev pub sought_cmp : ℕ × Name → ℕ × Name → Ordering
 sought_cmp a b = ordering_then (nat_cmp (type_rank a.0) (type_rank b.0)) (name_cmp a.1 b.1)
 
-abbrev pub place_of : Group → ℕ × Name
+abbrev pub place_of : SignedRrset → ℕ × Name
 place_of g = (g.rtype, g.owner)
 
-abbrev pub AreRanked : List Group → Type 0
+abbrev pub AreRanked : List SignedRrset → Type 0
 AreRanked gs = IsStrictlySortedBy sought_cmp (map place_of gs)
 
 -- The groups of what is sought in an answer, in order: those of chains' records, behind them that of the RRset that was asked
 -- for. None is verified yet.
-pub record AskedLast (m : List ℕ) (apex : Name) (rs : List Spelled) (name : Name) (rtype : ℕ) (gs : List Group) : Type 0 where
-  pub chains : List Group
-  pub asked : Group
+pub record AskedLast (m : List ℕ) (apex : Name) (rs : List Spelled) (name : Name) (rtype : ℕ) (gs : List SignedRrset) : Type 0 where
+  pub chains : List SignedRrset
+  pub asked : SignedRrset
   pub are : gs ≡ chains ++ asked ∷ []
   pub ranked : AreRanked gs
   pub gathered : AreGathered m apex rs rs chains
@@ -59,7 +59,7 @@ abbrev pub run_data : List ℕ → List Spelled → List (List ℕ)
 run_data m rs = sorted_data (filter_map (canonical_data pointer_limit m) rs)
 
 -- an RRset of one record that stands where its chain's records do, not yet verified
-pub record IsRun (m : List ℕ) (apex : Name) (r : Spelled) (ds : List (List ℕ)) (g : Group) : Type 0 where
+pub record IsRun (m : List ℕ) (apex : Name) (r : Spelled) (ds : List (List ℕ)) (g : SignedRrset) : Type 0 where
   pub owner : g.owner ≡ r.owner
   pub rtype : g.rtype ≡ r.rtype
   pub datas : data_in g ≡ ds

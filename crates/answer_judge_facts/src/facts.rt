@@ -6,7 +6,7 @@ ghost use Rattle.std.specs.List.{list_any, filter_map, AllByRecursion};
 ghost use Rattle.messages.specs.Record.{spelled};
 ghost use Rattle.answer_judge_keys.specs.Trusted.{is_signature};
 ghost use Rattle.answer_judge_facts.specs.Asked.{Implies, is_tried_among};
-ghost use Rattle.answer_judge_facts.specs.Lasting.{answer_lasting};
+ghost use Rattle.answer_judge_facts.specs.Validity.{answer_validity};
 ghost use Rattle.answer_judge_facts.specs.VerifiedProof.{IsVerifiedProof};
 ghost use Rattle.answer_scheme.specs.Answers.{EachAgreeing, SignatureTest};
 ghost use Rattle.answer_judge_facts.specs.Sought.{answer_sought};
@@ -14,19 +14,19 @@ ghost use Rattle.answer_judge_facts.specs.Verified.{is_known_datum};
 ghost use Rattle.std.specs.List.Sorted.{IsPermutation, IsSortedBy};
 ghost use Rattle.std.specs.Ordering.{is_lt};
 ghost use Rattle.answer_judge_facts.specs.Marked.{held_by, data_in, facts_by, is_proved, is_chain_type, is_chain, is_record_of, has_place, holds_one, AreShort, AreGathered, link_by, hash_link_by, hash_link_of, rrset_verified};
-ghost use Rattle.answer_judge_facts.specs.declared.groups.Group.{Group};
+ghost use Rattle.answer_judge_facts.specs.declared.groups.SignedRrset.{SignedRrset};
 ghost use Rattle.answer_judge_facts.specs.Ranked.{AreRanked, AskedLast, IsRun, alike_len, are_alike, chain_cmp, run_data};
 
-use crate::groups::{Group, is_chain_type, place_of, read_group, verify_groups};
-use crate::lasting::{Lasting, lasting_of};
+use crate::groups::{SignedRrset, is_chain_type, place_of, read_group, verify_groups};
 use crate::times::are_unlike;
+use crate::validity::{Validity, validity_of_groups};
 use answer_judge_keys::check_run::CheckRun;
 use answer_judge_keys::trust::Trust;
 use answer_judge_rules::asked::Asked;
 use answer_judge_rules::decide::{Facts, HashLink, NsecLink, Rrset};
 use answer_judge_rules::verdict::DataList;
 use answer_scheme::checks::Checks;
-use answer_shared::owner::{hash_spelled, spells_hash};
+use answer_terms::owner::{hash_spelled, spells_hash};
 use messages::names::{Name, ToName, cow_name, is_at_or_above};
 use messages::rdata::read_hashed_link;
 use messages::{Owner, ViewRecord};
@@ -42,7 +42,7 @@ use std::cmp::Ordering;
 pub struct Proof<'a> {
     pub facts: Facts<'a>,
     pub has_unlike_times: bool,
-    pub lasting: Lasting,
+    pub validity: Validity,
 }
 
 /// What signatures of an answer verify: the RRset that was asked for, and records of chains, NSEC
@@ -65,7 +65,7 @@ pub fn read_facts<'a, C: Checks>(
     ensures lasts { EachAgreeing (C.answers check_run.old.checks.now)
         (C.agrees check_run.new.checks.now) (λ a. let w = held_by a trust.now in
         let m = message.now in let rs = map spelled records.now in
-        IfOk result (λ p. p.lasting ≡ answer_lasting w pointer_limit m rs name.now rtype)) }
+        IfOk result (λ p. p.validity ≡ answer_validity w pointer_limit m rs name.now rtype)) }
     ensures agrees { (test : SignatureTest) → C.agrees check_run.new.checks.now test
         → C.agrees check_run.old.checks.now test }
     ensures asked { (test : SignatureTest) → let a = C.answers check_run.old.checks.now in
@@ -91,12 +91,12 @@ pub fn read_facts<'a, C: Checks>(
     let mut groups = sought_groups(alloc, &asked, message, records, &chained)?;
     verify_groups(message, records, trust, &mut groups, check_run)?;
     let has_unlike_times = are_unlike(&groups);
-    let lasting = lasting_of(message, records, &groups, trust.moment);
+    let validity = validity_of_groups(message, records, &groups, trust.moment);
     let facts = facts_of_groups(alloc, trust.apex, message, records, groups)?;
     Ok(Proof {
         facts,
         has_unlike_times,
-        lasting,
+        validity,
     })
 }
 
@@ -108,7 +108,7 @@ pub fn sought_groups<'r>(
     message: &'r [u8],
     records: &[ViewRecord],
     chained: &'r [ViewRecord],
-) -> Result<Vec<Group<'r>>, AllocError>
+) -> Result<Vec<SignedRrset<'r>>, AllocError>
     requires moved { let rs = filter is_chain (map spelled records.now) in
         IsPermutation rs (map spelled chained.now) }
     requires sorted { IsSortedBy (λ a b. is_lt (chain_cmp a b)) (map spelled chained.now) }
@@ -128,11 +128,11 @@ fn facts_of_groups<'a>(
     apex: &Name<Vec<u8>>,
     message: &'a [u8],
     records: &[ViewRecord<'a>],
-    groups: Vec<Group>,
+    groups: Vec<SignedRrset>,
 ) -> Result<Facts<'a>, AllocError>
     requires { AreRanked groups.items }
     ensures { let rs = map spelled records.now in
-        (chains : List Group) (asked : Group) → groups.entry.items ≡ chains ++ asked ∷ []
+        (chains : List SignedRrset) (asked : SignedRrset) → groups.entry.items ≡ chains ++ asked ∷ []
         → IfOk result (λ f. f ≡ facts_by apex.now message.now rs chains asked) }
 {
     let mut chains = groups;
@@ -146,13 +146,13 @@ fn facts_of_groups<'a>(
 ///
 /// The owner's count in its place would let a wildcard's RRset pass for one of the name, with no
 /// proof that the name does not exist (RFC 4035, 5.3.4).
-fn rrset_of(alloc: Global, group: Option<Group>) -> Result<Option<Rrset>, AllocError>
+fn rrset_of(alloc: Global, group: Option<SignedRrset>) -> Result<Option<Rrset>, AllocError>
     ensures { IfOk result (λ found. found ≡ rrset_verified group.entry) }
 {
     let Some(group) = group else {
         return Ok(None);
     };
-    let Group {
+    let SignedRrset {
         items,
         verified,
         ..
@@ -226,14 +226,14 @@ pub fn read_chain_groups<'r>(
     apex: &Name<Vec<u8>>,
     message: &'r [u8],
     chained: &'r [ViewRecord],
-) -> Result<Vec<Group<'r>>, AllocError>
+) -> Result<Vec<SignedRrset<'r>>, AllocError>
     requires chain { AllByRecursion (λ r. is_chain r ≡ true) (map spelled chained.now) }
     requires sorted { IsSortedBy (λ a b. is_lt (chain_cmp a b)) (map spelled chained.now) }
     ensures gathered { let rs = map spelled chained.now in
         IfOk result (λ gs. AreGathered message.now apex.now rs rs gs.items) }
     ensures ranked { IfOk result (λ gs. AreRanked gs.items) }
 {
-    let mut groups: Vec<Group<'r>> = Vec::new(alloc);
+    let mut groups: Vec<SignedRrset<'r>> = Vec::new(alloc);
     let mut start = 0;
     while start < chained.len() {
         let first = &chained[start];
@@ -275,7 +275,7 @@ fn read_chain_group<'r>(
     message: &'r [u8],
     first: &'r ViewRecord,
     run: &[ViewRecord],
-) -> Result<Option<Group<'r>>, AllocError>
+) -> Result<Option<SignedRrset<'r>>, AllocError>
     requires chain { is_chain_type first.now.rtype ≡ true }
     requires alike { AllByRecursion (λ r. r.rtype ≡ first.now.rtype) run.now }
     ensures { let r = spelled first.now in
@@ -299,7 +299,7 @@ fn read_run<'r>(
     message: &'r [u8],
     first: &'r ViewRecord,
     run: &[ViewRecord],
-) -> Result<Group<'r>, AllocError>
+) -> Result<SignedRrset<'r>, AllocError>
     ensures owner { IfOk result (λ g. g.owner ≡ first.now.owner) }
     ensures rtype { IfOk result (λ g. g.rtype ≡ first.now.rtype) }
     ensures items { IfOk result (λ g. data_in g ≡ run_data message.now (map spelled run.now)) }
@@ -312,7 +312,7 @@ fn read_run<'r>(
             items.push(item)?;
         }
     }
-    Ok(Group::unverified(owner, first.rtype, items))
+    Ok(SignedRrset::unverified(owner, first.rtype, items))
 }
 
 /// Whether records of a chain's type may have an owner: NSEC at or below the apex, NSEC3 at a hash
@@ -332,7 +332,7 @@ fn has_place(apex: &Name<Vec<u8>>, owner: &Owner, rtype: Rtype) -> bool
 /// Whether a group of a chain's type is one record, for NSEC3 one that is known.
 ///
 /// Two records at one owner are not of one chain: each would deny names that stand by the other.
-fn holds_one(group: &Group) -> bool
+fn holds_one(group: &SignedRrset) -> bool
     requires { AreShort group.now }
     ensures { result ≡ holds_one group.now.rtype (data_in group.now) }
 {
@@ -375,7 +375,7 @@ fn is_record_of(view: &ViewRecord, rtype: Rtype) -> bool
 }
 
 /// Whether an owner has one of the groups of a type, and that is verified.
-pub fn is_verified(groups: &[Group], owner: &Owner, rtype: Rtype) -> bool
+pub fn is_verified(groups: &[SignedRrset], owner: &Owner, rtype: Rtype) -> bool
     requires ranked { AreRanked groups.now }
     ensures { result ≡ list_any (is_proved owner.now rtype) groups.now }
 {
@@ -390,7 +390,7 @@ fn read_links<'a>(
     alloc: Global,
     message: &'a [u8],
     records: &[ViewRecord<'a>],
-    groups: &[Group],
+    groups: &[SignedRrset],
 ) -> Result<Vec<NsecLink<'a>>, AllocError>
     requires { AreRanked groups.now }
     ensures { IfOk result
@@ -413,7 +413,7 @@ fn read_hash_links<'a>(
     apex: &Name<Vec<u8>>,
     message: &'a [u8],
     records: &[ViewRecord<'a>],
-    groups: &[Group],
+    groups: &[SignedRrset],
 ) -> Result<Vec<HashLink<'a>>, AllocError>
     requires { AreRanked groups.now }
     ensures { let link = hash_link_by apex.now message.now groups.now in

@@ -5,7 +5,7 @@ ghost use Rattle.definitions.specs.Limits.{pointer_limit};
 ghost use Rattle.messages.specs.Record.{fields_read, spelled};
 ghost use Rattle.answer_judge_keys.specs.Trusted.{is_signature};
 ghost use Rattle.answer_judge_facts.specs.Verified.{datum_of, rrset_in};
-ghost use Rattle.answer_judge_facts.specs.declared.groups.Group.{Group};
+ghost use Rattle.answer_judge_facts.specs.declared.groups.SignedRrset.{SignedRrset};
 ghost use Rattle.answer_judge_facts.specs.Marked.{held_by, is_of, data_in, marked, signed_of, signs_group, is_chain_type, is_tried_in, tries_in};
 ghost use Rattle.answer_judge_facts.specs.Ranked.{AreRanked, place_of, sought_cmp, type_rank};
 ghost use Rattle.messages.specs.Message.{if_true};
@@ -49,14 +49,14 @@ pub struct Signed {
 /// An RRset of a message: its canonical data ascending, each once, and what the first signature
 /// says that verified it.
 #[derive(Debug, Drop)]
-pub struct Group<'a> {
+pub struct SignedRrset<'a> {
     pub owner: GroupOwner<'a>,
     pub rtype: Rtype,
     pub items: Vec<CowSlice<'a, u8>>,
     pub verified: Option<Signed>,
 }
 
-impl<'a> Group<'a> {
+impl<'a> SignedRrset<'a> {
     /// An RRset of some canonical data, which nothing verified yet: they are put in order, each
     /// once.
     pub(crate) fn unverified(
@@ -71,7 +71,7 @@ impl<'a> Group<'a> {
     {
         let mut items = items;
         sort_data(&mut items);
-        Group {
+        SignedRrset {
             owner,
             rtype,
             items,
@@ -124,7 +124,7 @@ pub fn read_group<'a>(
     records: &[ViewRecord],
     owner: GroupOwner<'a>,
     rtype: Rtype,
-) -> Result<Group<'a>, AllocError>
+) -> Result<SignedRrset<'a>, AllocError>
     ensures owner { IfOk result (λ g. g.owner ≡ owner.entry) }
     ensures rtype { IfOk result (λ g. g.rtype ≡ rtype) }
     ensures items { let rs = map spelled records.now in
@@ -137,7 +137,7 @@ pub fn read_group<'a>(
             items.push(item)?;
         }
     }
-    Ok(Group::unverified(owner, rtype, items))
+    Ok(SignedRrset::unverified(owner, rtype, items))
 }
 
 /// The canonical data of a record of an owner, up to case, and a type, class IN; None where they do
@@ -163,7 +163,7 @@ pub fn verify_groups<C: Checks>(
     message: &[u8],
     records: &[ViewRecord],
     trust: &Trust,
-    groups: &mut [Group],
+    groups: &mut [SignedRrset],
     check_run: &mut CheckRun<C>,
 ) -> Result<(), AllocError>
     requires room { check_run.old.count + length records.now < 2 ^ 32 }
@@ -205,7 +205,7 @@ fn verify_record<C: Checks>(
     message: &[u8],
     view: &ViewRecord,
     trust: &Trust,
-    groups: &mut [Group],
+    groups: &mut [SignedRrset],
     check_run: &mut CheckRun<C>,
 ) -> Result<(), AllocError>
     requires room { check_run.old.count + 1 < 2 ^ 32 }
@@ -252,12 +252,12 @@ fn verify_record<C: Checks>(
 }
 
 /// The place of a group of an owner and a type, among groups in their order.
-pub fn place_of(groups: &[Group], owner: &Owner, rtype: Rtype) -> Option<usize>
+pub fn place_of(groups: &[SignedRrset], owner: &Owner, rtype: Rtype) -> Option<usize>
     requires { AreRanked groups.now }
     ensures within { IfSome result (λ i. i < length groups.now) }
     ensures found { let is = is_of owner.now rtype in
         MatchOption result (list_any is groups.now ≡ false)
-        (λ i. (g : Group) → g ≡ get_or groups.now i g → is g ≡ true) }
+        (λ i. (g : SignedRrset) → g ≡ get_or groups.now i g → is g ≡ true) }
 {
     if groups.len() <= LINEAR_SEARCH_LIMIT {
         return first_place(groups, owner, rtype);
@@ -268,11 +268,11 @@ pub fn place_of(groups: &[Group], owner: &Owner, rtype: Rtype) -> Option<usize>
 }
 
 /// The place of the first group of an owner and type, found by looking through all.
-fn first_place(groups: &[Group], owner: &Owner, rtype: Rtype) -> Option<usize>
+fn first_place(groups: &[SignedRrset], owner: &Owner, rtype: Rtype) -> Option<usize>
     ensures within { IfSome result (λ i. i < length groups.now) }
     ensures found { let is = is_of owner.now rtype in
         MatchOption result (list_any is groups.now ≡ false)
-        (λ i. (g : Group) → g ≡ get_or groups.now i g → is g ≡ true) }
+        (λ i. (g : SignedRrset) → g ≡ get_or groups.now i g → is g ≡ true) }
 {
     for (i, group) in groups.iter().enumerate() {
         if group.is_of(owner, rtype) {
@@ -286,7 +286,7 @@ fn first_place(groups: &[Group], owner: &Owner, rtype: Rtype) -> Option<usize>
 fn verifies<C: Checks>(
     signature: &Signature,
     trust: &Trust,
-    group: &Group,
+    group: &SignedRrset,
     check_run: &mut CheckRun<C>,
 ) -> Result<Option<Signed>, AllocError>
     requires room { check_run.old.count + 1 < 2 ^ 32 }
@@ -350,7 +350,7 @@ fn signed_of(signature: &Signature) -> Signed
 fn write_signed(
     alloc: Global,
     signature: &Signature,
-    group: &Group,
+    group: &SignedRrset,
     octets: &mut Vec<u8>,
 ) -> Result<(), AllocError>
     ensures { let f = fields_read signature.now in

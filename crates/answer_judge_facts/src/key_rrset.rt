@@ -9,13 +9,13 @@ ghost use Rattle.answer_judge_facts.specs.Asked.{Implies, is_tried_among};
 ghost use Rattle.answer_judge_facts.specs.Counted.{tries};
 ghost use Rattle.answer_scheme.specs.Answers.{EachAgreeing, SignatureTest};
 ghost use Rattle.answer_judge_keys.specs.Trusted.{is_signature};
-ghost use Rattle.answer_judge_facts.specs.Lasting.{key_seconds, least_of};
+ghost use Rattle.answer_judge_facts.specs.Validity.{key_seconds, least_or_max};
 ghost use Rattle.answer_judge_facts.specs.Marked.{held_by};
 ghost use Rattle.answer_judge_facts.specs.Sought.{keys_sought};
 ghost use Rattle.answer_judge_facts.specs.Verified.{is_verified};
 
-use crate::groups::{Group, verify_groups};
-use crate::lasting::seconds_of;
+use crate::groups::{SignedRrset, verify_groups};
+use crate::validity::seconds_of;
 use answer_judge_keys::check_run::CheckRun;
 use answer_judge_keys::keys::TaggedKey;
 use answer_judge_keys::trust::Trust;
@@ -49,7 +49,7 @@ pub fn are_verified<C: Checks>(
         (C.agrees check_run.new.checks.now) (λ a. let w = held_by a trust.now in
         let m = message.now in let rs = map spelled records.now in
         let all = key_seconds w pointer_limit m rs keys.now in
-        IfOk result (λ _. seconds.new ≡ least_of all)) }
+        IfOk result (λ _. seconds.new ≡ least_or_max all)) }
     ensures agrees { (test : SignatureTest) → C.agrees check_run.new.checks.now test
         → C.agrees check_run.old.checks.now test }
     ensures asked { (test : SignatureTest) → let a = C.answers check_run.old.checks.now in
@@ -79,7 +79,7 @@ fn key_group<'a>(
     alloc: Global,
     apex: &'a Name<Vec<u8>>,
     keys: &[TaggedKey<'a>],
-) -> Result<Group<'a>, AllocError>
+) -> Result<SignedRrset<'a>, AllocError>
     ensures owner { IfOk result (λ g. g.owner ≡ apex.now) }
     ensures rtype { IfOk result (λ g. g.rtype ≡ 48) }
     ensures items { IfOk result
@@ -91,11 +91,11 @@ fn key_group<'a>(
         items.push(CowSlice::Borrowed(key.data()))?;
     }
     let owner = cow_name(alloc, apex)?;
-    Ok(Group::unverified(owner, Rtype::DNSKEY, items))
+    Ok(SignedRrset::unverified(owner, Rtype::DNSKEY, items))
 }
 
 /// Whether there is an RRset, and a signature verified it.
-fn was_verified(group: Option<Group>) -> bool
+fn was_verified(group: Option<SignedRrset>) -> bool
     ensures { MatchOption group.entry (result ≡ false) (λ g. result ≡ is_some g.verified) }
 {
     match group {

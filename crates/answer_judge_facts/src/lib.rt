@@ -1,9 +1,9 @@
-//! What of two messages is verified under the keys that a DS set trusts: the facts from which a
-//! verdict is decided.
+//! What signatures verify in two messages under the keys that a DS set trusts: the facts that
+//! decide a verdict.
 #![tactic(auto)]
 
 pub mod facts;
 pub mod groups;
 pub mod key_rrset;
-pub mod lasting;
 pub mod times;
+pub mod validity;

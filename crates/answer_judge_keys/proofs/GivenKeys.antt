@@ -9,10 +9,10 @@ use Rattle.std.proofs.lemmas.Bool.{and_from, and_parts, eq-eqb, eqb-true, false_
 use lib.Pointwise.{bytes_decides}
 use Rattle.definitions.specs.Dnskey.{Dnskey, dnskey_data, dnskey_of_data, key_tag, same_key}
 use Rattle.definitions.specs.Signing.{Fields}
-use Rattle.answer_shared.proofs.KeyData.{key_read_back}
+use Rattle.answer_terms.proofs.KeyData.{key_read_back}
 use Rattle.answer_judge_keys.specs.Trusted.{fits_key}
-use Rattle.answer_shared.specs.EqualTags.{clashes, has_equal_tags}
-use Rattle.answer_shared.specs.Served.{by_tag}
+use Rattle.answer_terms.specs.EqualTags.{clashes, has_equal_tags}
+use Rattle.answer_terms.specs.Served.{by_tag}
 use Rattle.answer_judge_keys.proofs.GivenSorted.{all_has, filter_from, filter_has, find_only, sorted_has}
 use Rattle.messages.proofs.Lists.{Has, all_at, all_fail, any_from, found}
 

@@ -15,7 +15,7 @@ use Rattle.definitions.specs.Signing.{Fields}
 use Rattle.answer_judge_keys.specs.KeyOrder.{IsRanking, key_cmp}
 use Rattle.answer_judge_keys.proofs.GivenKeys.{same_key-is}
 use Rattle.answer_judge_keys.proofs.KeyPlaces.{all_one, first_kept, neighbors, sorted_so, stable_so, two_unlike}
-use Rattle.answer_shared.specs.EqualTags.{clashes, has_equal_tags}
+use Rattle.answer_terms.specs.EqualTags.{clashes, has_equal_tags}
 use Rattle.messages.proofs.Lists.{Has, found}
 
 to_in : (xs : List Dnskey) (x : Dnskey) → Has xs x → In x xs

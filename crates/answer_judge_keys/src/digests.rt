@@ -9,7 +9,7 @@ use crate::check_run::CheckRun;
 use crate::keys::TaggedKey;
 use answer_scheme::checks::Checks;
 use answer_scheme::error::SchemeError;
-use answer_shared::dnskey::ZoneKey;
+use answer_terms::dnskey::ZoneKey;
 use denial_data::Ds;
 use messages::names::{Name, ToName, ZoneName};
 use numbers::algorithm::DigestAlgorithm;

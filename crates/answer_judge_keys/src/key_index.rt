@@ -5,7 +5,7 @@ ghost use Rattle.std.specs.List.Sorted.{IsSortedBy};
 ghost use Rattle.std.specs.Option.{IfSome, option_map};
 ghost use Rattle.std.specs.Ordering.{is_lt};
 ghost use Rattle.messages.specs.Record.{fields_read};
-ghost use Rattle.answer_shared.specs.EqualTags.{clashes, has_equal_tags};
+ghost use Rattle.answer_terms.specs.EqualTags.{clashes, has_equal_tags};
 ghost use Rattle.answer_judge_keys.specs.KeyOrder.{IsRanking, key_cmp};
 ghost use Rattle.answer_judge_keys.specs.Trusted.{fits_key};
 

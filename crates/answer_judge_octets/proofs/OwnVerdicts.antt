@@ -8,7 +8,7 @@ use Rattle.definitions.specs.Zone.{Verdict, Records, StarRecords, NoType, NoName
 use Rattle.denial_laws.specs.Leading.{exchanged}
 use Rattle.messages.specs.Message.{Asked}
 use Rattle.answer_judge.specs.Judging.{Answer, Says, Refuses, JudgeInput, answer_of}
-use Rattle.answer_judge_facts.specs.declared.lasting.Lasting.{Lasting}
+use Rattle.answer_judge_facts.specs.declared.validity.Validity.{Validity}
 use Rattle.answer_judge.specs.declared.verdict.Refusal.{Refusal}
 use Rattle.answer_judge.specs.declared.verdict.Refusal.TheVariants as r
 use Rattle.answer_judge.specs.Judged.{AnswersAs, judged}
@@ -16,9 +16,9 @@ use Rattle.answer_findings.specs.Found.{IsFound, IsFoundBy}
 use Rattle.answer_findings.specs.Judgements.{is_not_proven, question_of}
 use Rattle.answer_findings.specs.Seen.{Seen, SeesAlias, SeesDname, SeesOpen, SeesStarAlias, answer_found, first_found, found_by, found_or, lead_found, lead_said, named_lead, one_name, open_lead, own_lead, referral_found, referral_said, refusal_found, seen, star_lead}
 use Rattle.answer_findings.specs.Table.{AgreesWith, Checked, answers_with, passes_in}
-use Rattle.answer_findings.specs.declared.finding.Finding.{Finding}
-use Rattle.answer_findings.specs.declared.finding.Found.{Found}
-use Rattle.answer_findings.specs.declared.finding.Found.TheVariants as f
+use Rattle.answer_findings.specs.declared.meaning.Meaning.{Meaning}
+use Rattle.answer_findings.specs.declared.meaning.AnswerOutcome.{AnswerOutcome}
+use Rattle.answer_findings.specs.declared.meaning.AnswerOutcome.TheVariants as f
 use Rattle.answer_judge_octets.specs.Places.{SaysBy, SaysOwn, is_own}
 
 -- ---- beside a refusal nothing is found of the case itself
@@ -100,7 +100,7 @@ module _ (table : List Checked) (h : JudgeInput) where
   agrees : AgreesWith table (passes_in table)
   agrees t b e = ap (λ o. unwrap_or o false) e
 
-  module _ (s : Seen) (lasting : Option Lasting) (verifications hashes : ℕ) (by : IsFoundBy table h (Ok s) lasting verifications hashes) where
+  module _ (s : Seen) (validity : Option Validity) (verifications hashes : ℕ) (by : IsFoundBy table h (Ok s) validity verifications hashes) where
     leads_are : are_others (lead_found h by.judgements.alias) ≡ true
     leads_are = elim (by.judgements.alias) as (λ o. are_others (lead_found h o) ≡ true) [
       | None ↦ refl
@@ -128,5 +128,5 @@ module _ (table : List Checked) (h : JudgeInput) where
         go (Refuses e) p is = absurd (refused_others h (lead_found h by.judgements.alias) (referral_found by.judgements.ds) e s leads_are referrals_are is own)
 
   -- of what a search found
-  pub found_says : (finding : Finding) (found : Found) (lasting : Option Lasting) (verifications hashes : ℕ) → found ≡ f.Finds finding lasting verifications hashes → IsFound table h found → SaysOwn table h (seen finding)
-  found_says finding found lasting verifications hashes e is = own_says (seen finding) lasting verifications hashes (subst (IsFound table h) e is)
+  pub found_says : (meaning : Meaning) (found : AnswerOutcome) (validity : Option Validity) (verifications hashes : ℕ) → found ≡ f.Means meaning validity verifications hashes → IsFound table h found → SaysOwn table h (seen meaning)
+  found_says meaning found validity verifications hashes e is = own_says (seen meaning) validity verifications hashes (subst (IsFound table h) e is)

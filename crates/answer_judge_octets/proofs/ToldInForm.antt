@@ -21,9 +21,9 @@ use Rattle.messages_canonical.specs.Canonical.{canonical_rdata}
 use Rattle.messages_canonical.specs.Forms.{is_among}
 use Rattle.messages_canonical.specs.InForm.{IsFormOf, IsInForm, are_in_form, has_form, is_in_form, is_record_in_form, read_by_name}
 use Rattle.messages_canonical.proofs.Anywhere.{stay_in_form, without_names}
-use Rattle.answer_shared.specs.Accepting.{record_cmp, rr_of, sorted_records}
-use Rattle.answer_shared.specs.Served.{Group, Served, ahead, ahead_open, answer_groups, by_tag, chain_names, chain_record, expanded, if_any, key_data, key_group, proofs_of, rrset, soa, speaks_for, spoken, unsigned_ns}
-use Rattle.answer_shared.specs.Told.{AreRecords, AreSignatures, IsRecord, Tells, TellsGroups}
+use Rattle.answer_terms.specs.Accepting.{record_cmp, rr_of, sorted_records}
+use Rattle.answer_terms.specs.Served.{ServedRrset, Served, ahead, ahead_open, answer_groups, by_tag, chain_names, chain_record, expanded, if_any, key_data, key_group, proofs_of, rrset, soa, speaks_for, spoken, unsigned_ns}
+use Rattle.answer_terms.specs.Told.{AreRecords, AreSignatures, IsRecord, Tells, TellsGroups}
 use Rattle.answer_judge_octets.specs.Laws.{ToldAreInForm, is_group_in_form, is_zone_in_form}
 
 -- ---- records that were read lie within the message
@@ -80,14 +80,14 @@ signature_in_form m r e = or_left (is_among r.rtype read_by_name) (bytes_eq (can
 
 -- ---- groups of records
 
-own_in_form : (m : List ℕ) (rs : List Spelled) (g : Group) (ds : List (List ℕ)) → AllByRecursion (Inside m) rs → list_all (has_form g.rtype) ds ≡ true → AreRecords pointer_limit m rs g ds → are_in_form pointer_limit m rs ≡ true
+own_in_form : (m : List ℕ) (rs : List Spelled) (g : ServedRrset) (ds : List (List ℕ)) → AllByRecursion (Inside m) rs → list_all (has_form g.rtype) ds ≡ true → AreRecords pointer_limit m rs g ds → are_in_form pointer_limit m rs ≡ true
 own_in_form m [] g ds inside h are = refl
 own_in_form m (r ∷ rs) g [] inside h are = absurd are
 own_in_form m (r ∷ rs) g (d ∷ ds) inside h are =
     let k = and_parts (has_form g.rtype d) (list_all (has_form g.rtype) ds) h in
     and_from (is_in_form pointer_limit m r) (are_in_form pointer_limit m rs) (record_in_form m r g.owner g.rtype d inside.0 k.0 are.0) (own_in_form m rs g ds inside.1 k.1 are.1)
 
-signatures_in_form : (v : Dnskey → List ℕ → List ℕ → Bool) (m : List ℕ) (rs : List Spelled) (apex : Name) (at life : ℕ) (g : Group) (keys : List Dnskey) → AreSignatures v pointer_limit m rs apex at life g keys → are_in_form pointer_limit m rs ≡ true
+signatures_in_form : (v : Dnskey → List ℕ → List ℕ → Bool) (m : List ℕ) (rs : List Spelled) (apex : Name) (at life : ℕ) (g : ServedRrset) (keys : List Dnskey) → AreSignatures v pointer_limit m rs apex at life g keys → are_in_form pointer_limit m rs ≡ true
 signatures_in_form v m [] apex at life g keys h = refl
 signatures_in_form v m (r ∷ rs) apex at life g [] h = absurd h
 signatures_in_form v m (r ∷ rs) apex at life g (key ∷ keys) h =
@@ -100,7 +100,7 @@ all_split P (x ∷ xs) ys h = let more = all_split P xs ys h.1 in ((h.0, more.0)
 both_in_form : (m : List ℕ) (xs ys : List Spelled) → are_in_form pointer_limit m xs ≡ true → are_in_form pointer_limit m ys ≡ true → are_in_form pointer_limit m (xs ++ ys) ≡ true
 both_in_form m xs ys a b = list_all-append (is_in_form pointer_limit m) xs ys ∙ and_from (are_in_form pointer_limit m xs) (are_in_form pointer_limit m ys) a b
 
-groups_in_form : (v : Dnskey → List ℕ → List ℕ → Bool) (m : List ℕ) (rs : List Spelled) (apex : Name) (at life : ℕ) (keys : List Dnskey) (gs : List Group) → AllByRecursion (Inside m) rs → AllByRecursion (λ g. is_group_in_form g ≡ true) gs → TellsGroups v pointer_limit m rs apex at life keys gs → are_in_form pointer_limit m rs ≡ true
+groups_in_form : (v : Dnskey → List ℕ → List ℕ → Bool) (m : List ℕ) (rs : List Spelled) (apex : Name) (at life : ℕ) (keys : List Dnskey) (gs : List ServedRrset) → AllByRecursion (Inside m) rs → AllByRecursion (λ g. is_group_in_form g ≡ true) gs → TellsGroups v pointer_limit m rs apex at life keys gs → are_in_form pointer_limit m rs ≡ true
 groups_in_form v m rs apex at life keys [] inside all tells = ap (are_in_form pointer_limit m) tells
 groups_in_form v m rs apex at life keys (g ∷ gs) inside all tells =
     let own = tells.0 in
@@ -116,7 +116,7 @@ groups_in_form v m rs apex at life keys (g ∷ gs) inside all tells =
 
 -- ---- the RRsets of a zone
 
-abbrev InForm : Group → Type 0
+abbrev InForm : ServedRrset → Type 0
 InForm g = is_group_in_form g ≡ true
 
 all_data : (t : ℕ) (q : Name) (rs : List Rr) → list_all (λ r. has_form r.rtype r.bytes) rs ≡ true → AllByRecursion (λ d. has_form t d ≡ true) (map (λ r. r.bytes) (filter (is_of q t) rs))
@@ -210,7 +210,7 @@ module _ (s : Served) (zone : is_zone_in_form s.zone ≡ true) where
 abbrev FormOf : List ℕ → List ℕ → Result Message MessageError → Type 0
 FormOf m octets r = elim r [ Err fault ↦ octets ≡ m | Ok read ↦ IsFormOf (are_in_form pointer_limit m read.records) m octets ]
 
-told_in_form : (v : Dnskey → List ℕ → List ℕ → Bool) (apex : Name) (at life : ℕ) (keys : List Dnskey) (asked : Asked) (groups : List Group) (bytes judged : List ℕ) → AllByRecursion InForm groups → Tells v pointer_limit apex at life keys asked groups bytes → IsInForm bytes judged → judged ≡ bytes
+told_in_form : (v : Dnskey → List ℕ → List ℕ → Bool) (apex : Name) (at life : ℕ) (keys : List Dnskey) (asked : Asked) (groups : List ServedRrset) (bytes judged : List ℕ) → AllByRecursion InForm groups → Tells v pointer_limit apex at life keys asked groups bytes → IsInForm bytes judged → judged ≡ bytes
 told_in_form v apex at life keys asked groups bytes judged all tells is =
     let h = headed pointer_limit bytes tells.read tells.reads in
     let inside = all_inside (h.answers + h.authority + h.additional) bytes h.behind tells.read.records h.records in

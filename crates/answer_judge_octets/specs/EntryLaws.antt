@@ -7,7 +7,7 @@ use Rattle.names_rdata.specs.Composing.{with_length}
 use Rattle.definitions.specs.Dnskey.{Dnskey, Ds, dnskey_data, dnskey_of_data}
 use Rattle.definitions.proofs.SignedLaws.{pieces}
 use Rattle.denial_keys.specs.Keys.{ds_data}
-use Rattle.answer_shared.proofs.KeyData.{key_read_back}
+use Rattle.answer_terms.proofs.KeyData.{key_read_back}
 use Rattle.answer_findings.specs.Table.{Checked, tried}
 use Rattle.answer_judge_octets.specs.Written.{FitsChecked, FitsDs, IsLong, IsShort, checked_octets, ds_octets, passes_octets, with_long_length}
 

@@ -8,9 +8,9 @@ use Rattle.definitions.specs.Zone.{Zone}
 use Rattle.messages.specs.Message.{Asked}
 use Rattle.messages.specs.HandedRr.{HandedRr}
 use Rattle.messages_canonical.specs.InForm.{has_form, is_record_in_form}
-use Rattle.answer_shared.specs.Accepting.{zone_of}
-use Rattle.answer_shared.specs.Served.{Group, Served}
-use Rattle.answer_shared.specs.Told.{TellsAnswer, TellsKeys}
+use Rattle.answer_terms.specs.Accepting.{zone_of}
+use Rattle.answer_terms.specs.Served.{ServedRrset, Served}
+use Rattle.answer_terms.specs.Told.{TellsAnswer, TellsKeys}
 use Rattle.answer_judge.specs.Judging.{JudgeInput}
 use Rattle.answer_judge_octets.specs.declared.octets.OctetCase.{OctetCase}
 use Rattle.answer_judge_octets.specs.Replying.{IsJudged, Spells, are_too_many, is_carried, most_of}
@@ -51,7 +51,7 @@ AsksStayFew =
     → AreAskedFor table h (map (λ c. c.tried) answered) verifications hashes → are_too_many most h table (length answered) ≡ false → StaysFew most h table answered
 
 -- the data of an RRset are in form, each by itself
-abbrev pub is_group_in_form : Group → Bool
+abbrev pub is_group_in_form : ServedRrset → Bool
 is_group_in_form g = list_all (has_form g.rtype) g.datas
 
 -- and those of a zone's records

@@ -19,16 +19,16 @@ beside h name t = aside h (asking h name t)
 
 -- What is judged for what is found: the case itself for a verdict, and NS and DS at the cut of a delegation, or NS at a name without
 -- DS, of which the apex is known to be no delegation; CNAME at the name of an alias or of one left open, the DNAME, or the DS records of a referral.
-abbrev pub rests_on : JudgeInput → Seen → List JudgeInput
-rests_on h (SeesVerdict v) = h ∷ []
-rests_on h (SeesDelegated None) = h ∷ []
-rests_on h (SeesDelegated (Some cut)) = h ∷ beside h cut 2 ∷ beside h cut 43 ∷ []
-rests_on h (SeesNoDs d) = if same h.asked.name h.apex then h ∷ [] else h ∷ beside h h.asked.name 2 ∷ []
-rests_on h (SeesAlias target) = beside h h.asked.name 5 ∷ []
-rests_on h (SeesStarAlias target) = beside h h.asked.name 5 ∷ []
-rests_on h SeesOpen = beside h h.asked.name 5 ∷ []
-rests_on h (SeesDname owner leads) = beside h owner 39 ∷ []
-rests_on h (SeesReferral cut ds) = beside h cut 43 ∷ []
+abbrev pub inputs_rested_on : JudgeInput → Seen → List JudgeInput
+inputs_rested_on h (SeesVerdict v) = h ∷ []
+inputs_rested_on h (SeesDelegated None) = h ∷ []
+inputs_rested_on h (SeesDelegated (Some cut)) = h ∷ beside h cut 2 ∷ beside h cut 43 ∷ []
+inputs_rested_on h (SeesNoDs d) = if same h.asked.name h.apex then h ∷ [] else h ∷ beside h h.asked.name 2 ∷ []
+inputs_rested_on h (SeesAlias target) = beside h h.asked.name 5 ∷ []
+inputs_rested_on h (SeesStarAlias target) = beside h h.asked.name 5 ∷ []
+inputs_rested_on h SeesOpen = beside h h.asked.name 5 ∷ []
+inputs_rested_on h (SeesDname owner leads) = beside h owner 39 ∷ []
+inputs_rested_on h (SeesReferral cut ds) = beside h cut 43 ∷ []
 
 -- the numbers of the records that are verified where those signatures pass that pass in a table
 abbrev pub verified_by : List Checked → JudgeInput → List ℕ
@@ -54,7 +54,7 @@ in_order ns = sort_by nat_cmp ns
 
 -- the numbers of the records that what is found vouches for: those that are verified for one of the judgements that it rests on
 abbrev pub places_found : List Checked → JudgeInput → Seen → List ℕ
-places_found table h s = in_order (flat_map (verified_by table) (rests_on h s))
+places_found table h s = in_order (flat_map (verified_by table) (inputs_rested_on h s))
 
 -- how many places there are, and the places, in four octets each
 abbrev pub octets_of_places : List ℕ → List ℕ

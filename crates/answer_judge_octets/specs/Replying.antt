@@ -10,12 +10,12 @@ use Rattle.messages_canonical.specs.InForm.{GrowsTooLong, IsInForm}
 use Rattle.names_rdata.specs.Composing.{with_length}
 use Rattle.messages.specs.Message.{Asked}
 use Rattle.messages.specs.NameOctets.{name_of_octets}
-use Rattle.answer_judge_facts.specs.declared.lasting.Lasting.{Lasting}
+use Rattle.answer_judge_facts.specs.declared.validity.Validity.{Validity}
 use Rattle.answer_judge.specs.declared.verdict.Refusal.{Refusal}
 use Rattle.answer_judge.specs.declared.verdict.Refusal.TheVariants as r
 use Rattle.answer_judge.specs.Judging.{JudgeInput}
-use Rattle.answer_findings.specs.declared.finding.Found.{Found}
-use Rattle.answer_findings.specs.declared.finding.Found.TheVariants as f
+use Rattle.answer_findings.specs.declared.meaning.AnswerOutcome.{AnswerOutcome}
+use Rattle.answer_findings.specs.declared.meaning.AnswerOutcome.TheVariants as f
 use Rattle.answer_findings.specs.Found.{IsFound, IsFoundWithin}
 use Rattle.answer_findings.specs.Judgements.{aside, first_question}
 use Rattle.answer_findings.specs.Seen.{Seen, SeesVerdict, SeesDelegated, SeesNoDs, SeesAlias, SeesStarAlias, SeesOpen, SeesDname, SeesReferral, seen}
@@ -308,12 +308,12 @@ delegates_found (SeesNoDs false) = 2
 delegates_found _ = 0
 
 -- for how many seconds a verdict may be kept; 0 where nothing says it
-abbrev pub ttl_of : Option Lasting → ℕ
+abbrev pub ttl_of : Option Validity → ℕ
 ttl_of None = 0
 ttl_of (Some l) = l.ttl
 
 -- The last second in which a verdict stands that was given in one, of numbers of 64 bits; 0 where nothing says it.
-abbrev pub until_of : ℕ → Option Lasting → ℕ
+abbrev pub until_of : ℕ → Option Validity → ℕ
 until_of second None = 0
 until_of second (Some l) = min (second + l.seconds) 18446744073709551615
 
@@ -328,14 +328,14 @@ error_beside error (SeesVerdict Unsigned) = error
 error_beside error _ = 0
 
 -- What is replied to what is found at a moment in seconds, beside a DS set with that error.
-abbrev pub found_reply : ℕ → ℕ → Seen → Option Lasting → Replied
-found_reply second error s lasting = record {
+abbrev pub found_reply : ℕ → ℕ → Seen → Option Validity → Replied
+found_reply second error s validity = record {
   code = code_found s;
   octets = octets_found s;
   verifications = 0;
   hashes = 0;
-  ttl = ttl_of lasting;
-  until = until_of second lasting;
+  ttl = ttl_of validity;
+  until = until_of second validity;
   ede = error_beside error s;
   delegates = delegates_found s;
 }
@@ -407,9 +407,9 @@ front_of false table h s = []
 front_of true table h s = octets_in_front table h s
 
 -- what is replied to what comes of a search, beside a DS set with that error, and with or without places
-abbrev pub IsRepliedTo : OctetCase → ℕ → Bool → JudgeInput → List Checked → Found → Replied → Type 0
-IsRepliedTo case error places h table (f.Finds finding lasting verifications hashes) said =
-    said ≡ behind (front_of places table h (seen finding)) (counted verifications hashes (found_reply case.moment error (seen finding) lasting))
+abbrev pub IsRepliedTo : OctetCase → ℕ → Bool → JudgeInput → List Checked → AnswerOutcome → Replied → Type 0
+IsRepliedTo case error places h table (f.Means meaning validity verifications hashes) said =
+    said ≡ behind (front_of places table h (seen meaning)) (counted verifications hashes (found_reply case.moment error (seen meaning) validity))
 IsRepliedTo case error places h table (f.Refused refusal verifications hashes) said = said ≡ counted verifications hashes (refusal_reply refusal (error_of h table refusal))
 IsRepliedTo case error places h table (f.Asks asks verifications hashes) said =
     IsAskReplied (are_too_many case.max_signatures h table (length asks.items)) asks.items verifications hashes said
@@ -418,7 +418,7 @@ IsRepliedTo case error places h table (f.Asks asks verifications hashes) said =
 -- version of the zone, whichever signatures pass beside those of the table. Whatever is found, also signatures that are asked for,
 -- the counts of the call are within those of four judgements.
 pub record SaysFound (case : OctetCase) (error : ℕ) (places : Bool) (h : JudgeInput) (table : List Checked) (said : Replied) : Type 0 where
-  pub found : Found
+  pub found : AnswerOutcome
   pub is_found : IsFound table h found
   pub honest : FindsTruly table h found
   pub within : IsFoundWithin h found

@@ -9,7 +9,7 @@ ghost use Rattle.answer_judge_octets.specs.Written.{passes_octets, Splits};
 use crate::list::{Entry, Written};
 use crate::parts::{split_long, split_short};
 use answer_findings::CheckedSignature;
-use answer_shared::dnskey::key_of_data;
+use answer_terms::dnskey::key_of_data;
 use denial_data::Ds;
 use numbers::algorithm::{DigestAlgorithm, SecurityAlgorithm};
 use std::alloc::{AllocError, Global};

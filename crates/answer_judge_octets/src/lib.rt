@@ -1,5 +1,5 @@
-//! Judging from octets: a case that octets spell, judged by a table of signatures that its caller
-//! has checked, and the reply to it in octets, for callers in other languages.
+//! Judging from bytes to bytes, for callers in other languages: a case, a table of signatures that
+//! the caller has checked, and the reply.
 #![tactic(auto)]
 
 pub mod crowded;
@@ -18,5 +18,6 @@ mod table_alone;
 pub use crate::octets::{OctetCase, Report, judge_octets};
 pub use crate::reply::ReplyCode;
 pub use answer_findings::{
-    Ask, Case, CheckedSignature, Finding, Found, Lead, Outcome, Verdict, find, judge_by_table,
+    AnswerOutcome, Ask, Case, CheckedSignature, Lead, Meaning, Outcome, Verdict, judge_answer,
+    judge_by_table,
 };

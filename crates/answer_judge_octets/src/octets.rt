@@ -15,8 +15,8 @@ use crate::errors::error_of;
 use crate::limit::are_too_many;
 use crate::list::read_list;
 use crate::places::octets_in_front;
-use crate::reply::{Reply, ReplyCode, reply_of_asks, reply_of_finding, reply_of_refusal};
-use answer_findings::{Case, CheckedSignature, Found, find};
+use crate::reply::{Reply, ReplyCode, reply_of_asks, reply_of_meaning, reply_of_refusal};
+use answer_findings::{AnswerOutcome, Case, CheckedSignature, judge_answer};
 use denial_data::Ds;
 use denial_fields::unix_time::UnixTime;
 use messages::names::{Name, name_from_octets};
@@ -214,15 +214,15 @@ fn reply_of(alloc: Global, case: &OctetCase, read: &ReadCase) -> Result<Reply, A
         let places = read.now.places in
         IfOk result (λ r. Says case.now read.now.error places h table (reply_seen r)) }
 {
-    let handed = handed(case, read);
-    if are_crowded(&handed) {
+    let judge_case = judge_case(case, read);
+    if are_crowded(&judge_case) {
         return Ok(Reply::only(alloc, ReplyCode::MessageTooLong));
     }
-    searched(alloc, case, read, &handed)
+    judged_reply(alloc, case, read, &judge_case)
 }
 
 /// What a case spells, as a search is handed it.
-fn handed<'a>(case: &OctetCase, read: &'a ReadCase) -> Case<'a>
+fn judge_case<'a>(case: &OctetCase, read: &'a ReadCase) -> Case<'a>
     ensures { result ≡ judge_input_of case.now read.now }
 {
     Case {
@@ -239,44 +239,44 @@ fn handed<'a>(case: &OctetCase, read: &'a ReadCase) -> Case<'a>
 }
 
 /// The reply to what is found in a case's messages.
-fn searched(
+fn judged_reply(
     alloc: Global,
     case: &OctetCase,
     read: &ReadCase,
-    handed: &Case,
+    judge_case: &Case,
 ) -> Result<Reply, AllocError>
-    ensures { let h = handed.now in let table = read.now.table.items in
+    ensures { let h = judge_case.now in let table = read.now.table.items in
         let places = read.now.places in
         IfOk result (λ r. SaysFound case.now read.now.error places h table (reply_seen r)) }
 {
-    match find(alloc, handed, &read.table)? {
-        Found::Finds {
-            finding,
-            lasting,
+    match judge_answer(alloc, judge_case, &read.table)? {
+        AnswerOutcome::Means {
+            meaning,
+            validity,
             verifications,
             hashes,
         } => {
-            let reply = reply_of_finding(alloc, case.moment, read.error, &finding, lasting)?;
+            let reply = reply_of_meaning(alloc, case.moment, read.error, &meaning, validity)?;
             let reply = reply.counted(verifications, hashes);
             if !read.places {
                 return Ok(reply);
             }
-            reply.behind(octets_in_front(alloc, handed, &read.table, &finding)?)
+            reply.behind(octets_in_front(alloc, judge_case, &read.table, &meaning)?)
         }
-        Found::Refused {
+        AnswerOutcome::Refused {
             refusal,
             verifications,
             hashes,
         } => {
-            let error = error_of(alloc, handed, &read.table, refusal)?;
+            let error = error_of(alloc, judge_case, &read.table, refusal)?;
             Ok(reply_of_refusal(alloc, refusal, error).counted(verifications, hashes))
         }
-        Found::Asks {
+        AnswerOutcome::Asks {
             asks,
             verifications,
             hashes,
         } => {
-            let stops = are_too_many(case.max_signatures, handed, &read.table, asks.len());
+            let stops = are_too_many(case.max_signatures, judge_case, &read.table, asks.len());
             Ok(reply_of_asks(alloc, &asks, stops)?.counted(verifications, hashes))
         }
     }

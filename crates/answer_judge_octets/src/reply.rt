@@ -6,7 +6,7 @@ ghost use Rattle.definitions.specs.Name.{wire};
 ghost use Rattle.names_rdata.specs.Composing.{with_length};
 ghost use Rattle.answer_judge_rules.specs.Rules.{verdict_of};
 ghost use Rattle.answer_findings.specs.Seen.{seen};
-ghost use Rattle.answer_shared.specs.Redirection.{lead_seen};
+ghost use Rattle.answer_terms.specs.Redirection.{lead_seen};
 ghost use Rattle.answer_judge_octets.specs.declared.reply.ReplyCode.{ReplyCode};
 ghost use Rattle.answer_findings.specs.Asking.{unchecked};
 ghost use Rattle.answer_judge_octets.specs.Written.{FitsChecked, IsLong, IsShort, checked_octets};
@@ -21,8 +21,8 @@ ghost use Rattle.answer_judge_octets.specs.Replying.{octets_of_verdict, only, re
 ghost use Rattle.answer_judge_octets.specs.Replying.{reply_seen, ttl_of, until_of};
 
 use answer_extended_errors::ExtendedError;
-use answer_findings::{Ask, DataList, Finding, Lasting, Lead, Refusal, Verdict};
-use answer_shared::dnskey::ZoneKey;
+use answer_findings::{Ask, DataList, Lead, Meaning, Refusal, Validity, Verdict};
+use answer_terms::dnskey::ZoneKey;
 use denial_data::Dnskey;
 use messages::names::{Name, ZoneName};
 use std::alloc::{AllocError, Global};
@@ -252,25 +252,25 @@ impl Reply {
 
 /// The reply to what is found at a moment in seconds, beside a DS set with an error that is said
 /// where none of it is judged by.
-pub(crate) fn reply_of_finding(
+pub(crate) fn reply_of_meaning(
     alloc: Global,
     second: u64,
     error: u16,
-    finding: &Finding,
-    lasting: Option<Lasting>,
+    meaning: &Meaning,
+    validity: Option<Validity>,
 ) -> Result<Reply, AllocError>
-    ensures { let s = seen finding.now in
-        IfOk result (λ r. reply_seen r ≡ found_reply second error s lasting) }
+    ensures { let s = seen meaning.now in
+        IfOk result (λ r. reply_seen r ≡ found_reply second error s validity) }
 {
     Ok(Reply {
-        code: code_of_finding(finding),
-        octets: octets_of_finding(alloc, finding)?,
+        code: code_of_meaning(meaning),
+        octets: octets_of_meaning(alloc, meaning)?,
         verifications: 0,
         hashes: 0,
-        ttl: ttl_of(lasting),
-        until: until_of(second, lasting),
-        ede: error_beside(error, finding),
-        delegates: delegates_of(finding),
+        ttl: ttl_of(validity),
+        until: until_of(second, validity),
+        ede: error_beside(error, meaning),
+        delegates: delegates_of(meaning),
     })
 }
 
@@ -284,31 +284,31 @@ pub(crate) fn reply_of_refusal(alloc: Global, refusal: Refusal, error: ExtendedE
 }
 
 /// For how many seconds a verdict may be kept.
-pub fn ttl_of(lasting: Option<Lasting>) -> u32
-    ensures { result ≡ ttl_of lasting }
+pub fn ttl_of(validity: Option<Validity>) -> u32
+    ensures { result ≡ ttl_of validity }
 {
-    match lasting {
-        Some(lasting) => lasting.ttl.as_secs(),
+    match validity {
+        Some(validity) => validity.ttl.as_secs(),
         None => 0,
     }
 }
 
 /// The last second in which a verdict stands that was given in one.
-pub fn until_of(second: u64, lasting: Option<Lasting>) -> u64
-    ensures { result ≡ until_of second lasting }
+pub fn until_of(second: u64, validity: Option<Validity>) -> u64
+    ensures { result ≡ until_of second validity }
 {
-    match lasting {
-        Some(lasting) => second.saturating_add(u64::from(lasting.seconds)),
+    match validity {
+        Some(validity) => second.saturating_add(u64::from(validity.seconds)),
         None => 0,
     }
 }
 
 /// The error of a DS set, beside the verdict that the zone is not signed.
-fn error_beside(error: u16, finding: &Finding) -> u16
-    ensures { result ≡ error_beside error (seen finding.now) }
+fn error_beside(error: u16, meaning: &Meaning) -> u16
+    ensures { result ≡ error_beside error (seen meaning.now) }
 {
-    match finding {
-        Finding::Verdict(Verdict::Unsigned) => error,
+    match meaning {
+        Meaning::Verdict(Verdict::Unsigned) => error,
         _ => 0,
     }
 }
@@ -319,12 +319,12 @@ const DELEGATES: u16 = 1;
 const DELEGATES_NOT: u16 = 2;
 
 /// Whether a name that has no DS record is a delegation; 0 where nothing is said of it.
-fn delegates_of(finding: &Finding) -> u16
-    ensures { result ≡ delegates_found (seen finding.now) }
+fn delegates_of(meaning: &Meaning) -> u16
+    ensures { result ≡ delegates_found (seen meaning.now) }
 {
-    match finding {
-        Finding::NoDs(true) => DELEGATES,
-        Finding::NoDs(false) => DELEGATES_NOT,
+    match meaning {
+        Meaning::NoDs(true) => DELEGATES,
+        Meaning::NoDs(false) => DELEGATES_NOT,
         _ => 0,
     }
 }
@@ -341,18 +341,18 @@ pub fn reply_of_asks(alloc: Global, asks: &[Ask], stops: bool) -> Result<Reply, 
     Ok(reply)
 }
 
-fn code_of_finding(finding: &Finding) -> ReplyCode
-    ensures { result ≡ code_found (seen finding.now) }
+fn code_of_meaning(meaning: &Meaning) -> ReplyCode
+    ensures { result ≡ code_found (seen meaning.now) }
 {
-    match finding {
-        Finding::Verdict(verdict) => code_of_verdict(verdict),
-        Finding::Delegated(_) => ReplyCode::Delegated,
-        Finding::NoDs(_) => ReplyCode::NoType,
-        Finding::Alias(_) => ReplyCode::Alias,
-        Finding::WildcardAlias(_) => ReplyCode::WildcardAlias,
-        Finding::LeftOpen => ReplyCode::Open,
-        Finding::Dname { .. } => ReplyCode::Dname,
-        Finding::Referral { .. } => ReplyCode::Referral,
+    match meaning {
+        Meaning::Verdict(verdict) => code_of_verdict(verdict),
+        Meaning::Delegated(_) => ReplyCode::Delegated,
+        Meaning::NoDs(_) => ReplyCode::NoType,
+        Meaning::Alias(_) => ReplyCode::Alias,
+        Meaning::WildcardAlias(_) => ReplyCode::WildcardAlias,
+        Meaning::LeftOpen => ReplyCode::Open,
+        Meaning::Dname { .. } => ReplyCode::Dname,
+        Meaning::Referral { .. } => ReplyCode::Referral,
     }
 }
 
@@ -404,16 +404,16 @@ fn code_of_refusal(refusal: Refusal) -> ReplyCode
 }
 
 /// The octets of what is found: names in wire form, and data, each behind its length.
-fn octets_of_finding(alloc: Global, finding: &Finding) -> Result<Vec<u8>, AllocError>
-    ensures { IfOk result (λ v. v.items ≡ octets_found (seen finding.now)) }
+fn octets_of_meaning(alloc: Global, meaning: &Meaning) -> Result<Vec<u8>, AllocError>
+    ensures { IfOk result (λ v. v.items ≡ octets_found (seen meaning.now)) }
 {
-    match finding {
-        Finding::Verdict(verdict) => octets_of_verdict(alloc, verdict),
-        Finding::Delegated(None) | Finding::NoDs(_) | Finding::LeftOpen => Ok(Vec::new(alloc)),
-        Finding::Delegated(Some(cut)) => octets_of_name(alloc, cut),
-        Finding::Alias(target) | Finding::WildcardAlias(target) => octets_of_name(alloc, target),
-        Finding::Dname { owner, leads } => octets_of_dname(alloc, owner, leads),
-        Finding::Referral { cut, ds } => octets_of_referral(alloc, cut, ds),
+    match meaning {
+        Meaning::Verdict(verdict) => octets_of_verdict(alloc, verdict),
+        Meaning::Delegated(None) | Meaning::NoDs(_) | Meaning::LeftOpen => Ok(Vec::new(alloc)),
+        Meaning::Delegated(Some(cut)) => octets_of_name(alloc, cut),
+        Meaning::Alias(target) | Meaning::WildcardAlias(target) => octets_of_name(alloc, target),
+        Meaning::Dname { owner, leads } => octets_of_dname(alloc, owner, leads),
+        Meaning::Referral { cut, ds } => octets_of_referral(alloc, cut, ds),
     }
 }
 

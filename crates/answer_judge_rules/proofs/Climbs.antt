@@ -6,7 +6,7 @@ use Rattle.definitions.specs.Name.{Name, low, same}
 use Rattle.definitions.specs.Zone.{Verdict, star_under}
 use Rattle.denial_laws.specs.Facts.{HashLink}
 use Rattle.denial_laws.specs.NsecRules.{first_some, or_else}
-use Rattle.denial_laws.specs.Nsec3Rules.{asks_star, beyond, climbed, cut_above, enclosed, encloses, hashed_climbing, hashed_denied, hashed_enclosed, is_matched}
+use Rattle.denial_laws.specs.Nsec3Rules.{asks_star, beyond, by_closest_encloser, cut_above, enclosed, encloses, hashed_climbing, hashed_denied, hashed_enclosed, is_matched}
 use Rattle.answer_judge_rules.specs.Hashing.{hashed_beyond}
 
 -- a name below another has one label more
@@ -17,9 +17,9 @@ child_of (l ∷ q) p e n = (l, ap (λ m. l ∷ m) (sym e))
 module _ (apex : Name) (hash : Name → List ℕ) (fs : List HashLink) where
   -- ---- the apex, and the root
 
-  pub climbed_out : (q : Name) (t : ℕ) → same q apex ≡ true → climbed apex hash q t fs ≡ None
+  pub climbed_out : (q : Name) (t : ℕ) → same q apex ≡ true → by_closest_encloser apex hash q t fs ≡ None
   climbed_out [] t e = refl
-  climbed_out (l ∷ p) t e = ap (λ (b : Bool). elim b as (λ _. Option Verdict) [ true ↦ None | false ↦ elim (is_matched fs (hash (low p))) [ true ↦ enclosed apex hash (l ∷ p) p t fs | false ↦ climbed apex hash p t fs ] ]) e
+  climbed_out (l ∷ p) t e = ap (λ (b : Bool). elim b as (λ _. Option Verdict) [ true ↦ None | false ↦ elim (is_matched fs (hash (low p))) [ true ↦ enclosed apex hash (l ∷ p) p t fs | false ↦ by_closest_encloser apex hash p t fs ] ]) e
 
   pub hashed_out : (q : Name) → same q apex ≡ true → hashed_climbing apex hash q fs ≡ []
   hashed_out [] e = refl
@@ -28,12 +28,12 @@ module _ (apex : Name) (hash : Name → List ℕ) (fs : List HashLink) where
   -- ---- a parent
 
   pub climbed_to : (q p : Name) (l : List ℕ) (t : ℕ) (m : Bool) → q ≡ l ∷ p → same q apex ≡ false → is_matched fs (hash (low p)) ≡ m
-      → climbed apex hash q t fs ≡ (elim m as (λ _. Option Verdict) [ true ↦ enclosed apex hash q p t fs | false ↦ climbed apex hash p t fs ])
+      → by_closest_encloser apex hash q t fs ≡ (elim m as (λ _. Option Verdict) [ true ↦ enclosed apex hash q p t fs | false ↦ by_closest_encloser apex hash p t fs ])
   climbed_to q p l t m e a h =
-      ap (λ n. climbed apex hash n t fs) e
-      ∙ ap (λ (b : Bool). elim b as (λ _. Option Verdict) [ true ↦ None | false ↦ elim (is_matched fs (hash (low p))) [ true ↦ enclosed apex hash (l ∷ p) p t fs | false ↦ climbed apex hash p t fs ] ]) (ap (λ n. same n apex) (sym e) ∙ a)
-      ∙ ap (λ (b : Bool). elim b as (λ _. Option Verdict) [ true ↦ enclosed apex hash (l ∷ p) p t fs | false ↦ climbed apex hash p t fs ]) h
-      ∙ ap (λ n. elim m as (λ _. Option Verdict) [ true ↦ enclosed apex hash n p t fs | false ↦ climbed apex hash p t fs ]) (sym e)
+      ap (λ n. by_closest_encloser apex hash n t fs) e
+      ∙ ap (λ (b : Bool). elim b as (λ _. Option Verdict) [ true ↦ None | false ↦ elim (is_matched fs (hash (low p))) [ true ↦ enclosed apex hash (l ∷ p) p t fs | false ↦ by_closest_encloser apex hash p t fs ] ]) (ap (λ n. same n apex) (sym e) ∙ a)
+      ∙ ap (λ (b : Bool). elim b as (λ _. Option Verdict) [ true ↦ enclosed apex hash (l ∷ p) p t fs | false ↦ by_closest_encloser apex hash p t fs ]) h
+      ∙ ap (λ n. elim m as (λ _. Option Verdict) [ true ↦ enclosed apex hash n p t fs | false ↦ by_closest_encloser apex hash p t fs ]) (sym e)
 
   pub hashed_to : (q p : Name) (l : List ℕ) (m : Bool) → q ≡ l ∷ p → same q apex ≡ false → is_matched fs (hash (low p)) ≡ m
       → hashed_climbing apex hash q fs ≡ p ∷ (elim m as (λ _. List Name) [ true ↦ hashed_enclosed apex hash q p fs | false ↦ hashed_climbing apex hash p fs ])

@@ -8,7 +8,7 @@ use Rattle.definitions.specs.Zone.{Verdict, star_under}
 use Rattle.denial_nsec3_hash.specs.declared.hasher.HashError.{HashError}
 use Rattle.denial_laws.specs.Facts.{HashLink}
 use Rattle.denial_laws.specs.NsecRules.{first_some, or_else}
-use Rattle.denial_laws.specs.Nsec3Rules.{asks_star, at_hash, beyond, climbed, cut_above, enclosed, encloses, hash_denied, hashed_climbing, hashed_denied, hashed_enclosed, is_matched, star_at}
+use Rattle.denial_laws.specs.Nsec3Rules.{asks_star, at_hash, beyond, by_closest_encloser, cut_above, enclosed, encloses, hash_denied, hashed_climbing, hashed_denied, hashed_enclosed, is_matched, star_at}
 use Rattle.answer_scheme.specs.Answers.{Answers}
 use Rattle.answer_judge_rules.specs.Hashing.{fails_as, hash_as, hashed_beyond, HashesInTurn, open_among}
 use Rattle.answer_judge_rules.specs.Rules.{verdict_of}
@@ -33,13 +33,13 @@ module _ (apex : Name) (first : HashLink) (fs : List HashLink) (q p : Name) (l :
   at_parent : (m : Bool) → is_matched fs h ≡ m → is_matched fs (hash_as a.hash first (low p)) ≡ m
   at_parent m e = ap (is_matched fs) (sym is) ∙ e
 
-  pub found : (t : ℕ) (r : Answered) → is_matched fs h ≡ true → Says r (enclosed apex (hash_as b.hash first) q p t fs) → Says r (climbed apex (hash_as a.hash first) q t fs)
+  pub found : (t : ℕ) (r : Answered) → is_matched fs h ≡ true → Says r (enclosed apex (hash_as b.hash first) q p t fs) → Says r (by_closest_encloser apex (hash_as a.hash first) q t fs)
   found t r m s = subst (λ x. Says r x)
       (ap (λ (x : Answers). enclosed apex (hash_as x.hash first) q p t fs) alike ∙ sym (climbed_to apex (hash_as a.hash first) fs q p l t true child apart (at_parent true m))) s
 
-  pub passed : (t : ℕ) (r : Answered) → is_matched fs h ≡ false → Says r (climbed apex (hash_as b.hash first) p t fs) → Says r (climbed apex (hash_as a.hash first) q t fs)
+  pub passed : (t : ℕ) (r : Answered) → is_matched fs h ≡ false → Says r (by_closest_encloser apex (hash_as b.hash first) p t fs) → Says r (by_closest_encloser apex (hash_as a.hash first) q t fs)
   passed t r m s = subst (λ x. Says r x)
-      (ap (λ (x : Answers). climbed apex (hash_as x.hash first) p t fs) alike ∙ sym (climbed_to apex (hash_as a.hash first) fs q p l t false child apart (at_parent false m))) s
+      (ap (λ (x : Answers). by_closest_encloser apex (hash_as x.hash first) p t fs) alike ∙ sym (climbed_to apex (hash_as a.hash first) fs q p l t false child apart (at_parent false m))) s
 
   pub hashed_found : {T : Type 0} (before mid after : ℕ) (parent : T) (r : Answered) → is_matched fs h ≡ true
       → HashesInTurn (fails_as a.hash first) (p ∷ []) before mid (Ok parent)
@@ -73,8 +73,8 @@ hashed_stopped T apex hash fails fs q p l child apart before after e y r was sam
 pub hashed_ended : (apex : Name) (hash : Name → List ℕ) (fails : Name → Bool) (fs : List HashLink) (q : Name) (n : ℕ) (v : Option CodeVerdict) → same q apex ≡ true → HashesInTurn fails (hashed_climbing apex hash q fs) n n (Ok v)
 hashed_ended apex hash fails fs q n v e = subst (λ ns. HashesInTurn fails ns n n (Ok v)) (sym (hashed_out apex hash fs q e)) (none fails n v)
 
-pub climbed_root : (apex : Name) (hash : Name → List ℕ) (fs : List HashLink) (q : Name) (t : ℕ) → q ≡ [] → climbed apex hash q t fs ≡ None
-climbed_root apex hash fs q t e = ap (λ n. climbed apex hash n t fs) e
+pub climbed_root : (apex : Name) (hash : Name → List ℕ) (fs : List HashLink) (q : Name) (t : ℕ) → q ≡ [] → by_closest_encloser apex hash q t fs ≡ None
+climbed_root apex hash fs q t e = ap (λ n. by_closest_encloser apex hash n t fs) e
 
 pub hashed_root : (apex : Name) (hash : Name → List ℕ) (fails : Name → Bool) (fs : List HashLink) (q : Name) (n : ℕ) (v : Option CodeVerdict) → q ≡ [] → HashesInTurn fails (hashed_climbing apex hash q fs) n n (Ok v)
 hashed_root apex hash fails fs q n v e = subst (λ ns. HashesInTurn fails ns n n (Ok v)) (sym (ap (λ m. hashed_climbing apex hash m fs) e)) (none fails n v)
@@ -85,8 +85,8 @@ module _ (apex : Name) (first : HashLink) (fs : List HashLink) (q : Name) (a b :
   at_itself : (m : Bool) → is_matched fs h ≡ m → is_matched fs (hash_as a.hash first (low q)) ≡ m
   at_itself m e = ap (is_matched fs) (sym is) ∙ e
 
-  chosen : (t : ℕ) (m : Bool) → is_matched fs h ≡ m → hash_denied apex (hash_as a.hash first) q t fs ≡ (elim m as (λ _. Option Verdict) [ true ↦ first_some (at_hash apex q t (hash_as a.hash first (low q))) fs | false ↦ climbed apex (hash_as a.hash first) q t fs ])
-  chosen t m e = ap (λ (x : Bool). elim x as (λ _. Option Verdict) [ true ↦ first_some (at_hash apex q t (hash_as a.hash first (low q))) fs | false ↦ climbed apex (hash_as a.hash first) q t fs ]) (at_itself m e)
+  chosen : (t : ℕ) (m : Bool) → is_matched fs h ≡ m → hash_denied apex (hash_as a.hash first) q t fs ≡ (elim m as (λ _. Option Verdict) [ true ↦ first_some (at_hash apex q t (hash_as a.hash first (low q))) fs | false ↦ by_closest_encloser apex (hash_as a.hash first) q t fs ])
+  chosen t m e = ap (λ (x : Bool). elim x as (λ _. Option Verdict) [ true ↦ first_some (at_hash apex q t (hash_as a.hash first (low q))) fs | false ↦ by_closest_encloser apex (hash_as a.hash first) q t fs ]) (at_itself m e)
 
   names : (m : Bool) → is_matched fs h ≡ m → hashed_denied apex (hash_as a.hash first) q fs ≡ q ∷ (elim m as (λ _. List Name) [ true ↦ [] | false ↦ hashed_climbing apex (hash_as a.hash first) q fs ])
   names m e = ap (λ (x : Bool). q ∷ (elim x as (λ _. List Name) [ true ↦ [] | false ↦ hashed_climbing apex (hash_as a.hash first) q fs ])) (at_itself m e)
@@ -99,8 +99,8 @@ module _ (apex : Name) (first : HashLink) (fs : List HashLink) (q : Name) (a b :
       → HashesInTurn (fails_as a.hash first) (hashed_denied apex (hash_as a.hash first) q fs) before mid (Ok v)
   hashed_matched before mid name v m one = subst (λ ns. HashesInTurn (fails_as a.hash first) ns before mid (Ok v)) (sym (names true m)) one
 
-  pub unmatched : (t : ℕ) (r : Answered) → is_matched fs h ≡ false → Says r (climbed apex (hash_as b.hash first) q t fs) → Says r (hash_denied apex (hash_as a.hash first) q t fs)
-  unmatched t r m s = subst (λ x. Says r x) (ap (λ (x : Answers). climbed apex (hash_as x.hash first) q t fs) alike ∙ sym (chosen t false m)) s
+  pub unmatched : (t : ℕ) (r : Answered) → is_matched fs h ≡ false → Says r (by_closest_encloser apex (hash_as b.hash first) q t fs) → Says r (hash_denied apex (hash_as a.hash first) q t fs)
+  unmatched t r m s = subst (λ x. Says r x) (ap (λ (x : Answers). by_closest_encloser apex (hash_as x.hash first) q t fs) alike ∙ sym (chosen t false m)) s
 
   pub hashed_unmatched : {T : Type 0} (before mid after : ℕ) (name : T) (r : Answered) → is_matched fs h ≡ false
       → HashesInTurn (fails_as a.hash first) (q ∷ []) before mid (Ok name)

@@ -4,7 +4,7 @@ ghost use Rattle.std.specs.Option.{option_map};
 ghost use Rattle.definitions.specs.Name.{low};
 ghost use Rattle.definitions.specs.Zone.{star_under};
 ghost use Rattle.denial_laws.specs.NsecRules.{first_some};
-ghost use Rattle.denial_laws.specs.Nsec3Rules.{star_at, beyond, enclosed, climbed, hash_denied, hash_expanded_by, hash_expanded, last_labels, hashed_enclosed, hashed_climbing, hashed_denied};
+ghost use Rattle.denial_laws.specs.Nsec3Rules.{star_at, beyond, enclosed, by_closest_encloser, hash_denied, hash_expanded_by, hash_expanded, last_labels, hashed_enclosed, hashed_climbing, hashed_denied};
 ghost use Rattle.answer_judge_rules.specs.Hashing.{fails_as, hash_as, hashed_beyond, HashesInTurn};
 ghost use Rattle.answer_judge_rules.specs.Rules.{verdict_of};
 ghost use Rattle.answer_scheme.specs.Answers.{NoneVerified};
@@ -64,7 +64,7 @@ fn at_wildcard<C: Checks>(
 ///
 /// Without a look at the next closer name an ancestor would pass for the closest encloser, and
 /// names below it for none (RFC 5155, 8.3).
-fn beyond_encloser<C: Checks>(
+fn by_next_closer<C: Checks>(
     chain: &HashChain,
     checks: &mut C,
     count: &mut u32,
@@ -135,14 +135,14 @@ fn from_encloser<C: Checks>(
     if !is_enclosed(chain.links, &encloser.hash) {
         return Ok(None);
     }
-    beyond_encloser(chain, checks, count, octets, closer, &encloser.name)
+    by_next_closer(chain, checks, count, octets, closer, &encloser.name)
 }
 
 /// What links prove of a name that none of them matches, by its parents: each is hashed, up to the
 /// apex, until one is matched.
 ///
 /// An ancestor further up would let another wildcard than the name's speak for it (RFC 5155, 8.3).
-fn climbed<C: Checks>(
+fn by_closest_encloser<C: Checks>(
     chain: &HashChain,
     checks: &mut C,
     count: &mut u32,
@@ -155,7 +155,7 @@ fn climbed<C: Checks>(
     ensures verdict { let hash = hash_as (C.answers checks.old).hash chain.now.first.now in
         let apex = chain.now.apex.now in let t = chain.now.rtype in
         let links = chain.now.links.now in
-        IfOk result (λ v. option_map verdict_of v ≡ climbed apex hash below.now.name t links) }
+        IfOk result (λ v. option_map verdict_of v ≡ by_closest_encloser apex hash below.now.name t links) }
     ensures hashes { let answers = (C.answers checks.old).hash in
         let hash = hash_as answers chain.now.first.now in
         let fails = fails_as answers chain.now.first.now in
@@ -177,7 +177,7 @@ fn climbed<C: Checks>(
     if is_matched(chain.links, &parent.hash) {
         return from_encloser(chain, checks, count, octets, below, &parent);
     }
-    climbed(chain, checks, count, octets, &parent)
+    by_closest_encloser(chain, checks, count, octets, &parent)
 }
 
 /// What links prove of a name: one that matches it tells, or else those that match and cover its
@@ -210,7 +210,7 @@ pub(crate) fn hash_denied<C: Checks>(
         let verdict = first_at_hash(chain.apex, chain.links, &name.name, &name.hash, chain.rtype);
         return Ok(verdict);
     }
-    climbed(chain, checks, count, octets, &name)
+    by_closest_encloser(chain, checks, count, octets, &name)
 }
 
 /// What a wildcard's RRset proves of a name whose next closer name has a hash.

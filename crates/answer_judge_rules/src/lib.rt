@@ -1,5 +1,5 @@
-//! What verified facts tell of a name: the judge's rules on an RRset and on NSEC and NSEC3 records
-//! alone (RFC 4035, 5.3.4 and 5.4; RFC 5155, 8). No message, no signature and no key is seen here.
+//! The judge's rules: what a verified RRset and verified NSEC and NSEC3 records prove about a name
+//! (RFC 4035, 5.3.4 and 5.4; RFC 5155, 8). No message, signature or key is seen here.
 #![tactic(auto)]
 
 pub mod asked;

@@ -1,6 +1,5 @@
-//! Judging by a table of signatures that a caller has checked, for callers whose library of
-//! signatures a judge cannot call: where the table does not have signatures, they are asked for,
-//! all at once (RFC 4035, 5).
+//! Judging with a table of signatures that the caller has checked: the judge requests all
+//! signatures that the table lacks at once (RFC 4035, 5).
 #![tactic(auto)]
 
 pub mod checked;
@@ -14,4 +13,4 @@ pub use crate::digests::digest;
 pub use crate::judging::{asks_by_table, asks_counted, judge_by_table, judge_counted};
 pub use crate::outcome::{Ask, Counted, Outcome};
 pub use crate::table_checks::Lacking;
-pub use answer_judge::{Case, DataList, Judgement, Lasting, Refusal, Refused, Verdict};
+pub use answer_judge::{Case, DataList, Judgement, Refusal, Refused, Validity, Verdict};

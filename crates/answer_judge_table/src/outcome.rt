@@ -8,7 +8,7 @@ ghost use Rattle.answer_judge_table.specs.Table.{is_same_try, tried};
 use crate::checked::is_same_key;
 use answer_judge::{Judgement, Refused};
 use answer_scheme::steps::Steps;
-use answer_shared::dnskey::ZoneKey;
+use answer_terms::dnskey::ZoneKey;
 use denial_data::Dnskey;
 use std::alloc::{AllocError, Global};
 use std::marker::Model;

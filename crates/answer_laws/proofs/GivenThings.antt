@@ -9,15 +9,15 @@ use Rattle.definitions.specs.Limits.{pointer_limit}
 use Rattle.answer_judge_keys.specs.Trusted.{is_usable}
 use Rattle.answer_publisher_keys.specs.declared.keys.Publication.TheVariants as publication
 use Rattle.messages.specs.HandedRr.{HandedRr}
-use Rattle.answer_shared.specs.Accepting.{zone_of}
+use Rattle.answer_terms.specs.Accepting.{zone_of}
 use Rattle.answer_publisher_keys.specs.Bindings.{BoundKey, ZoneKeys, dnskeys, ds_cmp, ds_of, ds_set, published}
-use Rattle.answer_shared.specs.EqualTags.{has_equal_tags}
-use Rattle.answer_shared.specs.Asking.{is_allowed}
+use Rattle.answer_terms.specs.EqualTags.{has_equal_tags}
+use Rattle.answer_terms.specs.Asking.{is_allowed}
 use Rattle.answer_judge.specs.Meeting.{HasDs, WasGiven, holds}
 use Rattle.messages.specs.Message.{Asked}
 use Rattle.answer_publisher.specs.Publishing.{digest_at}
 use Rattle.answer_scheme.specs.Moments.{second_of}
-use Rattle.answer_shared.specs.Hashing.{HashesHold}
+use Rattle.answer_terms.specs.Hashing.{HashesHold}
 use Rattle.answer_laws.specs.Simulating.{judge_input}
 use Rattle.answer_laws.specs.PublishedKeys.{IsKeyOfZone}
 use Rattle.answer_laws.specs.Simulations.{IsZoneOf}

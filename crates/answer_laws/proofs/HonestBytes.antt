@@ -14,10 +14,10 @@ use Rattle.messages.specs.Message.{Asked}
 use Rattle.messages.specs.Questions.{asked_of}
 use Rattle.messages.specs.WrittenLaws.{IsQuestion}
 use Rattle.messages.proofs.Lists.{all_at, all_more, some_is}
-use Rattle.answer_shared.specs.Accepting.{over_limit, sorted_records, zone_of}
-use Rattle.answer_shared.specs.Chainable.{HasChain}
-use Rattle.answer_shared.specs.Hashing.{Hasher}
-use Rattle.answer_shared.proofs.Servable.{servable}
+use Rattle.answer_terms.specs.Accepting.{over_limit, sorted_records, zone_of}
+use Rattle.answer_terms.specs.Chainable.{HasChain}
+use Rattle.answer_terms.specs.Hashing.{Hasher}
+use Rattle.answer_terms.proofs.Servable.{servable}
 use Rattle.answer_events.specs.declared.event.Act.{Act}
 use Rattle.answer_events.specs.declared.event.Act.TheVariants as act
 use Rattle.answer_events.specs.Calls.{call_of}

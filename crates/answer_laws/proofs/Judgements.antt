@@ -20,15 +20,15 @@ use Rattle.definitions.specs.Limits.{pointer_limit}
 use Rattle.answer_scheme.specs.Answers.{Answers}
 use Rattle.messages.specs.Handed.{IsHanded}
 use Rattle.messages.specs.HandedRr.{HandedRr, handed_of}
-use Rattle.answer_shared.specs.Accepted.{IsAccepted}
-use Rattle.answer_shared.specs.Accepting.{sorted_records, zone_of}
-use Rattle.answer_shared.specs.Hashing.{HashesHold}
-use Rattle.answer_shared.specs.Served.{keys_ttl}
-use Rattle.answer_shared.specs.ZoneView.{AcceptedZone}
+use Rattle.answer_terms.specs.Accepted.{IsAccepted}
+use Rattle.answer_terms.specs.Accepting.{sorted_records, zone_of}
+use Rattle.answer_terms.specs.Hashing.{HashesHold}
+use Rattle.answer_terms.specs.Served.{keys_ttl}
+use Rattle.answer_terms.specs.ZoneView.{AcceptedZone}
 use Rattle.answer_publisher_keys.specs.Bindings as bindings
 use Rattle.answer_publisher_keys.specs.Bindings.{ZoneKeys, apply, ds_set, set_call}
 use Rattle.answer_judge.specs.Judging.{Says, answer_of, hashes_of, verifications_of}
-use Rattle.answer_shared.specs.Asking.{is_allowed}
+use Rattle.answer_terms.specs.Asking.{is_allowed}
 use Rattle.answer_judge.specs.Judged.{AnswersAs}
 use Rattle.answer_judge.specs.Meeting.{IsJudgement, holds}
 use Rattle.messages.specs.Message.{Asked}
@@ -43,7 +43,7 @@ use Rattle.answer_publisher.specs.Replacing.{noted}
 use Rattle.answer_publisher.specs.World.{TellsAnswer, TellsKeys, World, served_in}
 use Rattle.messages.specs.WrittenLaws.{IsQuestion}
 use Rattle.answer_laws.proofs.KeyLife.{apply_binds}
-use Rattle.answer_shared.proofs.GivenTold.{told}
+use Rattle.answer_terms.proofs.GivenTold.{told}
 use Rattle.answer_publisher_keys.proofs.KeyTags.{apply_own, none_own, own_of}
 use Rattle.answer_laws.specs.Simulations.{IsZoneOf}
 use Rattle.answer_laws.proofs.GivenThings.{AreLeft, given}

@@ -5,7 +5,7 @@ use Rattle.std.specs.List.{AllByRecursion}
 use Rattle.definitions.specs.Dnskey.{Ds}
 use Rattle.messages.specs.HandedRr.{HandedRr}
 use Rattle.messages.specs.Message.{Asked}
-use Rattle.answer_shared.specs.ZoneView.{AcceptedZone}
+use Rattle.answer_terms.specs.ZoneView.{AcceptedZone}
 use Rattle.answer_events.specs.declared.event.Act.{Act}
 use Rattle.answer_events.specs.declared.event.Act.TheVariants as act
 use Rattle.answer_events.specs.declared.event.Event.{Event}

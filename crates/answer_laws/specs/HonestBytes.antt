@@ -7,8 +7,8 @@ use Rattle.denial_laws.specs.Truth.{NoSharedHash}
 use Rattle.messages.specs.HandedRr.{HandedRr}
 use Rattle.messages.specs.Message.{Asked, Spelled}
 use Rattle.messages.specs.Questions.{asked_of}
-use Rattle.answer_shared.specs.Accepting.{zone_of}
-use Rattle.answer_shared.specs.Hashing.{hash_in}
+use Rattle.answer_terms.specs.Accepting.{zone_of}
+use Rattle.answer_terms.specs.Hashing.{hash_in}
 use Rattle.answer_events.specs.declared.event.Event.{Event}
 use Rattle.answer_events.specs.declared.event.Act.{Act}
 use Rattle.answer_events.specs.declared.event.Act.TheVariants as act

@@ -9,15 +9,15 @@ use Rattle.answer_outcomes.specs.declared.outcome.Outcome.{Outcome}
 use Rattle.answer_outcomes.specs.declared.outcome.Outcome.TheVariants as outcome
 use Rattle.answer_publisher_keys.specs.declared.keys.Publication.TheVariants as publication
 use Rattle.messages.specs.HandedRr.{HandedRr}
-use Rattle.answer_shared.specs.Accepting.{zone_of}
-use Rattle.answer_shared.specs.Hashing.{HashesHold}
+use Rattle.answer_terms.specs.Accepting.{zone_of}
+use Rattle.answer_terms.specs.Hashing.{HashesHold}
 use Rattle.answer_publisher_keys.specs.Bindings.{ZoneKeys, dnskeys, published}
 use Rattle.answer_judge.specs.Judged.{AnswersAs}
 use Rattle.answer_judge.specs.Judging.{Says, answer_of}
 use Rattle.answer_judge.specs.Meeting.{Meet, holds}
 use Rattle.messages.specs.Message.{Asked}
 use Rattle.messages.specs.Questions.{asked_of}
-use Rattle.answer_shared.specs.Asking.{is_allowed}
+use Rattle.answer_terms.specs.Asking.{is_allowed}
 use Rattle.answer_scheme.specs.Moments.{second_of}
 use Rattle.answer_laws.specs.Simulating.{OfZone, Simulates, Sofar, begin}
 use Rattle.answer_publisher.specs.World.{TellsAnswer, TellsKeys, World}

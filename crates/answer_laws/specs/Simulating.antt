@@ -25,10 +25,10 @@ use Rattle.answer_publisher.specs.World.{World, AnswersKeysQuestion, AnswersQues
 use Rattle.answer_judge.specs.Meeting.{IsJudgement}
 use Rattle.messages.specs.WrittenLaws.{IsQuestion}
 use Rattle.answer_judge.specs.Judging.{JudgeInput, answer_of, handed, verifications_of, hashes_of}
-use Rattle.answer_shared.specs.Accepted.{IsAccepted}
-use Rattle.answer_shared.specs.Accepting.{sorted_records}
-use Rattle.answer_shared.specs.Asking.{is_allowed}
-use Rattle.answer_shared.specs.ZoneView.{AcceptedZone}
+use Rattle.answer_terms.specs.Accepted.{IsAccepted}
+use Rattle.answer_terms.specs.Accepting.{sorted_records}
+use Rattle.answer_terms.specs.Asking.{is_allowed}
+use Rattle.answer_terms.specs.ZoneView.{AcceptedZone}
 
 -- what was shown
 pub data Shown : Type 0 where

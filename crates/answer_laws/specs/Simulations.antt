@@ -4,7 +4,7 @@ use Rattle.std.specs.List.{AllByRecursion}
 use Rattle.definitions.specs.Name.{IsName}
 use Rattle.messages.specs.Handed.{IsHanded}
 use Rattle.messages.specs.HandedRr.{HandedRr}
-use Rattle.answer_shared.specs.Accepted.{IsAccepted}
+use Rattle.answer_terms.specs.Accepted.{IsAccepted}
 use Rattle.answer_judge.specs.Meeting.{zone_from}
 use Rattle.answer_publisher.specs.World.{World}
 use Rattle.answer_events.specs.declared.event.Event.{Event}

@@ -7,7 +7,7 @@ use Rattle.definitions.specs.ZoneChain.{optout_of}
 use Rattle.messages.specs.HandedRr.{HandedRr}
 use Rattle.messages.specs.Message.{Asked}
 use Rattle.messages.specs.Questions.{asked_of}
-use Rattle.answer_shared.specs.Asking.{is_allowed}
+use Rattle.answer_terms.specs.Asking.{is_allowed}
 use Rattle.answer_events.specs.Calls.{call_of}
 use Rattle.answer_events.specs.declared.event.Event.{Event}
 use Rattle.answer_events.specs.declared.event.Act.{Act}
@@ -20,8 +20,8 @@ use Rattle.keyset.specs.KeyRunLaws.{by_rolls_alone}
 use Rattle.keyset_laws.specs.KeyLife.{DnskeyAnswer, DsSet, Step, Thing, ZoneAnswer, accepted, retired}
 use Rattle.keyset_laws.specs.Meeting.{algorithm_first, by_then}
 use Rattle.keyset_laws.specs.Sides.{is_empty}
-use Rattle.answer_shared.specs.Accepting.{zone_of}
-use Rattle.answer_shared.specs.Hashing.{HashesHold}
+use Rattle.answer_terms.specs.Accepting.{zone_of}
+use Rattle.answer_terms.specs.Hashing.{HashesHold}
 use Rattle.answer_judge.specs.Judged.{AnswersAs}
 use Rattle.answer_judge.specs.Judging.{Says, answer_of}
 use Rattle.answer_judge.specs.Meeting.{holds}

@@ -5,7 +5,7 @@ use Rattle.definitions.specs.Dnskey.{Ds}
 use Rattle.definitions.specs.Limits.{pointer_limit}
 use Rattle.messages.specs.HandedRr.{HandedRr, handed_of}
 use Rattle.messages.specs.Message.{Asked}
-use Rattle.answer_shared.specs.Accepting.{sorted_records}
+use Rattle.answer_terms.specs.Accepting.{sorted_records}
 use Rattle.answer_events.specs.declared.event.Act.{Act}
 use Rattle.answer_events.specs.declared.event.Act.TheVariants as act
 use Rattle.answer_events.specs.declared.event.Event.{Event}

@@ -1,5 +1,5 @@
-//! Laws of the life of a signed zone: what may come of each event, and what judgements among the
-//! events say.
+//! Laws about the life of a signed zone: which outcomes each event may have, and what judgements
+//! among the events return.
 #![tactic(auto)]
 
 pub mod laws;

@@ -1,4 +1,4 @@
-//! What comes of the events of a zone's life.
+//! The outcomes of events in a zone's life.
 #![tactic(auto)]
 
 pub mod outcome;

@@ -1,7 +1,7 @@
 //! The outcomes of events.
 use answer_judge::verdict::{Judgement, Refused};
 use answer_publisher::fault::{AnswerFault, KeyFault, ReplaceFault};
-use answer_shared::dnskey::Dnskey;
+use answer_terms::dnskey::Dnskey;
 use denial_data::Ds;
 use keyset::Action;
 

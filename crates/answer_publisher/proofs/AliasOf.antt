@@ -9,7 +9,7 @@ use Rattle.definitions.specs.ZoneChain.{Mode}
 use Rattle.denial_laws.specs.Aliases.{is_alias_type}
 use Rattle.messages.specs.HandedRr.{HandedRr}
 use Rattle.messages.specs.Message.{Asked}
-use Rattle.answer_shared.specs.Accepting.{is_alias, zone_with}
+use Rattle.answer_terms.specs.Accepting.{is_alias, zone_with}
 use Rattle.answer_zone.specs.Finding.{finds, redirecting}
 use Rattle.answer_zone.proofs.Found.{found_nowhere, no_alias_at, redirecting_nowhere}
 use Rattle.answer_publisher.specs.Aliases.{alias_in_place, alias_of, asks_all, asks_beside, for_type, may_lead}

@@ -5,8 +5,8 @@ use Rattle.std.proofs.lemmas.Bool.{and_parts, or_cases, or_parts}
 use Rattle.definitions.specs.Name.{Name, at_or_above}
 use Rattle.messages.specs.HandedRr.{among}
 use Rattle.messages.specs.Message.{Asked}
-use Rattle.answer_shared.specs.Asking.{asks_alias, is_allowed}
-use Rattle.answer_shared.proofs.AllowedTypes.{alias_unsigned, allowed_plain, inside_apex}
+use Rattle.answer_terms.specs.Asking.{asks_alias, is_allowed}
+use Rattle.answer_terms.proofs.AllowedTypes.{alias_unsigned, allowed_plain, inside_apex}
 use Rattle.answer_publisher.specs.Aliases.{is_answered}
 
 alias_plain : (apex : Name) (q : Asked) → asks_alias apex q ≡ true → (eqb q.rtype 47 || eqb q.rtype 50) ≡ false

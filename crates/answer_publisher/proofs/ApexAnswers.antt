@@ -7,9 +7,9 @@ use Rattle.definitions.specs.Dnskey.{Dnskey}
 use Rattle.definitions.specs.ZoneChain.{Mode, Nsec, Nsec3}
 use Rattle.messages.specs.Handed.{AreHanded}
 use Rattle.messages.specs.HandedRr.{HandedRr}
-use Rattle.answer_shared.specs.Given.{Gives}
-use Rattle.answer_shared.specs.GroupView.{GroupView, Presents}
-use Rattle.answer_shared.specs.Served.{Group, by_tag, ttl_among}
+use Rattle.answer_terms.specs.Given.{Gives}
+use Rattle.answer_terms.specs.GroupView.{GroupView, Presents}
+use Rattle.answer_terms.specs.Served.{ServedRrset, by_tag, ttl_among}
 use Rattle.answer_publisher.specs.Answering.{AnswersApex, RefusesApex, ahead_of_records, apex_question}
 use Rattle.answer_publisher.specs.Composed.{IsAnswer, RefusesGroups}
 use Rattle.answer_publisher.specs.Parameters.{OfBoth, parameters_group, parameters_of_chain}
@@ -19,7 +19,7 @@ use Rattle.answer_publisher.proofs.WritesGiven.{apex_given}
 use Rattle.answer_publisher.proofs.WritesZone.{parameters_formed}
 
 -- the message of an RRset, as it is seen
-pub apex_answered : (sign : Dnskey → List ℕ → Option (List ℕ)) (verifies : Dnskey → List ℕ → List ℕ → Bool) (apex : Name) (at life : ℕ) (keys : List Dnskey) (of : Group) (g : GroupView) (m : List ℕ)
+pub apex_answered : (sign : Dnskey → List ℕ → Option (List ℕ)) (verifies : Dnskey → List ℕ → List ℕ → Bool) (apex : Name) (at life : ℕ) (keys : List Dnskey) (of : ServedRrset) (g : GroupView) (m : List ℕ)
     → Presents g of → IsAnswer sign verifies apex at life keys 33792 (apex_question apex g.rtype) (g ∷ []) [] m → AnswersApex sign verifies apex at life keys of m
 apex_answered sign verifies apex at life keys of g m presents w = record {
   group = g;

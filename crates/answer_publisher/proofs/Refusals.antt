@@ -13,13 +13,13 @@ use Rattle.answer_publisher.specs.declared.fault.AnswerFault.{AnswerFault}
 use Rattle.answer_publisher.specs.declared.fault.AnswerFault.TheVariants as fault
 use Rattle.answer_scheme.specs.declared.error.SchemeError.{SchemeError}
 use Rattle.answer_scheme.specs.declared.error.SchemeError.TheVariants as error
-use Rattle.answer_shared.specs.Hashing.{Hasher}
+use Rattle.answer_terms.specs.Hashing.{Hasher}
 use Rattle.answer_publisher.specs.AnswerFaults.{fault_of}
 use Rattle.answer_publisher.specs.Answering.{RefusesAnswer, RefusesApex, ahead_of_records, apex_question}
 use Rattle.answer_publisher.specs.Composed.{HasRoom, IsSection, IsTooLong, IsWritten, RefusesGroups, RefusesRecords, joined, rrsig_of}
-use Rattle.answer_shared.specs.GroupView.{FailsFor, GroupView, IsRrsigData, Presents}
+use Rattle.answer_terms.specs.GroupView.{FailsFor, GroupView, IsRrsigData, Presents}
 use Rattle.messages.specs.Message.{Asked}
-use Rattle.answer_shared.specs.Served.{Group, Served, answer_groups}
+use Rattle.answer_terms.specs.Served.{ServedRrset, Served, answer_groups}
 use Rattle.messages.specs.Written.{Written, header_octets, question_octets, record_octets}
 use Rattle.messages.proofs.MessageWritten.{record_parts, wire-length}
 use Rattle.messages.proofs.NameLaws.{wire_len-some}
@@ -180,7 +180,7 @@ answer_refused sign verifies hash s apex at life keys asked gs fault.SignFailed 
 answer_refused sign verifies hash s apex at life keys asked gs fault.TooLong z r = (gs, z, r)
 
 -- what refuses an RRset of the apex as it is seen refuses it
-pub apex_refused : (sign : Dnskey → List ℕ → Option (List ℕ)) (verifies : Dnskey → List ℕ → List ℕ → Bool) (apex : Name) (at life : ℕ) (keys : List Dnskey) (of : Group) (g : GroupView) (f : AnswerFault)
+pub apex_refused : (sign : Dnskey → List ℕ → Option (List ℕ)) (verifies : Dnskey → List ℕ → List ℕ → Bool) (apex : Name) (at life : ℕ) (keys : List Dnskey) (of : ServedRrset) (g : GroupView) (f : AnswerFault)
     → Presents g of → RefusesGroups sign verifies apex at life keys (ahead_of_records (apex_question apex g.rtype)) (g ∷ []) f → RefusesApex sign verifies apex at life keys of f
 apex_refused sign verifies apex at life keys of g fault.Memory z r = tt
 apex_refused sign verifies apex at life keys of g fault.QuestionNotAllowed z r = (g, z, r)

@@ -7,7 +7,7 @@ use Rattle.std.proofs.lemmas.Grind.{flat_map-append}
 use Rattle.definitions.specs.Name.{Name}
 use Rattle.definitions.specs.Dnskey.{Dnskey}
 use Rattle.messages.specs.Written.{Written, record_octets}
-use Rattle.answer_shared.specs.GroupView.{GroupView, IsRrsigData}
+use Rattle.answer_terms.specs.GroupView.{GroupView, IsRrsigData}
 use Rattle.answer_publisher.specs.Composed.{IsSection, IsWritten, joined, rrsig_of}
 use Rattle.answer_publisher.proofs.SignMade.{AllZip-next}
 

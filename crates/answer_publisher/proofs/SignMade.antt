@@ -6,7 +6,7 @@ use Rattle.definitions.specs.Name.{Name}
 use Rattle.definitions.specs.Dnskey.{Dnskey, key_tag}
 use Rattle.definitions.specs.Signing.{Fields, signed_octets}
 use Rattle.messages.specs.Rrsig.{spelled_fields}
-use Rattle.answer_shared.specs.GroupView.{GroupView, IsRrsigData, fields_of, octets_of}
+use Rattle.answer_terms.specs.GroupView.{GroupView, IsRrsigData, fields_of, octets_of}
 
 -- what was signed and written is the data of an RRSIG record
 pub rrsig_made : (sign : Dnskey → List ℕ → Option (List ℕ)) (verifies : Dnskey → List ℕ → List ℕ → Bool) (apex : Name) (at life : ℕ) (g : GroupView) (key k : Dnskey) (f : Fields) (owner : Name) (ds : List (List ℕ)) (made o s start mid d : List ℕ)

@@ -6,9 +6,9 @@ use Rattle.definitions.specs.Limits.{pointer_limit}
 use Rattle.definitions.specs.Name.{Name, IsName}
 use Rattle.definitions.specs.Dnskey.{Dnskey}
 use Rattle.messages.specs.Message.{Asked}
-use Rattle.answer_shared.specs.Served.{Group}
-use Rattle.answer_shared.specs.Given.{AreGroups, Gives}
-use Rattle.answer_shared.specs.GroupView.{GroupView, Presents, view_of}
+use Rattle.answer_terms.specs.Served.{ServedRrset}
+use Rattle.answer_terms.specs.Given.{AreGroups, Gives}
+use Rattle.answer_terms.specs.GroupView.{GroupView, Presents, view_of}
 use Rattle.answer_publisher.specs.Composed.{IsAnswer, IsWritten, joined}
 use Rattle.messages.specs.Written.{Written, record_octets}
 use Rattle.messages.specs.WrittenLaws.{IsQuestion, IsRecord, first_place, spelled_from}
@@ -17,10 +17,10 @@ use Rattle.messages.proofs.MessageWritten.{StandsAt}
 use Rattle.answer_publisher.proofs.WritesGroups.{IsFormed, all_hold, all_records, are_groups, count_of}
 use Rattle.messages.proofs.Lists.{zip_append}
 
-pub presented : (v : GroupView) (g : Group) → Presents v g → v ≡ view_of g
+pub presented : (v : GroupView) (g : ServedRrset) → Presents v g → v ≡ view_of g
 presented v g p = λ i. record { owner = p.owner_is i; labels = p.labels_are i; rtype = p.rtype_is i; ttl = p.ttl_is i; written = p.written_is i; canonical = p.canonical_is i; signed = p.signed_is i }
 
-pub all_presented : (vs : List GroupView) (gs : List Group) → AllZip Presents vs gs → vs ≡ map view_of gs
+pub all_presented : (vs : List GroupView) (gs : List ServedRrset) → AllZip Presents vs gs → vs ≡ map view_of gs
 all_presented [] [] h = refl
 all_presented [] (g ∷ gs) h = absurd h
 all_presented (v ∷ vs) [] h = absurd h
@@ -35,7 +35,7 @@ all_behind P [] ys h = h
 all_behind P (x ∷ xs) ys h = all_behind P xs ys h.1
 
 -- the message of an answer reads as its RRsets, each with its signatures behind it
-pub answer_gives : (sign : Dnskey → List ℕ → Option (List ℕ)) (verifies : Dnskey → List ℕ → List ℕ → Bool) (apex : Name) (at life : ℕ) (keys : List Dnskey) (flags : ℕ) (asked : Asked) (answer authority : List GroupView) (groups : List Group) (m : List ℕ)
+pub answer_gives : (sign : Dnskey → List ℕ → Option (List ℕ)) (verifies : Dnskey → List ℕ → List ℕ → Bool) (apex : Name) (at life : ℕ) (keys : List Dnskey) (flags : ℕ) (asked : Asked) (answer authority : List GroupView) (groups : List ServedRrset) (m : List ℕ)
     → IsName apex → IsQuestion asked → AllByRecursion IsFormed groups → AllZip Presents (answer ++ authority) groups → IsAnswer sign verifies apex at life keys flags asked answer authority m
     → Gives verifies pointer_limit apex at life keys asked groups m
 answer_gives sign verifies apex at life keys flags asked answer authority groups m name is formed presents w =

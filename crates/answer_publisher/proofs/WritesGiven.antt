@@ -6,14 +6,14 @@ use Rattle.definitions.specs.Dnskey.{Dnskey}
 use Rattle.definitions.specs.Limits.{pointer_limit}
 use Rattle.answer_publisher.specs.Answering.{AnswersApex, AnswersKeys, apex_question}
 use Rattle.answer_publisher.specs.Composed.{IsAnswer}
-use Rattle.answer_shared.specs.Given.{Gives, GivesAnswer, GivesKeys}
+use Rattle.answer_terms.specs.Given.{Gives, GivesAnswer, GivesKeys}
 use Rattle.messages.specs.Handed.{AreHanded}
 use Rattle.messages.specs.Message.{Asked}
-use Rattle.answer_shared.specs.GroupView.{GroupView, Presents}
-use Rattle.answer_shared.specs.Hashing.{Hasher, hash_in, served}
-use Rattle.answer_shared.specs.Served.{Group, answer_groups, by_tag, key_group, keys_ttl}
+use Rattle.answer_terms.specs.GroupView.{GroupView, Presents}
+use Rattle.answer_terms.specs.Hashing.{Hasher, hash_in, served}
+use Rattle.answer_terms.specs.Served.{ServedRrset, answer_groups, by_tag, key_group, keys_ttl}
 use Rattle.messages.specs.WrittenLaws.{IsQuestion}
-use Rattle.answer_shared.specs.ZoneView.{AcceptedZone}
+use Rattle.answer_terms.specs.ZoneView.{AcceptedZone}
 use Rattle.answer_zone_records.specs.ZoneInOrder.{AreZoneRecords}
 use Rattle.answer_publisher.proofs.WritesAnswer.{answer_gives}
 use Rattle.answer_publisher.proofs.WritesGroups.{IsFormed}
@@ -24,7 +24,7 @@ use Rattle.answer_publisher.proofs.WritesZone.{Named, answer_formed, keys_formed
 abbrev pub NamedView : GroupView → Type 0
 NamedView g = IsName g.owner
 
-named : (vs : List GroupView) (gs : List Group) → AllZip Presents vs gs → AllByRecursion NamedView vs → AllByRecursion Named gs
+named : (vs : List GroupView) (gs : List ServedRrset) → AllZip Presents vs gs → AllByRecursion NamedView vs → AllByRecursion Named gs
 named [] [] h n = tt
 named [] (g ∷ gs) h n = absurd h
 named (v ∷ vs) [] h n = absurd h
@@ -40,13 +40,13 @@ pub answer_given : (sign : Dnskey → List ℕ → Option (List ℕ)) (verifies 
     → AllByRecursion NamedView answer → AllByRecursion NamedView authority → AllZip Presents (answer ++ authority) (answer_groups (served hash z) asked.name asked.rtype)
     → IsAnswer sign verifies z.apex at life (by_tag signers) flags asked answer authority m → GivesAnswer verifies pointer_limit (served hash z) z.apex signers at life asked m
 answer_given sign verifies hash z at life flags signers asked answer authority m published handed is plain owners others presents written =
-    let groups : List Group = answer_groups (served hash z) asked.name asked.rtype in
+    let groups : List ServedRrset = answer_groups (served hash z) asked.name asked.rtype in
     let names : AllByRecursion Named groups = named (answer ++ authority) groups presents (named_both answer authority owners others) in
     let formed : AllByRecursion IsFormed groups = answer_formed z.apex z.mode (hash_in hash z.mode) z.records published handed asked.name asked.rtype is.name is.rtype plain names in
     answer_gives sign verifies z.apex at life (by_tag signers) flags asked answer authority groups m handed.apex_is is formed presents written
 
 -- an RRset of the apex
-pub apex_given : (sign : Dnskey → List ℕ → Option (List ℕ)) (verifies : Dnskey → List ℕ → List ℕ → Bool) (apex : Name) (at life : ℕ) (signers : List Dnskey) (of : Group) (m : List ℕ)
+pub apex_given : (sign : Dnskey → List ℕ → Option (List ℕ)) (verifies : Dnskey → List ℕ → List ℕ → Bool) (apex : Name) (at life : ℕ) (signers : List Dnskey) (of : ServedRrset) (m : List ℕ)
     → IsName apex → IsFormed of → AnswersApex sign verifies apex at life (by_tag signers) of m → Gives verifies pointer_limit apex at life (by_tag signers) (apex_question apex of.rtype) (of ∷ []) m
 apex_given sign verifies apex at life signers of m name formed w =
     answer_gives sign verifies apex at life (by_tag signers) 33792 (apex_question apex of.rtype) (w.group ∷ []) [] (of ∷ []) m

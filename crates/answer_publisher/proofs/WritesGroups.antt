@@ -6,9 +6,9 @@ use Rattle.std.proofs.lemmas.List.Concat.{flat_map-append}
 use Rattle.definitions.specs.Limits.{pointer_limit}
 use Rattle.definitions.specs.Name.{Name, IsName}
 use Rattle.definitions.specs.Dnskey.{Dnskey}
-use Rattle.answer_shared.specs.GroupView.{view_of}
-use Rattle.answer_shared.specs.Served.{Group}
-use Rattle.answer_shared.specs.Given.{AreGroups}
+use Rattle.answer_terms.specs.GroupView.{view_of}
+use Rattle.answer_terms.specs.Served.{ServedRrset}
+use Rattle.answer_terms.specs.Given.{AreGroups}
 use Rattle.answer_publisher.specs.Composed.{IsWritten, joined, rrsig_of}
 use Rattle.messages.specs.Written.{Written, record_octets}
 use Rattle.messages.specs.WrittenLaws.{IsRecord, spelled_at, spelled_from}
@@ -17,7 +17,7 @@ use Rattle.answer_publisher.proofs.Refusals.{length_record}
 use Rattle.answer_publisher.proofs.WritesRecords.{ReadsRecord, own_kept, own_records, its_signatures, rest_stands, signatures_ttl}
 
 -- an RRset whose fields hold what they say, and whose data read as their canonical form
-pub record IsFormed (g : Group) : Type 0 where
+pub record IsFormed (g : ServedRrset) : Type 0 where
   pub owner : IsName g.owner
   pub rtype : g.rtype < 65536
   pub ttl : g.ttl < 4294967296
@@ -43,7 +43,7 @@ parted : (rs ss : List Written) (rest : List ℕ) → flat_map record_octets (rs
 parted rs ss rest = ap (λ x. x ++ rest) (flat_map-append record_octets rs ss) ∙ append_assoc (flat_map record_octets rs) (flat_map record_octets ss) rest
 
 -- the RRsets, each with its signatures
-pub are_groups : (sign : Dnskey → List ℕ → Option (List ℕ)) (verifies : Dnskey → List ℕ → List ℕ → Bool) (m : List ℕ) (p : ℕ) (apex : Name) (at life : ℕ) (keys : List Dnskey) (gs : List Group) (pieces : List (List Written)) (rest : List ℕ)
+pub are_groups : (sign : Dnskey → List ℕ → Option (List ℕ)) (verifies : Dnskey → List ℕ → List ℕ → Bool) (m : List ℕ) (p : ℕ) (apex : Name) (at life : ℕ) (keys : List Dnskey) (gs : List ServedRrset) (pieces : List (List Written)) (rest : List ℕ)
     → length m ≤ 65535 → IsName apex → AllByRecursion IsFormed gs → AllZip (IsWritten sign verifies apex at life keys) (map view_of gs) pieces → StandsAt m p (flat_map record_octets (joined pieces) ++ rest)
     → AreGroups verifies pointer_limit m (spelled_from p (joined pieces)) apex at life keys gs
 are_groups sign verifies m p apex at life keys [] [] rest few name formed written s = refl
@@ -83,7 +83,7 @@ pub record Holds (r : Written) : Type 0 where
   pub class : r.class < 65536
   pub ttl : r.ttl < 4294967296
 
-own_hold : (g : Group) (ws : List Written) (ds : List (List ℕ)) → g.rtype < 65536 → AllZip (ReadsRecord g) ws ds → AllByRecursion Holds ws
+own_hold : (g : ServedRrset) (ws : List Written) (ds : List (List ℕ)) → g.rtype < 65536 → AllZip (ReadsRecord g) ws ds → AllByRecursion Holds ws
 own_hold g [] [] small h = tt
 own_hold g [] (d ∷ ds) small h = tt
 own_hold g (w ∷ ws) [] small h = absurd h
@@ -92,7 +92,7 @@ own_hold g (w ∷ ws) (d ∷ ds) small h =
     let kind : w.rtype < 65536 = omega (arith, h.0.rtype, small) in
     (record { owner = h.0.owner; rtype = kind; class = one; ttl = h.0.ttl }, own_hold g ws ds small h.1)
 
-signatures_hold : (g : Group) (ds : List (List ℕ)) → IsFormed g → AllByRecursion Holds (map (rrsig_of (view_of g)) ds)
+signatures_hold : (g : ServedRrset) (ds : List (List ℕ)) → IsFormed g → AllByRecursion Holds (map (rrsig_of (view_of g)) ds)
 signatures_hold g [] f = tt
 signatures_hold g (d ∷ ds) f = (record { owner = f.owner; rtype = lit< tt; class = lit< tt; ttl = f.ttl }, signatures_hold g ds f)
 
@@ -100,7 +100,7 @@ hold_append : (rs ss : List Written) → AllByRecursion Holds rs → AllByRecurs
 hold_append [] ss h k = k
 hold_append (r ∷ rs) ss h k = (h.0, hold_append rs ss h.1 k)
 
-pub all_hold : (sign : Dnskey → List ℕ → Option (List ℕ)) (verifies : Dnskey → List ℕ → List ℕ → Bool) (apex : Name) (at life : ℕ) (keys : List Dnskey) (gs : List Group) (pieces : List (List Written))
+pub all_hold : (sign : Dnskey → List ℕ → Option (List ℕ)) (verifies : Dnskey → List ℕ → List ℕ → Bool) (apex : Name) (at life : ℕ) (keys : List Dnskey) (gs : List ServedRrset) (pieces : List (List Written))
     → AllByRecursion IsFormed gs → AllZip (IsWritten sign verifies apex at life keys) (map view_of gs) pieces → AllByRecursion Holds (joined pieces)
 all_hold sign verifies apex at life keys [] [] formed written = tt
 all_hold sign verifies apex at life keys [] (x ∷ pieces) formed written = absurd written

@@ -8,10 +8,10 @@ use Rattle.definitions.specs.Dnskey.{Dnskey, key_tag}
 use Rattle.definitions.specs.Signing.{Fields, canonical_record, signed_octets, signed_owner}
 use Rattle.definitions.specs.Limits.{pointer_limit}
 use Rattle.messages.specs.Message.{Spelled, canonical_data}
-use Rattle.answer_shared.specs.Served.{Group}
-use Rattle.answer_shared.specs.Given.{HasTtl, KeepsOwn}
-use Rattle.answer_shared.specs.Told.{AreRecords, AreSignatures, IsSignature}
-use Rattle.answer_shared.specs.GroupView.{GroupView, IsRrsigData, fields_of, view_of}
+use Rattle.answer_terms.specs.Served.{ServedRrset}
+use Rattle.answer_terms.specs.Given.{HasTtl, KeepsOwn}
+use Rattle.answer_terms.specs.Told.{AreRecords, AreSignatures, IsValidSignature}
+use Rattle.answer_terms.specs.GroupView.{GroupView, IsRrsigData, fields_of, view_of}
 use Rattle.answer_publisher.specs.Composed.{rrsig_of}
 use Rattle.messages.specs.Written.{Written, record_octets}
 use Rattle.messages.specs.Rrsig.{rrsig_data}
@@ -31,7 +31,7 @@ pub rest_stands : (m : List ℕ) (p : ℕ) (r : Written) (rs : List Written) (re
 rest_stands m p r rs rest s = next_behind m p r (flat_map record_octets rs ++ rest) (first_stands m p r rs rest s)
 
 -- a record of an RRset as it is written, whose datum reads as its canonical form
-pub record ReadsRecord (g : Group) (w : Written) (d : List ℕ) : Type 0 where
+pub record ReadsRecord (g : ServedRrset) (w : Written) (d : List ℕ) : Type 0 where
   pub owner : IsName w.owner
   pub named : low w.owner ≡ low g.owner
   pub rtype : w.rtype ≡ g.rtype
@@ -40,7 +40,7 @@ pub record ReadsRecord (g : Group) (w : Written) (d : List ℕ) : Type 0 where
   pub reads : ReadsAs g.rtype w.octets d
 
 -- the records of an RRset
-pub own_records : (m : List ℕ) (p : ℕ) (g : Group) (ws : List Written) (ds : List (List ℕ)) (rest : List ℕ) → length m ≤ 65535 → AllZip (ReadsRecord g) ws ds → StandsAt m p (flat_map record_octets ws ++ rest)
+pub own_records : (m : List ℕ) (p : ℕ) (g : ServedRrset) (ws : List Written) (ds : List (List ℕ)) (rest : List ℕ) → length m ≤ 65535 → AllZip (ReadsRecord g) ws ds → StandsAt m p (flat_map record_octets ws ++ rest)
     → AreRecords pointer_limit m (spelled_from p ws) g ds
 own_records m p g [] [] rest few h s = tt
 own_records m p g [] (d ∷ ds) rest few h s = absurd h
@@ -62,7 +62,7 @@ pub own_kept : (p : ℕ) (ws : List Written) → AllZip KeepsOwn (spelled_from p
 own_kept p [] = tt
 own_kept p (w ∷ ws) = (record { owner_is = refl; ttl_is = refl }, own_kept (end_of p w) ws)
 
-pub signatures_ttl : (p : ℕ) (g : Group) (ds : List (List ℕ)) → AllByRecursion (HasTtl g.ttl) (spelled_from p (map (rrsig_of (view_of g)) ds))
+pub signatures_ttl : (p : ℕ) (g : ServedRrset) (ds : List (List ℕ)) → AllByRecursion (HasTtl g.ttl) (spelled_from p (map (rrsig_of (view_of g)) ds))
 signatures_ttl p g [] = tt
 signatures_ttl p g (d ∷ ds) = (refl, signatures_ttl (end_of p (rrsig_of (view_of g) d)) g ds)
 
@@ -84,9 +84,9 @@ lowered_signer f owner ds =
     (λ n. (to_be_bytes w16 f.covered ++ f.algorithm ∷ f.labels ∷ to_be_bytes w32 f.ttl ++ to_be_bytes w32 f.expiration ++ to_be_bytes w32 f.inception ++ to_be_bytes w16 f.tag ++ wire n) ++ flat_map (canonical_record (signed_owner f.labels owner) f.covered 1 f.ttl) ds)
     (low-low f.signer)
 
-pub its_signature : (sign : Dnskey → List ℕ → Option (List ℕ)) (verifies : Dnskey → List ℕ → List ℕ → Bool) (m : List ℕ) (p : ℕ) (apex : Name) (at life : ℕ) (g : Group) (key : Dnskey) (d rest : List ℕ)
+pub its_signature : (sign : Dnskey → List ℕ → Option (List ℕ)) (verifies : Dnskey → List ℕ → List ℕ → Bool) (m : List ℕ) (p : ℕ) (apex : Name) (at life : ℕ) (g : ServedRrset) (key : Dnskey) (d rest : List ℕ)
     → length m ≤ 65535 → IsName apex → g.rtype < 65536 → g.ttl < 4294967296 → IsRrsigData sign verifies apex at life (view_of g) key d → StandsAt m p (record_octets (rrsig_of (view_of g) d) ++ rest)
-    → IsSignature verifies pointer_limit m (spelled_at p (rrsig_of (view_of g) d)) apex at life g key
+    → IsValidSignature verifies pointer_limit m (spelled_at p (rrsig_of (view_of g) d)) apex at life g key
 its_signature sign verifies m p apex at life g key d rest few name t ttl made s =
     let f : Fields = fields_of apex at life (view_of g) key in
     let r : Written = rrsig_of (view_of g) d in
@@ -103,7 +103,7 @@ its_signature sign verifies m p apex at life g key d rest few name t ttl made s 
     }
 
 -- the signatures of an RRset
-pub its_signatures : (sign : Dnskey → List ℕ → Option (List ℕ)) (verifies : Dnskey → List ℕ → List ℕ → Bool) (m : List ℕ) (p : ℕ) (apex : Name) (at life : ℕ) (g : Group) (keys : List Dnskey) (ds : List (List ℕ)) (rest : List ℕ)
+pub its_signatures : (sign : Dnskey → List ℕ → Option (List ℕ)) (verifies : Dnskey → List ℕ → List ℕ → Bool) (m : List ℕ) (p : ℕ) (apex : Name) (at life : ℕ) (g : ServedRrset) (keys : List Dnskey) (ds : List (List ℕ)) (rest : List ℕ)
     → length m ≤ 65535 → IsName apex → g.rtype < 65536 → g.ttl < 4294967296 → AllZip (IsRrsigData sign verifies apex at life (view_of g)) keys ds → StandsAt m p (flat_map record_octets (map (rrsig_of (view_of g)) ds) ++ rest)
     → AreSignatures verifies pointer_limit m (spelled_from p (map (rrsig_of (view_of g)) ds)) apex at life g keys
 its_signatures sign verifies m p apex at life g [] [] rest few name t ttl made s = tt

@@ -11,11 +11,11 @@ use Rattle.definitions.specs.Zone.{Verdict, Records, NoType, NoName, StarRecords
 use Rattle.definitions.specs.ZoneChain.{Mode, Nsec, Nsec3, nsec_names, nsec_next, nsec_types, optout_of, parameters_of}
 use Rattle.definitions.proofs.BitmapLaws.{spells_set}
 use Rattle.messages.specs.HandedRr.{HandedRr, is_meta}
-use Rattle.answer_shared.specs.Accepting.{zone_with}
+use Rattle.answer_terms.specs.Accepting.{zone_with}
 use Rattle.messages.specs.Handed.{AreHanded, IsHanded}
-use Rattle.answer_shared.specs.GroupView.{all_spelled_by, spelled_by}
-use Rattle.answer_shared.specs.Served.{Group, Served, ahead, ahead_open, answer_groups, canonical_group, chain_names, chain_record, chain_ttl, if_any, key_data, key_group, owned_by, owner_among, proofs_of, rrset, served_of, served_owner, soa, speaks_for, spelled_among, spoken, ttl_among, under, unsigned_ns, written_among, written_of_handed, written_rr}
-use Rattle.answer_shared.specs.ZoneView.{is_of}
+use Rattle.answer_terms.specs.GroupView.{all_spelled_by, spelled_by}
+use Rattle.answer_terms.specs.Served.{ServedRrset, Served, ahead, ahead_open, answer_groups, canonical_group, chain_names, chain_record, chain_ttl, if_any, key_data, key_group, written_under, owner_among, proofs_of, rrset, served_of, served_owner, soa, speaks_for, spelled_among, spoken, ttl_among, under, unsigned_ns, written_among, written_of_handed, written_rr}
+use Rattle.answer_terms.specs.ZoneView.{is_of}
 use Rattle.answer_zone_records.specs.ZoneInOrder.{AreZoneRecords}
 use Rattle.denial_nsec_data.specs.Hashed.{nsec3param_octets, nsec3param_with}
 use Rattle.answer_publisher.specs.Parameters.{parameters_group}
@@ -23,19 +23,19 @@ use Rattle.answer_publisher.proofs.WritesAnswer.{all_behind}
 use Rattle.answer_publisher.proofs.WritesData.{all_plain, of_chain, reads_handed, reads_nsec, reads_nsec3}
 use Rattle.answer_publisher.proofs.WritesGroups.{IsFormed}
 use Rattle.answer_publisher.proofs.WritesHashes.{chain_is_read}
-use Rattle.answer_shared.proofs.ZoneCutNames.{ce_lower, cut_lower, cut_name}
+use Rattle.answer_terms.proofs.ZoneCutNames.{ce_lower, cut_lower, cut_name}
 use Rattle.answer_publisher.proofs.WritesRecords.{ReadsAs, ReadsRecord}
-use Rattle.answer_shared.proofs.ZoneNaming.{all_filter, chain_named, chain_small, either, first_name, lower_name, next_name, owner_name, spelled_name, ttl_small}
-use Rattle.answer_shared.proofs.ZoneData.{data_are, low-owner_among, low-spelled_among}
+use Rattle.answer_terms.proofs.ZoneNaming.{all_filter, chain_named, chain_small, either, first_name, lower_name, next_name, owner_name, spelled_name, ttl_small}
+use Rattle.answer_terms.proofs.ZoneData.{data_are, low-owner_among, low-spelled_among}
 use Rattle.messages.proofs.Lists.{all_more, map-map}
 
 -- records that keep their owners stand under that of the RRset, up to case
-abbrev NamesIt : Bool → Group → Name → Type 0
+abbrev NamesIt : Bool → ServedRrset → Name → Type 0
 NamesIt true g q = low g.owner ≡ low q
 NamesIt false g q = Unit {0}
 
 -- a record of an RRset, under the RRset's owner or its own
-record_read : (own : Bool) (g : Group) (r : HandedRr) (q : Name) → IsHanded r → is_meta r ≡ false → is_of q g.rtype r ≡ true → IsName g.owner → NamesIt own g q → of_chain g.rtype ≡ false → ReadsRecord g (spelled_by own g.owner r) r.bytes
+record_read : (own : Bool) (g : ServedRrset) (r : HandedRr) (q : Name) → IsHanded r → is_meta r ≡ false → is_of q g.rtype r ≡ true → IsName g.owner → NamesIt own g q → of_chain g.rtype ≡ false → ReadsRecord g (spelled_by own g.owner r) r.bytes
 record_read true g r q h k is name n plain =
     let parts = and_parts (same r.owner q) (eqb r.rtype g.rtype) is in
     let kind : r.rtype ≡ g.rtype = eqb-true r.rtype g.rtype parts.1 in
@@ -45,7 +45,7 @@ record_read false g r q h k is name n plain =
     record { owner = name; named = refl; rtype = kind; class = refl; ttl = h.ttl; reads = reads_handed r g.rtype h k kind plain }
 
 -- the records of an owner and a type, one by one
-records_read : (own : Bool) (g : Group) (rs : List HandedRr) (q : Name) → AllByRecursion IsHanded rs → AllByRecursion (λ r. is_meta r ≡ false) rs → IsName g.owner → NamesIt own g q → of_chain g.rtype ≡ false
+records_read : (own : Bool) (g : ServedRrset) (rs : List HandedRr) (q : Name) → AllByRecursion IsHanded rs → AllByRecursion (λ r. is_meta r ≡ false) rs → IsName g.owner → NamesIt own g q → of_chain g.rtype ≡ false
     → AllZip (ReadsRecord g) (map (spelled_by own g.owner) (filter (is_of q g.rtype) rs)) (map (λ r. r.bytes) (filter (is_of q g.rtype) rs))
 records_read own g [] q h k name n plain = tt
 records_read own g (r ∷ rs) q h k name n plain =
@@ -60,9 +60,9 @@ records_read own g (r ∷ rs) q h k name n plain =
 
 one_by_one : (own : Bool) (owner : Name) (rs : List HandedRr) → all_spelled_by own owner (map written_of_handed rs) ≡ map (spelled_by own owner) rs
 one_by_one true owner rs = refl
-one_by_one false owner rs = map-map (owned_by owner) written_of_handed rs
+one_by_one false owner rs = map-map (written_under owner) written_of_handed rs
 
-rrset_read : (own : Bool) (g : Group) (apex : Name) (rs : List HandedRr) → AreZoneRecords apex rs → AreHanded apex rs → (q : Name) → IsName g.owner → NamesIt own g q → of_chain g.rtype ≡ false
+rrset_read : (own : Bool) (g : ServedRrset) (apex : Name) (rs : List HandedRr) → AreZoneRecords apex rs → AreHanded apex rs → (q : Name) → IsName g.owner → NamesIt own g q → of_chain g.rtype ≡ false
     → AllZip (ReadsRecord g) (all_spelled_by own g.owner (written_among rs (low q) g.rtype)) (data_at (zone_with apex rs) (low q) g.rtype)
 rrset_read own g apex rs p h q name n plain =
     let xs : List HandedRr = filter (is_of q g.rtype) rs in
@@ -203,7 +203,7 @@ proofs_formed apex hash rs h qs =
 -- ---- a chain of hashes
 
 -- a name owns it
-abbrev pub Named : Group → Type 0
+abbrev pub Named : ServedRrset → Type 0
 Named g = IsName g.owner
 
 hashed_formed : (apex : Name) (iterations : ℕ) (salt : List ℕ) (optout : Bool) (hash : Name → List ℕ) (rs : List HandedRr) → AreHanded apex rs → (o : Name)
@@ -245,7 +245,7 @@ proofs_read apex (Nsec3 iterations salt optout) hash rs h qs names =
 
 -- ---- answers
 
-joined_formed : (gs hs : List Group) → AllByRecursion IsFormed gs → AllByRecursion IsFormed hs → AllByRecursion IsFormed (gs ++ hs)
+joined_formed : (gs hs : List ServedRrset) → AllByRecursion IsFormed gs → AllByRecursion IsFormed hs → AllByRecursion IsFormed (gs ++ hs)
 joined_formed [] hs f more = more
 joined_formed (g ∷ gs) hs f more = (f.0, joined_formed gs hs f.1 more)
 
@@ -255,11 +255,11 @@ pub answer_formed : (apex : Name) (mode : Mode) (hash : Name → List ℕ) (rs :
 answer_formed apex mode hash rs p h q t name small plain names =
     let s = served_of apex mode hash rs in
     let v = verdict (zone_with apex rs) (optout_of mode) q t in
-    let first : List Group = ahead s q t v in
-    let second : List Group = proofs_of s (spoken s (low q) (verdict (zone_with apex rs) false q t) v) in
+    let first : List ServedRrset = ahead s q t v in
+    let second : List ServedRrset = proofs_of s (spoken s (low q) (verdict (zone_with apex rs) false q t) v) in
     joined_formed first second (ahead_formed apex mode hash rs p h q t name small plain v) (proofs_read apex mode hash rs h (spoken s (low q) (verdict (zone_with apex rs) false q t) v) (all_behind Named first second names))
 
-canonical_read : (g : Group) (ttl : ℕ) (ds : List (List ℕ)) → IsName g.owner → ttl < 4294967296 → AllZip (ReadsAs g.rtype) ds ds → AllZip (ReadsRecord g) (map (written_rr g.owner g.rtype ttl) ds) ds
+canonical_read : (g : ServedRrset) (ttl : ℕ) (ds : List (List ℕ)) → IsName g.owner → ttl < 4294967296 → AllZip (ReadsAs g.rtype) ds ds → AllZip (ReadsRecord g) (map (written_rr g.owner g.rtype ttl) ds) ds
 canonical_read g ttl [] name small h = tt
 canonical_read g ttl (d ∷ ds) name small h =
     (record { owner = name; named = refl; rtype = refl; class = refl; ttl = small; reads = h.0 }, canonical_read g ttl ds name small h.1)

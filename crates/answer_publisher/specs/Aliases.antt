@@ -7,9 +7,9 @@ use Rattle.definitions.specs.ZoneChain.{Mode}
 use Rattle.denial_laws.specs.Aliases.{is_alias_type}
 use Rattle.messages.specs.HandedRr.{HandedRr, among}
 use Rattle.messages.specs.Message.{Asked}
-use Rattle.answer_shared.specs.Asking.{asks_alias, is_allowed}
-use Rattle.answer_shared.specs.Hashing.{Hasher}
-use Rattle.answer_shared.specs.ZoneView.{AcceptedZone}
+use Rattle.answer_terms.specs.Asking.{asks_alias, is_allowed}
+use Rattle.answer_terms.specs.Hashing.{Hasher}
+use Rattle.answer_terms.specs.ZoneView.{AcceptedZone}
 use Rattle.answer_zone.specs.Finding.{finds, links_names, redirecting}
 use Rattle.answer_zone_records.specs.AliasFaults.{RefusesZoneWithAliases}
 use Rattle.answer_publisher.specs.Replacing.{is_too_soon}

@@ -6,14 +6,14 @@ use Rattle.definitions.specs.Dnskey.{Dnskey}
 use Rattle.definitions.specs.Zone.{verdict}
 use Rattle.denial_laws.specs.Truth.{concerned}
 use Rattle.messages.specs.Message.{Asked}
-use Rattle.answer_shared.specs.GroupView.{GroupView, Presents}
+use Rattle.answer_terms.specs.GroupView.{GroupView, Presents}
 use Rattle.answer_publisher.specs.Composed.{IsAnswer, RefusesGroups}
-use Rattle.answer_shared.specs.Asking.{is_allowed}
-use Rattle.answer_shared.specs.Hashing.{Hasher}
+use Rattle.answer_terms.specs.Asking.{is_allowed}
+use Rattle.answer_terms.specs.Hashing.{Hasher}
 use Rattle.messages.specs.Written.{question_octets}
 use Rattle.answer_publisher.specs.declared.fault.AnswerFault.{AnswerFault}
 use Rattle.answer_publisher.specs.declared.fault.AnswerFault.TheVariants as fault
-use Rattle.answer_shared.specs.Served.{Group, Served, answer_groups, key_group, keys_ttl}
+use Rattle.answer_terms.specs.Served.{ServedRrset, Served, answer_groups, key_group, keys_ttl}
 use Rattle.answer_zone.specs.HashedZone.{FailsOn}
 use Rattle.answer_zone.specs.ZoneAnswers.{flags_for, answered}
 
@@ -30,7 +30,7 @@ abbrev pub apex_question : Name → ℕ → Asked
 apex_question apex t = record { name = apex; rtype = t; class = 1 }
 
 -- the message that answers it with one RRset
-pub record AnswersApex (sign : Dnskey → List ℕ → Option (List ℕ)) (verifies : Dnskey → List ℕ → List ℕ → Bool) (apex : Name) (at life : ℕ) (keys : List Dnskey) (of : Group) (m : List ℕ) : Type 0 where
+pub record AnswersApex (sign : Dnskey → List ℕ → Option (List ℕ)) (verifies : Dnskey → List ℕ → List ℕ → Bool) (apex : Name) (at life : ℕ) (keys : List Dnskey) (of : ServedRrset) (m : List ℕ) : Type 0 where
   pub group : GroupView
   pub presents : Presents group of
   pub written : IsAnswer sign verifies apex at life keys 33792 (apex_question apex of.rtype) (group ∷ []) [] m
@@ -54,7 +54,7 @@ RefusesAnswer sign verifies hash s apex at life keys asked f =
     × RefusesGroups sign verifies apex at life keys (ahead_of_records asked) groups f
 
 -- why an RRset of the apex is not given
-abbrev pub RefusesApex : (Dnskey → List ℕ → Option (List ℕ)) → (Dnskey → List ℕ → List ℕ → Bool) → Name → ℕ → ℕ → List Dnskey → Group → AnswerFault → Type 0
+abbrev pub RefusesApex : (Dnskey → List ℕ → Option (List ℕ)) → (Dnskey → List ℕ → List ℕ → Bool) → Name → ℕ → ℕ → List Dnskey → ServedRrset → AnswerFault → Type 0
 RefusesApex sign verifies apex at life keys of fault.Memory = Unit {0}
 RefusesApex sign verifies apex at life keys of f =
     (group : GroupView) × Presents group of × RefusesGroups sign verifies apex at life keys (ahead_of_records (apex_question apex of.rtype)) (group ∷ []) f

@@ -5,8 +5,8 @@ use Rattle.definitions.specs.Name.{Name}
 use Rattle.definitions.specs.Dnskey.{Dnskey}
 use Rattle.messages.specs.Message.{Asked}
 use Rattle.messages.specs.Written.{Written, record_octets, message_octets}
-use Rattle.answer_shared.specs.Served.{written_rr}
-use Rattle.answer_shared.specs.GroupView.{FailsFor, GroupView, IsRrsigData}
+use Rattle.answer_terms.specs.Served.{written_rr}
+use Rattle.answer_terms.specs.GroupView.{FailsFor, GroupView, IsRrsigData}
 use Rattle.answer_publisher.specs.declared.fault.AnswerFault.{AnswerFault}
 use Rattle.answer_publisher.specs.declared.fault.AnswerFault.TheVariants as fault
 

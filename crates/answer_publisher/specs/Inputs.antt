@@ -5,9 +5,9 @@ use Rattle.definitions.specs.Name.{Name, low}
 use Rattle.definitions.specs.Dnskey.{Dnskey}
 use Rattle.denial_laws.specs.Truth.{concerned}
 use Rattle.messages.specs.Message.{Asked}
-use Rattle.answer_shared.specs.Asking.{is_allowed}
-use Rattle.answer_shared.specs.GroupView.{GroupView, octets_of, view_of}
-use Rattle.answer_shared.specs.Served.{answer_groups, key_group, keys_ttl}
+use Rattle.answer_terms.specs.Asking.{is_allowed}
+use Rattle.answer_terms.specs.GroupView.{GroupView, octets_of, view_of}
+use Rattle.answer_terms.specs.Served.{answer_groups, key_group, keys_ttl}
 use Rattle.answer_scheme.specs.Moments.{second_of}
 use Rattle.answer_zone.specs.HashedZone.{FailsOn}
 use Rattle.answer_publisher_keys.specs.declared.keys.Publication.TheVariants as publication

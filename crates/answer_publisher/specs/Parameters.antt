@@ -6,9 +6,9 @@ use Rattle.definitions.specs.Name.{Name}
 use Rattle.definitions.specs.ZoneChain.{Mode, Nsec, Nsec3}
 use Rattle.denial_nsec_data.specs.Hashed.{nsec3param_octets, nsec3param_with}
 use Rattle.answer_scheme.specs.Moments.{second_of}
-use Rattle.answer_shared.specs.Given.{Gives}
-use Rattle.answer_shared.specs.GroupView.{view_of}
-use Rattle.answer_shared.specs.Served.{Group, by_tag, canonical_group, keys_ttl}
+use Rattle.answer_terms.specs.Given.{Gives}
+use Rattle.answer_terms.specs.GroupView.{view_of}
+use Rattle.answer_terms.specs.Served.{ServedRrset, by_tag, canonical_group, keys_ttl}
 use Rattle.answer_publisher_keys.specs.Bindings.{ZoneKeys, dnskeys, keys_by_tag, published}
 use Rattle.answer_publisher_keys.specs.declared.keys.Publication.TheVariants.{SignsZone}
 use Rattle.answer_publisher.specs.Answering.{AnswersApex, RefusesApex, apex_question}
@@ -17,16 +17,16 @@ use Rattle.answer_publisher.specs.World.{World, served_in}
 use Rattle.answer_publisher.specs.declared.fault.AnswerFault.{AnswerFault}
 
 -- one record at the apex, of algorithm 1 and flags 0, with a TTL (RFC 5155, 4.1)
-abbrev pub parameters_group : Name → ℕ → ℕ → List ℕ → Group
+abbrev pub parameters_group : Name → ℕ → ℕ → List ℕ → ServedRrset
 parameters_group apex ttl iterations salt = canonical_group apex apex 51 ttl (nsec3param_octets (nsec3param_with 1 0 iterations salt) ∷ [])
 
 -- that of a chain of hashes, whether it opts out or not; a chain of names has none
-abbrev pub parameters_of_chain : Name → ℕ → Mode → Option Group
+abbrev pub parameters_of_chain : Name → ℕ → Mode → Option ServedRrset
 parameters_of_chain apex ttl Nsec = None
 parameters_of_chain apex ttl (Nsec3 iterations salt optout) = Some (parameters_group apex ttl iterations salt)
 
 -- that of a zone, with the TTL of its SOA record
-abbrev pub parameters_in : World → Option Group
+abbrev pub parameters_in : World → Option ServedRrset
 parameters_in w = parameters_of_chain w.zone.apex (keys_ttl (served_in w)) w.zone.mode
 
 -- neither is there, or both are, and this holds of them

@@ -7,15 +7,15 @@ use Rattle.definitions.specs.Zone.{verdict}
 use Rattle.definitions.specs.ZoneChain.{Mode}
 use Rattle.messages.specs.HandedRr.{HandedRr}
 use Rattle.messages.specs.Message.{Asked}
-use Rattle.answer_shared.specs.Accepting.{sorted_records}
-use Rattle.answer_shared.specs.ZoneView.{AcceptedZone}
-use Rattle.answer_shared.specs.Hashing.{served}
-use Rattle.answer_shared.specs.Served.{Served, keys_ttl}
+use Rattle.answer_terms.specs.Accepting.{sorted_records}
+use Rattle.answer_terms.specs.ZoneView.{AcceptedZone}
+use Rattle.answer_terms.specs.Hashing.{served}
+use Rattle.answer_terms.specs.Served.{Served, keys_ttl}
 use Rattle.answer_zone.specs.HashedZone.{AreHashed, accepted_zone, spoken_for}
 use Rattle.answer_zone.specs.ZoneAnswers.{answered}
 use Rattle.answer_scheme.specs.Answers.{Answers}
-use Rattle.answer_shared.specs.Given as spelled
-use Rattle.answer_shared.specs.Told as told
+use Rattle.answer_terms.specs.Given as spelled
+use Rattle.answer_terms.specs.Told as told
 use Rattle.answer_publisher.specs.declared.publishing.Publisher.{Publisher}
 use Rattle.answer_publisher.specs.declared.fault.AnswerFault.{AnswerFault}
 use Rattle.answer_publisher_keys.specs.declared.keys.Publication.{Publication}
@@ -41,12 +41,12 @@ abbrev pub zone_by : Name → Mode → ℕ → List HandedRr → AcceptedZone
 zone_by apex mode limit rs = record { apex = apex; mode = mode; limit = limit; records = sorted_records rs }
 
 -- the world of a scheme and a hasher, by what they answer
-abbrev pub world_by : {S H : Type 0} → (S → Dnskey → List ℕ → Option (List ℕ)) → (S → Dnskey → List ℕ → List ℕ → Bool) → (S → ℕ → List ℕ → Option (List ℕ)) → (H → List ℕ → ℕ → ℕ → List ℕ → Option (List ℕ)) → S → H → AcceptedZone → ℕ → World
-world_by sign verifies digest hash s h zone life = world zone life (sign s) (verifies s) (digest s) (hash h)
+abbrev pub world_of_scheme : {S H : Type 0} → (S → Dnskey → List ℕ → Option (List ℕ)) → (S → Dnskey → List ℕ → List ℕ → Bool) → (S → ℕ → List ℕ → Option (List ℕ)) → (H → List ℕ → ℕ → ℕ → List ℕ → Option (List ℕ)) → S → H → AcceptedZone → ℕ → World
+world_of_scheme sign verifies digest hash s h zone life = world zone life (sign s) (verifies s) (digest s) (hash h)
 
 -- that of a publisher
 abbrev pub world_of : {S H : Type 0} → (S → Dnskey → List ℕ → Option (List ℕ)) → (S → Dnskey → List ℕ → List ℕ → Bool) → (S → ℕ → List ℕ → Option (List ℕ)) → (H → List ℕ → ℕ → ℕ → List ℕ → Option (List ℕ)) → Publisher S H → World
-world_of sign verifies digest hash p = world_by sign verifies digest hash p.scheme.now p.zone.hasher (accepted_zone p.zone) p.life
+world_of sign verifies digest hash p = world_of_scheme sign verifies digest hash p.scheme.now p.zone.hasher (accepted_zone p.zone) p.life
 
 -- the same where another scheme signs
 abbrev pub world_with : {S T H : Type 0} → (T → Dnskey → List ℕ → Option (List ℕ)) → (T → Dnskey → List ℕ → List ℕ → Bool) → (S → ℕ → List ℕ → Option (List ℕ)) → (H → List ℕ → ℕ → ℕ → List ℕ → Option (List ℕ)) → T → Publisher S H → World

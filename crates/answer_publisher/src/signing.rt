@@ -4,7 +4,7 @@ ghost use Rattle.std.specs.List.{AllZip};
 ghost use Rattle.definitions.specs.Name.{wire};
 ghost use Rattle.definitions.specs.Dnskey.{key_tag};
 ghost use Rattle.definitions.specs.Signing.{signed_octets, signed_owner};
-ghost use Rattle.answer_shared.specs.GroupView.{FailsFor, IsRrsigData, fields_of, octets_of};
+ghost use Rattle.answer_terms.specs.GroupView.{FailsFor, IsRrsigData, fields_of, octets_of};
 ghost use Rattle.answer_publisher.specs.Inputs.{all_inputs, input, inputs_by, inputs_of};
 ghost use Rattle.answer_publisher.specs.Signing.{is_for_parent};
 ghost use Rattle.denial_data.specs.Protos as protos;
@@ -14,7 +14,7 @@ ghost use Rattle.answer_scheme.specs.declared.error.SchemeError.TheVariants as e
 
 use answer_scheme::error::SchemeError;
 use answer_scheme::scheme::Scheme;
-use answer_shared::dnskey::{Dnskey, ZoneKey};
+use answer_terms::dnskey::{Dnskey, ZoneKey};
 use answer_zone_records::group::RrGroup;
 use denial_data::{ProtoRrsig, Timestamp};
 use messages::names::{Name, Octets, ToName};

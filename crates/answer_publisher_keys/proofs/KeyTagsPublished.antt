@@ -14,7 +14,7 @@ use Rattle.std.proofs.lemmas.Cmp.{tied_itself}
 use Rattle.definitions.specs.Dnskey.{Dnskey, key_tag, same_key}
 use Rattle.answer_publisher_keys.specs.declared.keys.Publication.{Publication}
 use Rattle.answer_publisher_keys.specs.Bindings.{BoundKey, Call, Outcome, ZoneKeys, apply, dnskeys, has_role, is_published, no_keys, published}
-use Rattle.answer_shared.specs.EqualTags.{clashes, has_equal_tags}
+use Rattle.answer_terms.specs.EqualTags.{clashes, has_equal_tags}
 use Rattle.keyset.specs.KeyState.{Key, Reference, key_of, reference_cmp}
 use Rattle.answer_publisher_keys.specs.KeyTags.{PublishedTagsDiffer, PublishedTagsPass, behind, left}
 use Rattle.answer_publisher_keys.proofs.KeyTags.{HasOwnTags, LeavesOwn, apply_own, none_own}

@@ -4,7 +4,7 @@ use Rattle.std.specs.declared.cmp.Ordering.{Ordering}
 use Rattle.std.specs.Ordering.{nat_cmp}
 use Rattle.std.specs.Cmp.Lexicographic.{slice_cmp}
 use Rattle.definitions.specs.Sorting.{sort_by}
-use Rattle.answer_shared.specs.Served.{by_tag}
+use Rattle.answer_terms.specs.Served.{by_tag}
 use Rattle.answer_publisher_keys.specs.declared.keys.Publication.{Publication}
 use Rattle.answer_publisher_keys.specs.declared.keys.Publication.TheVariants as publication
 use Rattle.std.specs.FinMap.Entries as entries

@@ -5,7 +5,7 @@ use Rattle.definitions.specs.Name.{Name}
 use Rattle.definitions.specs.Dnskey.{Dnskey, key_tag}
 use Rattle.answer_publisher_keys.specs.declared.keys.Publication.{Publication}
 use Rattle.answer_publisher_keys.specs.Bindings.{Call, Outcome, ZoneKeys, apply, dnskeys, no_keys, published}
-use Rattle.answer_shared.specs.EqualTags.{has_equal_tags}
+use Rattle.answer_terms.specs.EqualTags.{has_equal_tags}
 
 -- a refused call leaves the keys as they are
 abbrev pub left : ZoneKeys → Outcome → ZoneKeys

@@ -17,8 +17,8 @@ ghost use Rattle.answer_publisher_keys.specs.NewKeys.{added_tag, added_to, AddsB
 
 use crate::fault::KeyFault;
 use answer_events::key_kind::KeyKind;
-use answer_shared::dnskey::{Dnskey, ZoneKey};
-use answer_shared::ranked::{put_data, put_ranked};
+use answer_terms::dnskey::{Dnskey, ZoneKey};
+use answer_terms::ranked::{put_data, put_ranked};
 use denial_data::Ds;
 use keyset::set::KeySet;
 use keyset::{Action, Available, Error, KeyType, RollType, UnixTime};

@@ -1,5 +1,4 @@
-//! The keys of a zone: a key set whose references are each bound to one DNSKEY for good, and what
-//! of it is published.
+//! A key set whose references are bound to DNSKEYs for good, and what of it is published.
 #![tactic(auto)]
 
 pub mod fault;

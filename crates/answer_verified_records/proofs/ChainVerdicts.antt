@@ -8,7 +8,7 @@ use Rattle.definitions.specs.Zone.{Verdict, Records, NoType, NoName, StarRecords
 use Rattle.denial_laws.specs.Deciding.{by_chain, by_wildcard, decided, decided_inside}
 use Rattle.denial_laws.specs.Facts.{Facts, HashLink, Link, Rrset, is_expanded}
 use Rattle.denial_laws.specs.NsecRules.{at_name, at_owner, at_star, below_cut, closest, covered, denied, encloses_at, expanded, expanded_by, first_some, is_cut, lacks, link_covers, or_else, star_lacks}
-use Rattle.denial_laws.specs.Nsec3Rules.{at_hash, beyond, climbed, covers_hash, cut_above, enclosed, encloses, hash_denied, hash_expanded, hash_expanded_by, is_at, is_matched, last_labels, star_at}
+use Rattle.denial_laws.specs.Nsec3Rules.{at_hash, beyond, by_closest_encloser, covers_hash, cut_above, enclosed, encloses, hash_denied, hash_expanded, hash_expanded_by, is_at, is_matched, last_labels, star_at}
 
 -- the data that a verdict tells
 abbrev pub told_data : Verdict → Option (List (List ℕ))
@@ -94,7 +94,7 @@ module _ (apex : Name) (hash : Name → List ℕ) (t : ℕ) (fs : List HashLink)
       (first_tells None (cut_above apex e h) (λ f. either None (encloses h f && is_cut apex e f.bits) _ _ (plain Delegated refl) (none_tells None)) fs)
       (either None (list_any (encloses h) fs) _ _ (first_tells None (beyond hash e t fs (hash (low closer))) (beyond_silent e (hash (low closer))) fs) (none_tells None))
 
-  climbed_silent : (q : Name) → Silent (climbed apex hash q t fs)
+  climbed_silent : (q : Name) → Silent (by_closest_encloser apex hash q t fs)
   climbed_silent [] = none_tells None
   climbed_silent (l ∷ p) = either None (same (l ∷ p) apex) _ _ (none_tells None) (either None (is_matched fs (hash (low p))) _ _ (enclosed_silent (l ∷ p) p) (climbed_silent p))
 

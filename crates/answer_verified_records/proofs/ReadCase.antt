@@ -5,7 +5,7 @@ use Rattle.std.specs.Result.{result_ok}
 use Rattle.std.proofs.lemmas.Bool.{or_parts}
 use Rattle.messages.specs.Message.{Message, message}
 use Rattle.messages.specs.declared.error.MessageError.{MessageError}
-use Rattle.answer_shared.specs.EqualTags.{has_equal_tags}
+use Rattle.answer_terms.specs.EqualTags.{has_equal_tags}
 use Rattle.answer_judge.specs.Judging.{JudgeInput, is_judged, may_ask, same_question, signatures_in}
 use Rattle.answer_judge_keys.specs.DnskeyAnswer.{keys_in}
 use Rattle.answer_judge_keys.specs.Trusted.{is_signature}

@@ -13,7 +13,7 @@ use Rattle.messages.proofs.ZoneNames.{same_labels}
 use Rattle.answer_judge_facts.specs.Marked.{data_in, is_of, is_proved, marked}
 use Rattle.answer_judge_facts.specs.Sought.{Sought, answer_sought}
 use Rattle.answer_judge_facts.specs.Verified.{Trusting, is_verified}
-use Rattle.answer_judge_facts.specs.declared.groups.Group.{Group}
+use Rattle.answer_judge_facts.specs.declared.groups.SignedRrset.{SignedRrset}
 use Rattle.answer_judge_facts.proofs.JudgeCase.{is_verified-owner}
 use Rattle.answer_judge_facts.proofs.JudgeCounted.{AreSought, any_alike}
 use Rattle.answer_judge_facts.proofs.JudgeMarks.{marked_is}
@@ -26,9 +26,9 @@ and_swap true false = refl
 and_swap false true = refl
 and_swap false false = refl
 
-module _ (w : Trusting) (m : List ℕ) (rs : List Spelled) (s : Sought) (gs : List Group) (a : AreSought s gs) where
+module _ (w : Trusting) (m : List ℕ) (rs : List Spelled) (s : Sought) (gs : List SignedRrset) (a : AreSought s gs) where
   -- an RRset that is verified
-  each_proved : (o : Name) (t : ℕ) (xs : List Group) → AllByRecursion (λ g. is_of o t g ≡ true → data_in g ≡ s.datas o t) xs → AllByRecursion (λ g. g.verified ≡ None) xs
+  each_proved : (o : Name) (t : ℕ) (xs : List SignedRrset) → AllByRecursion (λ g. is_of o t g ≡ true → data_in g ≡ s.datas o t) xs → AllByRecursion (λ g. g.verified ≡ None) xs
       → AllByRecursion (λ g. is_of o t g ≡ true → is_some (marked w m rs g).verified ≡ is_verified w pointer_limit m rs o t (s.datas o t)) xs
   each_proved o t [] d v = tt
   each_proved o t (g ∷ xs) d v = (
@@ -50,7 +50,7 @@ module _ (w : Trusting) (m : List ℕ) (rs : List Spelled) (s : Sought) (gs : Li
       ∙ any_alike (is_of o t) (λ g. is_some (marked w m rs g).verified) (is_verified w pointer_limit m rs o t (s.datas o t)) gs (each_proved o t gs (a.datas o t) a.fresh)
       ∙ ap (λ b. b && is_verified w pointer_limit m rs o t (s.datas o t)) (sym (a.found o t))
 
-module _ (w : Trusting) (m : List ℕ) (rs : List Spelled) (q : Name) (t : ℕ) (gs : List Group) (a : AreSought (answer_sought pointer_limit m w.apex rs q t) gs) (new : List Group) (n : new ≡ map (marked w m rs) gs) where
+module _ (w : Trusting) (m : List ℕ) (rs : List Spelled) (q : Name) (t : ℕ) (gs : List SignedRrset) (a : AreSought (answer_sought pointer_limit m w.apex rs q t) gs) (new : List SignedRrset) (n : new ≡ map (marked w m rs) gs) where
   record_is : (r : Spelled) → is_of_verified m new r ≡ is_verified_record w pointer_limit m rs q t r
   record_is r =
       ap (λ ys. is_of_verified m ys r) n

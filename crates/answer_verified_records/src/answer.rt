@@ -13,7 +13,7 @@ ghost use Rattle.answer_verified_records.specs.Records.{numbers_from, verified_i
 use crate::number::RecordNumber;
 use answer_judge::Case;
 use answer_judge_facts::facts::{is_verified, sorted_chain, sought_groups};
-use answer_judge_facts::groups::{Group, verify_groups};
+use answer_judge_facts::groups::{SignedRrset, verify_groups};
 use answer_judge_keys::check_run::CheckRun;
 use answer_judge_keys::key_index::KeyIndex;
 use answer_judge_keys::keys::TaggedKey;
@@ -111,7 +111,7 @@ fn numbers_of_verified(
     alloc: Global,
     message: &[u8],
     records: &[ViewRecord],
-    groups: &[Group],
+    groups: &[SignedRrset],
 ) -> Result<Vec<RecordNumber>, AllocError>
     requires ranked { AreRanked groups.now }
     requires room { length records.now < 2 ^ 32 }
@@ -133,7 +133,7 @@ fn is_of_verified(
     alloc: Global,
     message: &[u8],
     view: &ViewRecord,
-    groups: &[Group],
+    groups: &[SignedRrset],
 ) -> Result<bool, AllocError>
     requires { AreRanked groups.now }
     ensures { IfOk result

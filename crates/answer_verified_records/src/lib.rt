@@ -1,5 +1,4 @@
-//! The records of an answer that signatures verify, by their numbers in the message (RFC 4035,
-//! 5.3).
+//! Which records of an answer are verified, by their index in the message (RFC 4035, 5.3).
 #![tactic(auto)]
 
 mod answer;

@@ -12,7 +12,7 @@ ghost use Rattle.answer_verified_records.specs.Records.{messages_in, unrefused};
 use answer_judge::Case;
 use answer_judge_keys::key_index::KeyIndex;
 use answer_judge_keys::keys::{TaggedKey, read_keys};
-use answer_shared::question::{asks_alias, is_allowed};
+use answer_terms::question::{asks_alias, is_allowed};
 use messages::names::{Name, ToName};
 use messages::{MessageView, ViewRecord, read_message_into};
 use names_rdata::rtype::Rtype;

@@ -8,12 +8,12 @@ use Rattle.denial_nsec3_hash.specs.declared.hasher.HashError.{HashError}
 use Rattle.denial_nsec3_hash.specs.declared.hasher.HashError.TheVariants.{Memory}
 use Rattle.messages.specs.HandedRr.{HandedRr}
 use Rattle.messages.proofs.ZoneNames.{low-low}
-use Rattle.answer_shared.specs.GroupView.{Adds, GroupView}
-use Rattle.answer_shared.specs.HashedLinks.{HashedLink, hashed_said_of}
-use Rattle.answer_shared.specs.Hashing.{Hasher, hash_in}
-use Rattle.answer_shared.specs.Links.{ChainLink, said_of}
-use Rattle.answer_shared.specs.Served.{chain_ttl, proofs_of, served_of}
-use Rattle.answer_shared.proofs.HashedLinks.{proofs_are_hashed}
+use Rattle.answer_terms.specs.GroupView.{Adds, GroupView}
+use Rattle.answer_terms.specs.HashedLinks.{HashedLink, hashed_said_of}
+use Rattle.answer_terms.specs.Hashing.{Hasher, hash_in}
+use Rattle.answer_terms.specs.Links.{ChainLink, said_of}
+use Rattle.answer_terms.specs.Served.{chain_ttl, proofs_of, served_of}
+use Rattle.answer_terms.proofs.HashedLinks.{proofs_are_hashed}
 use Rattle.answer_zone.specs.HashedZone.{HashesEach, IsHashFailure}
 use Rattle.answer_zone_records.specs.MadeLinks.{IsChain}
 use Rattle.answer_zone_records.specs.declared.chains.Chain.TheVariants.{Names, Hashes}

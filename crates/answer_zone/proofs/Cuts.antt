@@ -10,7 +10,7 @@ use Rattle.definitions.proofs.ZoneNames.{low-low, same_lowered, owner_lowered, k
 use Rattle.denial_laws.proofs.NameFacts.{above-low, above_cases, above_either, above_trans, names_same, same_above, same_names, strictly_at}
 use Rattle.denial_laws.proofs.ZoneCuts.{IsCut, IsKeptBy, NoneStrictlyAbove, by_kept, cut_is, cut_live, delegation_low, delegation_owner, kept_by, kept_uncut, live_uncut, uncut, uncut_live}
 use Rattle.messages.specs.HandedRr.{HandedRr}
-use Rattle.answer_shared.specs.Accepting.{rr_of, zone_with}
+use Rattle.answer_terms.specs.Accepting.{rr_of, zone_with}
 use Rattle.answer_zone.specs.Cuts.{is_cut_off}
 
 and_true : (b : Bool) → (b && true) ≡ b

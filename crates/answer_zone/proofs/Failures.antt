@@ -8,7 +8,7 @@ use Rattle.definitions.specs.ZoneChain.{Mode, Nsec, Nsec3}
 use Rattle.definitions.proofs.Members.{In, append_in, contained, in_contained, in_map}
 use Rattle.denial_nsec3_hash.specs.declared.hasher.HashError.{HashError}
 use Rattle.denial_nsec3_hash.specs.declared.hasher.HashError.TheVariants.{Failed, Memory}
-use Rattle.answer_shared.specs.Hashing.{Hasher}
+use Rattle.answer_terms.specs.Hashing.{Hasher}
 use Rattle.answer_zone.specs.HashedZone.{AreHashed, FailsOn, HashesEach, IsHashFailure}
 
 to_in : {X : Type 0} (xs : List X) (x : X) → Contains xs x → In x xs

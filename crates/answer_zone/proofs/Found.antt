@@ -7,7 +7,7 @@ use Rattle.definitions.specs.Name.{Name, labels_eq, low}
 use Rattle.definitions.specs.Zone.{Zone, Verdict, Records, NoType, NoName, StarRecords, StarNoType, Delegated, has, is_live, cut, exists, ce, data_at, at_existing, at_star, star_under}
 use Rattle.definitions.proofs.VerdictCases.{said, verdict-said}
 use Rattle.messages.specs.HandedRr.{HandedRr, among}
-use Rattle.answer_shared.specs.Accepting.{is_alias, zone_with}
+use Rattle.answer_terms.specs.Accepting.{is_alias, zone_with}
 use Rattle.answer_zone.specs.Finding.{finds, redirecting}
 use Rattle.answer_zone.specs.ZoneAnswers.{answered}
 

@@ -15,9 +15,9 @@ use Rattle.denial_laws.proofs.NameFacts.{above-low, above_trans, names_same, sam
 use Rattle.denial_laws.proofs.ZoneCuts.{IsCut, NoneStrictlyAbove, cut_is, tail_low, uncut, uncut_from}
 use Rattle.names_labels.specs.Suffixes.{suffixes}
 use Rattle.messages.specs.HandedRr.{HandedRr}
-use Rattle.answer_shared.specs.Accepting.{zone_with}
-use Rattle.answer_shared.specs.ZoneView.{is_of}
-use Rattle.answer_shared.proofs.ZoneServed.{has_is}
+use Rattle.answer_terms.specs.Accepting.{zone_with}
+use Rattle.answer_terms.specs.ZoneView.{is_of}
+use Rattle.answer_terms.proofs.ZoneServed.{has_is}
 use Rattle.answer_zone_records.specs.OwnedRecords.{is_of_type, owned_by}
 use Rattle.answer_zone_records.specs.declared.owned.Cut.{Cut}
 use Rattle.answer_zone_records.proofs.OwnedFacts.{all_owned, any_owned}

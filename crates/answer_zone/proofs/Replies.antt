@@ -10,11 +10,11 @@ use Rattle.denial_laws.specs.OwnFacts.{denies_star, kept_ancestor, open_spoken}
 use Rattle.denial_laws.proofs.NameFacts.{above-low}
 use Rattle.denial_nsec3_hash.specs.declared.hasher.HashError.{HashError}
 use Rattle.messages.specs.HandedRr.{HandedRr}
-use Rattle.answer_shared.specs.Accepting.{soas, zone_with}
-use Rattle.answer_shared.specs.Hashing.{Hasher, hash_in}
-use Rattle.answer_shared.specs.Served.{Group, Served, ahead_open, answer_groups, proofs_of, soa, spoken, unsigned_ns}
-use Rattle.answer_shared.proofs.ZoneAnswers.{groups_open_missing}
-use Rattle.answer_shared.proofs.ZoneData.{if_ok_map}
+use Rattle.answer_terms.specs.Accepting.{soas, zone_with}
+use Rattle.answer_terms.specs.Hashing.{Hasher, hash_in}
+use Rattle.answer_terms.specs.Served.{ServedRrset, Served, ahead_open, answer_groups, proofs_of, soa, spoken, unsigned_ns}
+use Rattle.answer_terms.proofs.ZoneAnswers.{groups_open_missing}
+use Rattle.answer_terms.proofs.ZoneData.{if_ok_map}
 use Rattle.answer_zone_records.specs.OwnedRecords.{is_of_type, owned_by}
 use Rattle.answer_zone.specs.Cuts.{NoneRefers}
 use Rattle.answer_zone.specs.HashedZone.{HashedZone, HashesEach, served_by, spoken_for}
@@ -29,7 +29,7 @@ module _ {H : Type 0} (hash_of : H → Hasher) (x : HashedZone H) (q : Name) (t 
   ours = served_by hash_of x
 
   -- the RRsets that a verdict asks for, and the names that its proof speaks of
-  pub reply : (v : Verdict) (found rest : List Group) (names : List Name) (r : Result ZoneAnswer HashError)
+  pub reply : (v : Verdict) (found rest : List ServedRrset) (names : List Name) (r : Result ZoneAnswer HashError)
       → verdict (zone_of x) false q t ≡ v
       → length found ≡ answered v
       → found ++ rest ≡ answer_groups ours q t
@@ -53,7 +53,7 @@ module _ {H : Type 0} (hash_of : H → Hasher) (x : HashedZone H) (q : Name) (t 
       ap (spoken ours (low q) (verdict (zone_of x) false q t)) whole ∙ ap (λ w. open_names (denies_star w)) said ∙ ap open_names denies
 
   -- the SOA record, or the name servers of a delegation
-  abbrev front : Option Name → List Group
+  abbrev front : Option Name → List ServedRrset
   front o = elim o [ None ↦ soa ours ∷ [] | Some c ↦ if labels_eq c (low q) && (t == 43) then soa ours ∷ [] else unsigned_ns ours c ]
 
   pub open_missing : AnswersItself x q t → LeavesOpen x q true → (v : Verdict) (star : Bool) (r : Result ZoneAnswer HashError)

@@ -19,18 +19,18 @@ use Rattle.denial_laws.proofs.ZoneCuts.{IsBelowKeptCut, IsCut, IsEncloser, NoneA
 use Rattle.denial_laws.proofs.Verdicts.{lacking, verdict_by_star, verdict_delegated, verdict_ds, verdict_existing, verdict_signed}
 use Rattle.messages.specs.HandedRr.{HandedRr}
 use Rattle.messages.proofs.Lists.{zip_append}
-use Rattle.answer_shared.specs.Accepting.{soas, zone_with}
-use Rattle.answer_shared.specs.GroupView.{GroupView, Presents}
-use Rattle.answer_shared.specs.Served.{Group, Served, answer_groups}
-use Rattle.answer_shared.specs.ZoneView.{is_of}
-use Rattle.answer_shared.proofs.ZoneData.{soa_there}
-use Rattle.answer_shared.proofs.ZoneServed.{has_is}
+use Rattle.answer_terms.specs.Accepting.{soas, zone_with}
+use Rattle.answer_terms.specs.GroupView.{GroupView, Presents}
+use Rattle.answer_terms.specs.Served.{ServedRrset, Served, answer_groups}
+use Rattle.answer_terms.specs.ZoneView.{is_of}
+use Rattle.answer_terms.proofs.ZoneData.{soa_there}
+use Rattle.answer_terms.proofs.ZoneServed.{has_is}
 use Rattle.answer_zone.specs.Cuts.{NoneRefers, Refers}
 use Rattle.answer_zone.specs.ZoneAnswers.{AnswersAs, Holds, answered, flags_for}
 use Rattle.answer_zone.specs.declared.zone.answers.ZoneAnswer.{ZoneAnswer}
 
 -- an answer that holds what a verdict asks for
-pub answers : (s : Served) (q : Name) (t : ℕ) (v : Verdict) (found rest : List Group) (a : ZoneAnswer) → verdict s.zone false q t ≡ v → length found ≡ answered v → found ++ rest ≡ answer_groups s q t → Holds (flags_for v) found rest a → AnswersAs s q t a
+pub answers : (s : Served) (q : Name) (t : ℕ) (v : Verdict) (found rest : List ServedRrset) (a : ZoneAnswer) → verdict s.zone false q t ≡ v → length found ≡ answered v → found ++ rest ≡ answer_groups s q t → Holds (flags_for v) found rest a → AnswersAs s q t a
 answers s q t v found rest a e n g h = record {
   groups_are = subst (AllZip Presents (a.answer.items ++ a.authority.items)) g (zip_append Presents a.answer.items found a.authority.items rest h.found_are h.rest_are);
   split = sym (AllZip-long Presents a.answer.items found h.found_are) ∙ n ∙ sym (ap answered e);
@@ -200,7 +200,7 @@ not_referred z q t x f none None e = refl
 not_referred z q t x f none (Some c) e = ap (λ b. if b then x else f c) (none c e)
 
 -- an RRset without its signatures
-pub unsigned_presents : (g h : GroupView) (of : Group) → h ≡ record g { signed = false } → Presents g of → Presents h (record of { signed = false })
+pub unsigned_presents : (g h : GroupView) (of : ServedRrset) → h ≡ record g { signed = false } → Presents g of → Presents h (record of { signed = false })
 unsigned_presents g h of e p = subst (λ v. Presents v (record of { signed = false })) (sym e) (record {
   owner_is = p.owner_is;
   labels_are = p.labels_are;

@@ -5,9 +5,9 @@ use Rattle.definitions.specs.Name.{Name}
 use Rattle.definitions.specs.ZoneChain.{Mode, optout_of}
 use Rattle.messages.specs.Handed.{AreHanded}
 use Rattle.messages.specs.HandedRr.{HandedRr, handed_of}
-use Rattle.answer_shared.specs.Accepting.{is_alias, sorted_records}
-use Rattle.answer_shared.specs.Hashing.{Hasher}
-use Rattle.answer_shared.specs.Served.{chain_ttl}
+use Rattle.answer_terms.specs.Accepting.{is_alias, sorted_records}
+use Rattle.answer_terms.specs.Hashing.{Hasher}
+use Rattle.answer_terms.specs.Served.{chain_ttl}
 use Rattle.answer_zone_records.specs.KeptNames.{KeepsNames}
 use Rattle.answer_zone_records.specs.MadeLinks.{IsChain}
 use Rattle.answer_zone_records.specs.OwnedRecords.{IsInternet}

@@ -15,10 +15,10 @@ links_names Nsec = true
 links_names (Nsec3 iterations salt optout) = false
 
 -- a DNAME of the zone stands at the name, and redirects what is below it (RFC 6672, 2.3)
-abbrev pub redirects : Zone → Name → Bool
-redirects z o = has z o 39 && is_live z o
+abbrev pub zone_redirects : Zone → Name → Bool
+zone_redirects z o = has z o 39 && is_live z o
 
 -- the nearest such name above another, as this one spells it
 abbrev pub redirecting : Zone → Name → Option Name
 redirecting z [] = None
-redirecting z (l ∷ q) = if redirects z (low q) then Some q else redirecting z q
+redirecting z (l ∷ q) = if zone_redirects z (low q) then Some q else redirecting z q

@@ -6,9 +6,9 @@ use Rattle.definitions.specs.ZoneChain.{Mode, Nsec, Nsec3, optout_of}
 use Rattle.denial_nsec3_hash.specs.declared.hasher.HashError.{HashError}
 use Rattle.denial_nsec3_hash.specs.declared.hasher.HashError.TheVariants.{Failed, Memory}
 use Rattle.messages.specs.HandedRr.{HandedRr}
-use Rattle.answer_shared.specs.Hashing.{Hasher, served}
-use Rattle.answer_shared.specs.Served.{Served, spoken}
-use Rattle.answer_shared.specs.ZoneView.{AcceptedZone}
+use Rattle.answer_terms.specs.Hashing.{Hasher, served}
+use Rattle.answer_terms.specs.Served.{Served, spoken}
+use Rattle.answer_terms.specs.ZoneView.{AcceptedZone}
 
 -- a zone that was accepted under a hasher, and that hasher
 pub record HashedZone (H : Type 0) : Type 0 where

@@ -4,7 +4,7 @@ use Rattle.std.specs.List.{list_any}
 use Rattle.definitions.specs.Name.{Name, at_or_above, low, same}
 use Rattle.definitions.specs.Zone.{cut_above}
 use Rattle.messages.specs.HandedRr.{HandedRr}
-use Rattle.answer_shared.specs.Accepting.{zone_with}
+use Rattle.answer_terms.specs.Accepting.{zone_with}
 use Rattle.answer_zone_records.specs.Near.{owns, shows}
 use Rattle.answer_zone_records.specs.OwnedRecords.{owned_by}
 use Rattle.answer_zone_records.specs.declared.near.Neighbours.{Neighbours}

@@ -3,7 +3,7 @@ use Rattle.std.specs.Prelude.{◌≡◌, ℕ, Bool, false, ◌||◌, ◌==◌, N
 use Rattle.definitions.specs.Name.{Name, low}
 use Rattle.definitions.specs.Zone.{Zone, cut_above, is_open}
 use Rattle.definitions.specs.ZoneChain.{optout_of}
-use Rattle.answer_shared.specs.Accepting.{zone_with}
+use Rattle.answer_terms.specs.Accepting.{zone_with}
 use Rattle.answer_zone.specs.Cuts.{NoneRefers}
 use Rattle.answer_zone.specs.HashedZone.{HashedZone}
 

@@ -4,9 +4,9 @@ use Rattle.std.specs.List.{AllZip}
 use Rattle.definitions.specs.Name.{Name}
 use Rattle.definitions.specs.Zone.{Verdict, verdict, Records, NoName, StarRecords, Delegated}
 use Rattle.denial_nsec3_hash.specs.declared.hasher.HashError.{HashError}
-use Rattle.answer_shared.specs.GroupView.{Presents}
-use Rattle.answer_shared.specs.Hashing.{Hasher}
-use Rattle.answer_shared.specs.Served.{Group, Served, answer_groups}
+use Rattle.answer_terms.specs.GroupView.{Presents}
+use Rattle.answer_terms.specs.Hashing.{Hasher}
+use Rattle.answer_terms.specs.Served.{ServedRrset, Served, answer_groups}
 use Rattle.answer_zone.specs.HashedZone.{HashedZone, HashesFor, served_by}
 use Rattle.answer_zone.specs.declared.zone.answers.ZoneAnswer.{ZoneAnswer}
 
@@ -33,7 +33,7 @@ abbrev pub Replies : {H : Type 0} → (H → Hasher) → HashedZone H → Name �
 Replies hash_of z q t r = IfOk r (AnswersAs (served_by hash_of z) q t) × HashesFor hash_of z q t r
 
 -- its flags, the RRsets of its answer section, and the others
-pub record Holds (flags : ℕ) (found rest : List Group) (a : ZoneAnswer) : Type 0 where
+pub record Holds (flags : ℕ) (found rest : List ServedRrset) (a : ZoneAnswer) : Type 0 where
   pub flags_are : a.flags ≡ flags
   pub found_are : AllZip Presents a.answer.items found
   pub rest_are : AllZip Presents a.authority.items rest

@@ -1,4 +1,4 @@
-//! A zone's records in canonical order, and the RRsets of the zone's answers.
+//! A zone's records in canonical order, and the RRsets of its answers.
 #![tactic(auto)]
 
 pub mod zone;

@@ -4,14 +4,14 @@ ghost use Rattle.std.specs.List.{AllByRecursion};
 ghost use Rattle.definitions.specs.Name.{IsName};
 ghost use Rattle.messages.specs.Handed.{AreHanded, IsHanded};
 ghost use Rattle.messages.specs.HandedRr.{handed_of};
-ghost use Rattle.answer_shared.specs.Accepted.{IsAccepted};
-ghost use Rattle.answer_shared.specs.Accepting.{sorted_records};
+ghost use Rattle.answer_terms.specs.Accepted.{IsAccepted};
+ghost use Rattle.answer_terms.specs.Accepting.{sorted_records};
 ghost use Rattle.answer_zone_records.specs.Faults.{RefusesZone, first_fault};
 ghost use Rattle.answer_zone_records.specs.ZoneInOrder.{AreZoneRecords};
-ghost use Rattle.answer_shared.specs.ModeView.{mode_of};
+ghost use Rattle.answer_terms.specs.ModeView.{mode_of};
 
 use crate::zone::contents::contents_of;
-use answer_shared::mode::Mode;
+use answer_terms::mode::Mode;
 use answer_zone_records::chains::Chain;
 use answer_zone_records::fault::ZoneFault;
 use answer_zone_records::faults::first_fault;
@@ -54,12 +54,12 @@ impl<'h, H: Nsec3Hasher> Model for ZoneRecords<'h, H> {
     ghost use Rattle.std.specs.List.{AllByRecursion, list_any};
     ghost use Rattle.definitions.specs.ZoneChain.{optout_of};
     ghost use Rattle.messages.specs.HandedRr.{handed_of};
-    ghost use Rattle.answer_shared.specs.Accepting.{is_alias};
-    ghost use Rattle.answer_shared.specs.Served.{chain_ttl};
+    ghost use Rattle.answer_terms.specs.Accepting.{is_alias};
+    ghost use Rattle.answer_terms.specs.Served.{chain_ttl};
     ghost use Rattle.answer_zone_records.specs.ZoneInOrder.{AreZoneRecords};
     ghost use Rattle.answer_zone.specs.HashedZone.{HashedZone};
     ghost use Rattle.answer_zone_records.specs.MadeLinks.{IsChain};
-    ghost use Rattle.answer_shared.specs.ModeView.{mode_of};
+    ghost use Rattle.answer_terms.specs.ModeView.{mode_of};
     ghost use Rattle.answer_zone_records.specs.KeptNames.{KeepsNames};
     ghost use Rattle.answer_zone_records.specs.OwnedRecords.{IsInternet};
 

@@ -7,8 +7,8 @@ use Rattle.std.proofs.lemmas.List.{append-nil, map-append, take_more}
 use Rattle.std.proofs.lemmas.List.Folds.{list_any-append}
 use Rattle.definitions.specs.Name.{Name, labels_eq, low}
 use Rattle.definitions.specs.Covering.{covers}
-use Rattle.answer_shared.specs.HashedLinks.{HashedLink, hashed_link_at_or_around, hashed_link_speaks}
-use Rattle.answer_shared.specs.Links.{ChainLink, link_speaks}
+use Rattle.answer_terms.specs.HashedLinks.{HashedLink, hashed_link_at_or_around, hashed_link_speaks}
+use Rattle.answer_terms.specs.Links.{ChainLink, link_speaks}
 use Rattle.answer_zone_records.specs.ChainPlaces.{AreAt}
 use Rattle.answer_zone_records.specs.Round.{link_speaks_for}
 use Rattle.answer_zone_records.proofs.Picked.{either_at}

@@ -4,7 +4,7 @@ use Rattle.std.specs.List.{AllByRecursion, list_any, filter}
 use Rattle.definitions.specs.Name.{Name, same}
 use Rattle.messages.specs.HandedRr.{HandedRr}
 use Rattle.messages.proofs.Lists.{all_fail, all_sorted}
-use Rattle.answer_shared.specs.Accepting.{is_alias, record_cmp, sorted_records}
+use Rattle.answer_terms.specs.Accepting.{is_alias, record_cmp, sorted_records}
 use Rattle.answer_zone_records.specs.AliasFaults.{crowds, has_disorder, is_below_dname, is_disorderly, lacks_target, redirects_star, rivals}
 use Rattle.answer_zone_records.specs.OwnedRecords.{owned_by}
 

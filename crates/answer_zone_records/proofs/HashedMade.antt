@@ -33,10 +33,10 @@ use Rattle.denial_nsec3_chain.specs.Faults.{HasNoFault, IsNsec3Fault}
 use Rattle.denial_nsec3_chain.specs.Linked.{Making, nsec3_record}
 use Rattle.denial_nsec3_chain.proofs.Linking.{behind_each, octets_rise}
 use Rattle.messages.specs.HandedRr.{HandedRr, handed_of}
-use Rattle.answer_shared.specs.Accepting.{zone_with}
-use Rattle.answer_shared.specs.Chainable.{AllHashed}
-use Rattle.answer_shared.specs.HashedLinks.{HashedLink, hashed_link_at, hashed_links_of}
-use Rattle.answer_shared.specs.Hashing.{Hasher, hash_in}
+use Rattle.answer_terms.specs.Accepting.{zone_with}
+use Rattle.answer_terms.specs.Chainable.{AllHashed}
+use Rattle.answer_terms.specs.HashedLinks.{HashedLink, hashed_link_at, hashed_links_of}
+use Rattle.answer_terms.specs.Hashing.{Hasher, hash_in}
 use Rattle.answer_zone_records.specs.MadeLinks.{HasOctets, IsMade, IsUnmade, hashed_around, hashed_from, hashed_link_of, last_next}
 use Rattle.answer_zone_records.proofs.ZoneWords.{map_agree, zone_is}
 

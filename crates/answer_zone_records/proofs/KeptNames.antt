@@ -22,8 +22,8 @@ use Rattle.denial_rrsets.specs.Groups.{IsGroup, group_owner, groups, of_one_owne
 use Rattle.denial_rrsets.specs.Partitions.{IsPartition}
 use Rattle.denial_chain_owners.specs.Kept.{kept_groups}
 use Rattle.messages.specs.HandedRr.{handed_of}
-use Rattle.answer_shared.specs.Accepting.{record_cmp, zone_with}
-use Rattle.answer_shared.proofs.Climbing.{rising_parts}
+use Rattle.answer_terms.specs.Accepting.{record_cmp, zone_with}
+use Rattle.answer_terms.proofs.Climbing.{rising_parts}
 use Rattle.answer_zone_records.specs.Near.{AreRising}
 use Rattle.answer_zone_records.specs.KeptNames.{KeepsNames}
 use Rattle.answer_zone_records.specs.OwnedRecords.{IsInternet}

@@ -19,10 +19,10 @@ use Rattle.definitions.proofs.ZoneNames.{and_parts, live_owner, low-low, owner_l
 use Rattle.denial_laws.proofs.NameFacts.{before_unlike, names_same, same_names, up_to_before}
 use Rattle.messages.specs.HandedRr.{HandedRr}
 use Rattle.messages.proofs.ZoneNames.{name_cmp-low}
-use Rattle.answer_shared.specs.Accepting.{zone_with}
-use Rattle.answer_shared.specs.HashedLinks.{HashedLink, hashed_link_at, hashed_links_of}
-use Rattle.answer_shared.specs.Links.{ChainLink, link_at, links_of}
-use Rattle.answer_shared.specs.Served.{spelled_among, spelled_as}
+use Rattle.answer_terms.specs.Accepting.{zone_with}
+use Rattle.answer_terms.specs.HashedLinks.{HashedLink, hashed_link_at, hashed_links_of}
+use Rattle.answer_terms.specs.Links.{ChainLink, link_at, links_of}
+use Rattle.answer_terms.specs.Served.{spelled_among, spelled_as}
 use Rattle.answer_zone_records.specs.Round.{Climbs, IsCircle, IsRound, Leads, LeadsRound, first_hash}
 use Rattle.answer_zone_records.proofs.ZoneLinks.{next_low, spelled_low}
 

@@ -9,10 +9,10 @@ use Rattle.plain.specs.declared.record.Record.{Record}
 use Rattle.plain.specs.declared.zone_data.ZoneRecordData.{ZoneRecordData}
 use Rattle.denial_sorted.specs.Owned.{is_owned}
 use Rattle.messages.specs.HandedRr.{HandedRr, handed_of}
-use Rattle.answer_shared.specs.GroupView.{all_spelled_by}
-use Rattle.answer_shared.specs.Served.{chain_ttl, chain_ttl_of, minimum_of, owner_among, ttl_among, written_of_handed}
-use Rattle.answer_shared.specs.ZoneView.{is_of}
-use Rattle.answer_shared.proofs.ZoneData.{filter-map}
+use Rattle.answer_terms.specs.GroupView.{all_spelled_by}
+use Rattle.answer_terms.specs.Served.{chain_ttl, chain_ttl_of, minimum_of, owner_among, ttl_among, written_of_handed}
+use Rattle.answer_terms.specs.ZoneView.{is_of}
+use Rattle.answer_terms.proofs.ZoneData.{filter-map}
 use Rattle.answer_zone_records.specs.GroupRecords.{HoldsRrset}
 use Rattle.answer_zone_records.specs.OwnedRecords.{IsInternet, handed_in, is_of_type, owned_by, ttl_in}
 use Rattle.answer_zone_records.specs.declared.group.GroupRecord.{GroupRecord}

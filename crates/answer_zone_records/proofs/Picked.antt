@@ -5,8 +5,8 @@ use Rattle.std.specs.List.{AllByRecursion, filter}
 use Rattle.std.proofs.lemmas.Bool.{eq-eqb, eqb-true, false≢true, lt-ltb, ltb-true, ne_eqb, or_cases}
 use Rattle.std.proofs.lemmas.List.{append-nil, get_or_default, map-append, take_all}
 use Rattle.std.proofs.lemmas.List.Folds.{list_any-append}
-use Rattle.answer_shared.specs.GroupView.{Adds, GroupView, Presents}
-use Rattle.answer_shared.specs.Served.{Group}
+use Rattle.answer_terms.specs.GroupView.{Adds, GroupView, Presents}
+use Rattle.answer_terms.specs.Served.{ServedRrset}
 use Rattle.answer_zone_records.specs.ChainPlaces.{AreAt, IsNextPlace, is_among, is_less}
 use Rattle.answer_zone_records.proofs.ZoneGroups.{step}
 use Rattle.answer_zone_records.proofs.ZoneLinks.{adds_one, adds_then}
@@ -61,13 +61,13 @@ module _ {A : Type 0} (p : A → Bool) (xs : List A) (ks : List ℕ) (at : AreAt
 
   -- ---- RRsets of those so far
 
-  pub adds_picked : (G : A → Group) (bound place : ℕ) (x : A) (old mid new : List GroupView) (g : GroupView) → place < length xs → x ≡ get_or xs place x → IsNextPlace ks bound (Some place)
+  pub adds_picked : (G : A → ServedRrset) (bound place : ℕ) (x : A) (old mid new : List GroupView) (g : GroupView) → place < length xs → x ≡ get_or xs place x → IsNextPlace ks bound (Some place)
       → Adds old mid (map G (filter p (take bound xs))) → Presents g (G x) → new ≡ mid ++ g ∷ [] → Adds old new (map G (filter p (take (place + 1) xs)))
   adds_picked G bound place x old mid new g inside is n before of pushed =
       subst (Adds old new) (sym (ap (map G) (picked bound place x inside is n) ∙ map-append G (filter p (take bound xs)) (x ∷ [])))
       (adds_then old mid new (map G (filter p (take bound xs))) (G x ∷ []) before (adds_one mid new g (G x) of pushed))
 
-  pub adds_rest : (G : A → Group) (bound : ℕ) (old new : List GroupView) → bound ≤ length xs → IsNextPlace ks bound None → Adds old new (map G (filter p (take bound xs))) → Adds old new (map G (filter p xs))
+  pub adds_rest : (G : A → ServedRrset) (bound : ℕ) (old new : List GroupView) → bound ≤ length xs → IsNextPlace ks bound None → Adds old new (map G (filter p (take bound xs))) → Adds old new (map G (filter p xs))
   adds_rest G bound old new h none a = subst (Adds old new) (ap (map G) (sym (rest bound h none))) a
 
 -- ---- the least place

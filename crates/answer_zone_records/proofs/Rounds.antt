@@ -20,8 +20,8 @@ use Rattle.definitions.proofs.Members.{in_contained}
 use Rattle.definitions.proofs.NameLaws.{name_cmp_total}
 use Rattle.denial_laws.proofs.ChainBits.{all_at}
 use Rattle.messages.proofs.ZoneNames.{name_cmp-low}
-use Rattle.answer_shared.specs.HashedLinks.{HashedLink, hashed_link_at_or_around}
-use Rattle.answer_shared.specs.Links.{ChainLink}
+use Rattle.answer_terms.specs.HashedLinks.{HashedLink, hashed_link_at_or_around}
+use Rattle.answer_terms.specs.Links.{ChainLink}
 use Rattle.answer_zone_records.specs.ChainPlaces.{AreAt, is_among}
 use Rattle.answer_zone_records.specs.Round.{Climbs, IsCircle, IsRound, Leads, LeadsRound, first_hash, is_hash_up_to, is_up_to, link_speaks_for}
 use Rattle.answer_zone_records.proofs.ZoneLinks.{speaks_equal, speaks_greater, speaks_last, speaks_less}

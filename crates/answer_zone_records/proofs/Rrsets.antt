@@ -8,8 +8,8 @@ use Rattle.std.proofs.lemmas.List.{append-nil, map-append}
 use Rattle.definitions.specs.Name.{Name, same}
 use Rattle.messages.specs.HandedRr.{HandedRr}
 use Rattle.messages.specs.Written.{Written}
-use Rattle.answer_shared.specs.GroupView.{all_spelled_by, spelled_by}
-use Rattle.answer_shared.specs.Served.{written_of_handed}
+use Rattle.answer_terms.specs.GroupView.{all_spelled_by, spelled_by}
+use Rattle.answer_terms.specs.Served.{written_of_handed}
 use Rattle.answer_zone_records.specs.GroupRecords.{HoldsRrset, record_under}
 use Rattle.answer_zone_records.specs.OwnedRecords.{is_of_type}
 use Rattle.answer_zone_records.specs.declared.group.GroupRecord.{GroupRecord}

@@ -21,7 +21,7 @@ use Rattle.messages.specs.Message.{fault_of, if_true, owner_at}
 use Rattle.messages.specs.NameOctets.{name_of_octets}
 use Rattle.messages.specs.declared.error.MessageError.{MessageError}
 use Rattle.messages.proofs.NameWritten.{owner_wire}
-use Rattle.answer_shared.specs.Accepting.{is_alias}
+use Rattle.answer_terms.specs.Accepting.{is_alias}
 use Rattle.answer_zone_records.specs.AliasFaults.{HasTarget, lacks_target}
 
 -- ---- what is read of a message at its front

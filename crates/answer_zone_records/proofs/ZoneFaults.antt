@@ -5,8 +5,8 @@ use Rattle.std.proofs.lemmas.Bool.{false≢true}
 use Rattle.definitions.specs.Name.{Name}
 use Rattle.definitions.specs.ZoneChain.{Mode}
 use Rattle.messages.specs.HandedRr.{HandedRr, is_meta}
-use Rattle.answer_shared.specs.Accepting.{IsFaultless, delegates_star, is_added_by_signing, is_alias, is_of_other_class, is_outside, over_limit, sorted_records}
-use Rattle.answer_shared.specs.Hashing.{Hasher}
+use Rattle.answer_terms.specs.Accepting.{IsFaultless, delegates_star, is_added_by_signing, is_alias, is_of_other_class, is_outside, over_limit, sorted_records}
+use Rattle.answer_terms.specs.Hashing.{Hasher}
 use Rattle.answer_zone_records.specs.AliasFaults.{IsOrderlyList, IsPlainList, RefusesZoneWithAliases, first_fault_with_aliases, first_plain_fault, has_disorder}
 use Rattle.answer_zone_records.specs.Faults.{first_fault}
 use Rattle.answer_zone_records.specs.declared.fault.ZoneFault.{ZoneFault}

@@ -4,9 +4,9 @@ use Rattle.definitions.specs.Name.{Name, at_or_above}
 use Rattle.definitions.specs.ZoneChain.{Mode}
 use Rattle.messages.specs.HandedRr.{HandedRr}
 use Rattle.messages.proofs.Lists.{all_fail, all_pass, all_sorted}
-use Rattle.answer_shared.specs.Accepting.{delegates_star, is_added_by_signing, record_cmp, sorted_records}
-use Rattle.answer_shared.specs.Hashing.{Hasher}
-use Rattle.answer_shared.proofs.ZoneRising.{record_cmp_total, sort_rises}
+use Rattle.answer_terms.specs.Accepting.{delegates_star, is_added_by_signing, record_cmp, sorted_records}
+use Rattle.answer_terms.specs.Hashing.{Hasher}
+use Rattle.answer_terms.proofs.ZoneRising.{record_cmp_total, sort_rises}
 use Rattle.answer_zone_records.specs.AliasFaults.{IsChained, IsPlainList, has_disorder}
 use Rattle.answer_zone_records.specs.ZoneInOrder.{AreZoneRecords}
 

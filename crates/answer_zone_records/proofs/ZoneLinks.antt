@@ -12,12 +12,12 @@ use Rattle.definitions.specs.ZoneChain.{Nsec, nsec_names, nsec_next, nsec_types}
 use Rattle.definitions.proofs.Members.{In}
 use Rattle.definitions.proofs.ZoneNames.{live_owner, owner_lowered}
 use Rattle.messages.specs.HandedRr.{HandedRr}
-use Rattle.answer_shared.specs.Accepting.{zone_with}
-use Rattle.answer_shared.specs.GroupView.{Adds, GroupView, Presents}
-use Rattle.answer_shared.specs.Links.{group_of, link_at, link_speaks, links_of, said_of}
-use Rattle.answer_shared.specs.Served.{Group, canonical_group, chain_record, chain_ttl, proofs_of, served_of, spelled_among, spelled_as}
-use Rattle.answer_shared.proofs.ZoneData.{low-spelled_among}
-use Rattle.answer_shared.proofs.ZoneNaming.{next_of}
+use Rattle.answer_terms.specs.Accepting.{zone_with}
+use Rattle.answer_terms.specs.GroupView.{Adds, GroupView, Presents}
+use Rattle.answer_terms.specs.Links.{group_of, link_at, link_speaks, links_of, said_of}
+use Rattle.answer_terms.specs.Served.{ServedRrset, canonical_group, chain_record, chain_ttl, proofs_of, served_of, spelled_among, spelled_as}
+use Rattle.answer_terms.proofs.ZoneData.{low-spelled_among}
+use Rattle.answer_terms.proofs.ZoneNaming.{next_of}
 use Rattle.messages.proofs.ZoneNames.{labels_eq-same, low-low, same_labels, low_from_Equal, name_cmp-low, name_cmp-same, same-low}
 use Rattle.messages.proofs.Lists.{zip_append}
 
@@ -49,15 +49,15 @@ speaks_less apex owner next q e s = sym (speaks_parts apex owner next q Less (λ
 pub adds_none : (old : List GroupView) → Adds old old []
 adds_none old = ([], tt, sym (append-nil old))
 
-pub adds_then : (a b c : List GroupView) (gs hs : List Group) → Adds a b gs → Adds b c hs → Adds a c (gs ++ hs)
+pub adds_then : (a b c : List GroupView) (gs hs : List ServedRrset) → Adds a b gs → Adds b c hs → Adds a c (gs ++ hs)
 adds_then a b c gs hs h k =
     (h.0 ++ k.0, zip_append Presents h.0 gs k.0 hs h.1 k.1, k.2 ∙ ap (λ x. x ++ k.0) h.2 ∙ append_assoc a h.0 k.0)
 
-pub adds_one : (old new : List GroupView) (g : GroupView) (is : Group) → Presents g is → new ≡ old ++ g ∷ [] → Adds old new (is ∷ [])
+pub adds_one : (old new : List GroupView) (g : GroupView) (is : ServedRrset) → Presents g is → new ≡ old ++ g ∷ [] → Adds old new (is ∷ [])
 adds_one old new g is h e = (g ∷ [], (h, tt), e)
 
 -- behind what was there
-pub added : (old new : List GroupView) (gs hs : List Group) → AllZip Presents old gs → Adds old new hs → AllZip Presents new (gs ++ hs)
+pub added : (old new : List GroupView) (gs hs : List ServedRrset) → AllZip Presents old gs → Adds old new hs → AllZip Presents new (gs ++ hs)
 added old new gs hs h k = subst (λ vs. AllZip Presents vs (gs ++ hs)) (sym k.2) (zip_append Presents old gs k.0 hs h k.1)
 
 -- ---- the chain of the zone

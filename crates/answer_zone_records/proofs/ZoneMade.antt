@@ -16,10 +16,10 @@ use Rattle.denial_chain_owners.specs.declared.error.SigningError.{SigningError}
 use Rattle.denial_chain_owners.specs.declared.error.SigningError.TheVariants.{NoSingleSoa, MultipleTtlValues, HashFailed, HashTooLong, HashCollision, Memory}
 use Rattle.messages.specs.HandedRr.{HandedRr, handed_of, is_meta}
 use Rattle.messages.proofs.Lists.{all_fail, all_more, all_sorted}
-use Rattle.answer_shared.specs.Accepted.{IsAccepted}
-use Rattle.answer_shared.specs.Accepting.{has_unlike_ttls, is_of_other_class, record_cmp, soas, sorted_records, zone_with}
-use Rattle.answer_shared.specs.Chainable.{HasChain}
-use Rattle.answer_shared.specs.Hashing.{Hasher}
+use Rattle.answer_terms.specs.Accepted.{IsAccepted}
+use Rattle.answer_terms.specs.Accepting.{has_unlike_ttls, is_of_other_class, record_cmp, soas, sorted_records, zone_with}
+use Rattle.answer_terms.specs.Chainable.{HasChain}
+use Rattle.answer_terms.specs.Hashing.{Hasher}
 use Rattle.answer_zone_records.specs.AliasFaults.{IsAcceptedWithAliases, IsChained, RefusesPlainList, RefusesZoneWithAliases, first_plain_fault, has_disorder}
 use Rattle.answer_zone_records.specs.Faults.{IsModeFault, RefusesZone, first_fault, zone_fault}
 use Rattle.answer_zone_records.specs.OwnedRecords.{IsInternet}

@@ -12,7 +12,7 @@ use Rattle.plain.specs.declared.record.Record.{Record}
 use Rattle.plain.specs.declared.zone_data.ZoneRecordData.{ZoneRecordData}
 use Rattle.messages.specs.Handed.{IsHanded}
 use Rattle.messages.specs.HandedRr.{HandedRr, handed_of}
-use Rattle.answer_shared.specs.Accepting.{record_cmp, sorted_records}
+use Rattle.answer_terms.specs.Accepting.{record_cmp, sorted_records}
 use Rattle.answer_zone_records.specs.OwnedRecords.{IsInternet}
 use Rattle.messages.proofs.Lists.{all_more, all_pass, all_put, all_sorted, list_any-map}
 

@@ -17,9 +17,9 @@ use Rattle.denial_rrsets.specs.Groups.{is_at}
 use Rattle.denial_chain_owners.specs.Soa.{minimum_of, soa_ttls, ttls_of, ttls_of_one}
 use Rattle.denial_chain_owners.specs.Ttls as words
 use Rattle.messages.specs.HandedRr.{HandedRr, among, handed_of, is_meta, is_unknown}
-use Rattle.answer_shared.specs.Accepting.{has_unlike_ttls, soas, unlike_ttls, zone_with}
-use Rattle.answer_shared.proofs.ZoneNaming.{all_filter}
-use Rattle.answer_shared.proofs.ZoneData.{filter-map}
+use Rattle.answer_terms.specs.Accepting.{has_unlike_ttls, soas, unlike_ttls, zone_with}
+use Rattle.answer_terms.proofs.ZoneNaming.{all_filter}
+use Rattle.answer_terms.proofs.ZoneData.{filter-map}
 use Rattle.answer_zone_records.proofs.ZoneWords.{zone_is}
 
 -- ---- tests of lists

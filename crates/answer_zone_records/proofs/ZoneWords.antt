@@ -12,10 +12,10 @@ use Rattle.denial_chain_owners.specs.Zones as words
 use Rattle.denial_nsec_chain.specs.Chain.{nsec_chain, nsec_record}
 use Rattle.messages.specs.HandedRr.{handed_of}
 use Rattle.messages.proofs.Lists.{map-map}
-use Rattle.answer_shared.specs.Accepting.{rr_of, zone_with}
-use Rattle.answer_shared.specs.Links.{ChainLink, link_at, links_of}
+use Rattle.answer_terms.specs.Accepting.{rr_of, zone_with}
+use Rattle.answer_terms.specs.Links.{ChainLink, link_at, links_of}
 use Rattle.answer_zone_records.specs.MadeLinks.{link_of}
-use Rattle.answer_shared.specs.Served.{spelled_among, spelled_as}
+use Rattle.answer_terms.specs.Served.{spelled_among, spelled_as}
 
 pub map_agree : {A B : Type 0} (f g : A → B) → ((a : A) → f a ≡ g a) → (xs : List A) → map f xs ≡ map g xs
 map_agree f g h [] = refl

@@ -10,9 +10,9 @@ use Rattle.definitions.specs.ZoneChain.{Mode, optout_of}
 use Rattle.messages.specs.HandedRr.{HandedRr, is_meta}
 use Rattle.messages.specs.NameOctets.{name_of_octets}
 use Rattle.messages.specs.Star.{begins_with_star}
-use Rattle.answer_shared.specs.Accepting.{delegates_star, has_unlike_ttls, is_added_by_signing, is_alias, is_of_other_class, is_outside, over_limit, soas, sorted_records, zone_of}
-use Rattle.answer_shared.specs.Chainable.{HasChain}
-use Rattle.answer_shared.specs.Hashing.{Hasher}
+use Rattle.answer_terms.specs.Accepting.{delegates_star, has_unlike_ttls, is_added_by_signing, is_alias, is_of_other_class, is_outside, over_limit, soas, sorted_records, zone_of}
+use Rattle.answer_terms.specs.Chainable.{HasChain}
+use Rattle.answer_terms.specs.Hashing.{Hasher}
 use Rattle.answer_zone_records.specs.Faults.{IsChainFault}
 use Rattle.answer_zone_records.specs.declared.fault.ZoneFault.{ZoneFault}
 use Rattle.answer_zone_records.specs.declared.fault.ZoneFault.TheVariants as fault

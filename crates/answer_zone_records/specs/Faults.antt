@@ -5,9 +5,9 @@ use Rattle.definitions.specs.Name.{Name}
 use Rattle.definitions.specs.Zone.{Zone}
 use Rattle.definitions.specs.ZoneChain.{Mode, Nsec, Nsec3, optout_of}
 use Rattle.messages.specs.HandedRr.{HandedRr, is_meta}
-use Rattle.answer_shared.specs.Accepting.{delegates_star, has_unlike_ttls, is_added_by_signing, is_alias, is_of_other_class, is_outside, over_limit, soas, sorted_records, zone_of}
-use Rattle.answer_shared.specs.Chainable.{FailsHashing, HashesCollide, HashesTooLong}
-use Rattle.answer_shared.specs.Hashing.{Hasher}
+use Rattle.answer_terms.specs.Accepting.{delegates_star, has_unlike_ttls, is_added_by_signing, is_alias, is_of_other_class, is_outside, over_limit, soas, sorted_records, zone_of}
+use Rattle.answer_terms.specs.Chainable.{FailsHashing, HashesCollide, HashesTooLong}
+use Rattle.answer_terms.specs.Hashing.{Hasher}
 use Rattle.answer_zone_records.specs.declared.fault.ZoneFault.{ZoneFault}
 use Rattle.answer_zone_records.specs.declared.fault.ZoneFault.TheVariants as fault
 use Rattle.denial_chain_owners.specs.declared.error.SigningError.{SigningError}

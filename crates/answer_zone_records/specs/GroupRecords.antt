@@ -5,10 +5,10 @@ use Rattle.definitions.specs.Name.{Name, low}
 use Rattle.definitions.specs.Zone.{data_at}
 use Rattle.messages.specs.Written.{Written}
 use Rattle.messages.specs.HandedRr.{HandedRr}
-use Rattle.answer_shared.specs.Accepting.{zone_with}
-use Rattle.answer_shared.specs.GroupView.{all_spelled_by}
-use Rattle.answer_shared.specs.Served.{Group, ttl_among, written_among, written_of_handed, written_rr}
-use Rattle.answer_shared.specs.ZoneView.{is_of}
+use Rattle.answer_terms.specs.Accepting.{zone_with}
+use Rattle.answer_terms.specs.GroupView.{all_spelled_by}
+use Rattle.answer_terms.specs.Served.{ServedRrset, ttl_among, written_among, written_of_handed, written_rr}
+use Rattle.answer_terms.specs.ZoneView.{is_of}
 use Rattle.answer_zone_records.specs.declared.group.GroupRecord.{GroupRecord}
 
 -- a record, under the owner of the RRset unless it has its own
@@ -17,7 +17,7 @@ record_under owner t r = written_rr (unwrap_or r.owner owner) t r.ttl r.octets.i
 
 -- The RRset of an owner and a type of a zone, written under another name, or as its records spell their owner; then that name
 -- is the first record's.
-abbrev pub rrset_from : Bool → Name → List HandedRr → Name → Name → ℕ → Group
+abbrev pub rrset_from : Bool → Name → List HandedRr → Name → Name → ℕ → ServedRrset
 rrset_from own apex rs source owner t = record {
   owner = owner;
   source = low source;

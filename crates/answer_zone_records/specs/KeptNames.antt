@@ -4,7 +4,7 @@ use Rattle.std.specs.List.{list_any}
 use Rattle.definitions.specs.Name.{Name, at_or_above}
 use Rattle.definitions.specs.Zone.{kept_owners}
 use Rattle.messages.specs.HandedRr.{HandedRr}
-use Rattle.answer_shared.specs.Accepting.{zone_with}
+use Rattle.answer_terms.specs.Accepting.{zone_with}
 use Rattle.answer_zone_records.specs.Near.{AreRising}
 
 -- in canonical order, and a name is at or above one of them where it is at or above a kept owner

@@ -13,11 +13,11 @@ use Rattle.denial_chain_owners.specs.Ttls.{has_unequal_ttls}
 use Rattle.denial_chain_owners.specs.declared.error.SigningError.{SigningError}
 use Rattle.denial_chain_owners.specs.declared.error.SigningError.TheVariants as chain
 use Rattle.messages.specs.HandedRr.{HandedRr, handed_of}
-use Rattle.answer_shared.specs.Accepting.{zone_with}
-use Rattle.answer_shared.specs.Chainable.{HasChain}
-use Rattle.answer_shared.specs.HashedLinks.{HashedLink, hashed_links_of}
-use Rattle.answer_shared.specs.Hashing.{Hasher, hash_in}
-use Rattle.answer_shared.specs.Links.{ChainLink, links_of}
+use Rattle.answer_terms.specs.Accepting.{zone_with}
+use Rattle.answer_terms.specs.Chainable.{HasChain}
+use Rattle.answer_terms.specs.HashedLinks.{HashedLink, hashed_links_of}
+use Rattle.answer_terms.specs.Hashing.{Hasher, hash_in}
+use Rattle.answer_terms.specs.Links.{ChainLink, links_of}
 use Rattle.answer_zone_records.specs.Faults.{IsModeFault}
 use Rattle.answer_zone_records.specs.declared.chains.Chain.{Chain}
 use Rattle.answer_zone_records.specs.declared.chains.Chain.TheVariants.{Names, Hashes}

@@ -6,8 +6,8 @@ use Rattle.std.specs.declared.cmp.Ordering.{Ordering}
 use Rattle.std.specs.declared.cmp.Ordering.TheVariants.{Less}
 use Rattle.definitions.specs.Name.{Name, low, name_cmp, same}
 use Rattle.definitions.specs.ZoneChain.{hash_cmp}
-use Rattle.answer_shared.specs.HashedLinks.{HashedLink}
-use Rattle.answer_shared.specs.Links.{ChainLink, link_speaks}
+use Rattle.answer_terms.specs.HashedLinks.{HashedLink}
+use Rattle.answer_terms.specs.Links.{ChainLink, link_speaks}
 
 -- keys of items strictly ascend
 abbrev pub Climbs : {A K : Type 0} → (K → K → Ordering) → (A → K) → List A → Type 0

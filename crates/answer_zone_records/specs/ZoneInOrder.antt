@@ -4,7 +4,7 @@ use Rattle.std.specs.List.{AllByRecursion}
 use Rattle.std.specs.List.Sorted.{IsStrictlySortedBy}
 use Rattle.definitions.specs.Name.{Name, at_or_above}
 use Rattle.messages.specs.HandedRr.{HandedRr}
-use Rattle.answer_shared.specs.Accepting.{delegates_star, is_added_by_signing, record_cmp, soas}
+use Rattle.answer_terms.specs.Accepting.{delegates_star, is_added_by_signing, record_cmp, soas}
 use Rattle.answer_zone_records.specs.AliasFaults.{has_disorder}
 
 -- in canonical order; inside, of types that a zone holds before it is signed, no delegation at a wildcard name; aliases in

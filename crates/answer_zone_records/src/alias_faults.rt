@@ -5,8 +5,8 @@ ghost use Rattle.std.specs.Option.{is_none};
 ghost use Rattle.definitions.specs.Name.{strictly_above};
 ghost use Rattle.messages.specs.HandedRr.{handed_of};
 ghost use Rattle.messages.specs.NameOctets.{name_of_octets};
-ghost use Rattle.answer_shared.specs.Accepting.{is_alias};
-ghost use Rattle.answer_shared.specs.ModeView.{mode_of};
+ghost use Rattle.answer_terms.specs.Accepting.{is_alias};
+ghost use Rattle.answer_terms.specs.ModeView.{mode_of};
 ghost use Rattle.answer_zone_records.specs.AliasFaults.{
   crowds,
   first_plain_fault,
@@ -29,7 +29,7 @@ use crate::faults::{
 };
 use crate::near::has_below;
 use crate::record_faults::is_alias;
-use answer_shared::mode::Mode;
+use answer_terms::mode::Mode;
 use denial_rrsets::groups::OwnerRrs;
 use denial_sorted::sorted::SortedRecords;
 use messages::names::{Name, ToName, ZoneName, is_above};

@@ -12,8 +12,8 @@ ghost use Rattle.denial_chain_owners.specs.Soa.{soa_ttls};
 ghost use Rattle.denial_chain_owners.specs.Ttls.{has_unequal_ttls};
 ghost use Rattle.plain.specs.ZoneData.{zone_canonical, zone_type};
 ghost use Rattle.messages.specs.HandedRr.{handed_of};
-ghost use Rattle.answer_shared.specs.GroupView.{Adds};
-ghost use Rattle.answer_shared.specs.Links.{link_speaks, links_of, said_of};
+ghost use Rattle.answer_terms.specs.GroupView.{Adds};
+ghost use Rattle.answer_terms.specs.Links.{link_speaks, links_of, said_of};
 ghost use Rattle.answer_zone_records.specs.ChainPlaces.{AreAt};
 ghost use Rattle.answer_zone_records.specs.Round.{IsClimbing, IsRound, is_up_to, link_speaks_for};
 ghost use Rattle.answer_zone_records.specs.MadeLinks.{link_of};
@@ -47,7 +47,7 @@ pub struct ChainLink {
 }
 
 impl Model for ChainLink {
-    ghost use Rattle.answer_shared.specs.Links.{ChainLink};
+    ghost use Rattle.answer_terms.specs.Links.{ChainLink};
 
     ghost Value = { ChainLink };
 
@@ -104,7 +104,7 @@ impl ChainLink {
 }
 
 impl KeptLink for ChainLink {
-    ghost use Rattle.answer_shared.specs.Links.{group_of};
+    ghost use Rattle.answer_terms.specs.Links.{group_of};
 
     ghost group_of = { λ ttl l. group_of ttl l };
 

@@ -3,11 +3,11 @@ ghost use Rattle.std.specs.Prelude.{map, IfErr, IfOk};
 ghost use Rattle.denial_chain_owners.specs.Conditions.{IsOneClass};
 ghost use Rattle.messages.specs.HandedRr.{handed_of};
 ghost use Rattle.answer_zone_records.specs.MadeLinks.{IsChain, IsMade, IsUnmade};
-ghost use Rattle.answer_shared.specs.ModeView.{mode_of};
+ghost use Rattle.answer_terms.specs.ModeView.{mode_of};
 
 use crate::chain::{ChainLink, chain_of};
 use crate::hash_chain::{HashParameters, HashedLink, hash_chain_of};
-use answer_shared::mode::Mode;
+use answer_terms::mode::Mode;
 use denial_chain_owners::error::SigningError;
 use denial_nsec3_hash::hasher::Nsec3Hasher;
 use denial_sorted::sorted::SortedRecords;

@@ -2,7 +2,7 @@
 ghost use Rattle.std.specs.Prelude.{◌≡◌, map};
 ghost use Rattle.std.specs.List.{list_any};
 ghost use Rattle.messages.specs.HandedRr.{handed_of, is_meta};
-ghost use Rattle.answer_shared.specs.Accepting.{
+ghost use Rattle.answer_terms.specs.Accepting.{
   delegates_star,
   is_added_by_signing,
   is_alias,
@@ -11,13 +11,13 @@ ghost use Rattle.answer_shared.specs.Accepting.{
   over_limit,
 };
 ghost use Rattle.answer_zone_records.specs.Faults.{first_fault};
-ghost use Rattle.answer_shared.specs.ModeView.{mode_of};
+ghost use Rattle.answer_terms.specs.ModeView.{mode_of};
 
 use crate::fault::ZoneFault;
 use crate::record_faults::{
     delegates_star, is_added_by_signing, is_alias, is_meta, is_of_other_class, is_outside,
 };
-use answer_shared::mode::Mode;
+use answer_terms::mode::Mode;
 use messages::names::Name;
 use messages::record::ZoneRecord;
 

@@ -43,7 +43,7 @@ pub struct RrGroup {
 
 impl Model for RrGroup {
     ghost use Rattle.std.specs.Prelude.{map};
-    ghost use Rattle.answer_shared.specs.GroupView.{GroupView};
+    ghost use Rattle.answer_terms.specs.GroupView.{GroupView};
     ghost use Rattle.answer_zone_records.specs.GroupRecords.{record_under};
 
     ghost Value = { GroupView };
@@ -61,7 +61,7 @@ impl Model for RrGroup {
 
 impl RrGroup {
     ghost use Rattle.std.specs.Prelude.{◌≡◌, false, map, IfOk};
-    ghost use Rattle.answer_shared.specs.GroupView.{canonical_view};
+    ghost use Rattle.answer_terms.specs.GroupView.{canonical_view};
     ghost use Rattle.answer_zone_records.specs.GroupRecords.{record_under};
 
     /// An RRset of its parts. Owner and TTL are those of its signatures, and the owner is that of

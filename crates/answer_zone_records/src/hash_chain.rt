@@ -7,14 +7,14 @@ ghost use Rattle.std.specs.Option.{option_to_list};
 ghost use Rattle.denial_nsec_data.specs.Hashed.{nsec3param_with};
 ghost use Rattle.denial_chain_owners.specs.Conditions.{IsOneClass};
 ghost use Rattle.messages.specs.HandedRr.{handed_of};
-ghost use Rattle.answer_shared.specs.GroupView.{Adds};
-ghost use Rattle.answer_shared.specs.HashedLinks.{
+ghost use Rattle.answer_terms.specs.GroupView.{Adds};
+ghost use Rattle.answer_terms.specs.HashedLinks.{
   hashed_link_at_or_around,
   hashed_link_speaks,
   hashed_links_of,
   hashed_said_of,
 };
-ghost use Rattle.answer_shared.specs.Hashing.{hash_in};
+ghost use Rattle.answer_terms.specs.Hashing.{hash_in};
 ghost use Rattle.answer_zone_records.specs.ChainPlaces.{AreAt};
 ghost use Rattle.answer_zone_records.specs.HashParameters.{mode_by};
 ghost use Rattle.answer_zone_records.specs.MadeLinks.{
@@ -68,7 +68,7 @@ pub struct HashedLink {
 }
 
 impl Model for HashedLink {
-    ghost use Rattle.answer_shared.specs.HashedLinks.{HashedLink};
+    ghost use Rattle.answer_terms.specs.HashedLinks.{HashedLink};
 
     ghost Value = { HashedLink };
 
@@ -173,7 +173,7 @@ impl HashedLink {
 }
 
 impl KeptLink for HashedLink {
-    ghost use Rattle.answer_shared.specs.HashedLinks.{hashed_group_of};
+    ghost use Rattle.answer_terms.specs.HashedLinks.{hashed_group_of};
 
     ghost group_of = { λ ttl l. hashed_group_of ttl l };
 

@@ -1,5 +1,5 @@
-//! The records of a zone: which are accepted, the chain that is made of them and what it says of
-//! names, what a name owns among them, and RRsets on their way into an answer.
+//! The records of a zone: which lists are accepted, their denial chain, searches in both, and
+//! RRsets for an answer.
 #![tactic(auto)]
 
 pub mod alias_faults;

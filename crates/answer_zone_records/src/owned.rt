@@ -4,8 +4,8 @@ ghost use Rattle.std.specs.Option.{option_map};
 ghost use Rattle.std.specs.List.{AllByRecursion, list_any, slice_get};
 ghost use Rattle.definitions.specs.Name.{same};
 ghost use Rattle.messages.specs.HandedRr.{handed_of};
-ghost use Rattle.answer_shared.specs.GroupView.{spelled_by};
-ghost use Rattle.answer_shared.specs.Served.{chain_ttl, minimum_of};
+ghost use Rattle.answer_terms.specs.GroupView.{spelled_by};
+ghost use Rattle.answer_terms.specs.Served.{chain_ttl, minimum_of};
 ghost use Rattle.answer_zone_records.specs.GroupRecords.{HoldsRrset, record_under};
 ghost use Rattle.answer_zone_records.specs.OwnedRecords.{IsInternet, is_of_type, owned_by, ttl_in};
 

@@ -12,7 +12,7 @@ use Rattle.definitions.specs.Signing.{Fields, signed_octets}
 use Rattle.definitions.specs.Zone.{NoType, Records, Unsigned}
 use Rattle.definitions.specs.ZoneChain.{hashed_names, nsec3_names}
 use Rattle.messages.specs.Message.{owner_at}
-use Rattle.answer_shared.specs.Chainable.{IsChainable}
+use Rattle.answer_terms.specs.Chainable.{IsChainable}
 use Rattle.answer_judge.specs.Honest.{NoStranger, NothingForged, SignedOfKeys, sought_of_answer, sought_of_keys}
 use Rattle.answer_judge.specs.Versions.{OfChain, zone_in}
 use Rattle.answer_judge.proofs.GivenLists.{has_contained}

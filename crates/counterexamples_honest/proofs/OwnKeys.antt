@@ -17,8 +17,8 @@ use Rattle.messages.specs.HandedRr.{HandedRr}
 use Rattle.messages.specs.declared.error.MessageError.{MessageError}
 use Rattle.messages.specs.Message.{Message, Spelled, message, owner_at}
 use Rattle.messages.proofs.Lists.{all_at, all_fail}
-use Rattle.answer_shared.specs.Accepting.{IsFaultless, has_unlike_ttls, soas, sorted_records, zone_of}
-use Rattle.answer_shared.proofs.Servable.{servable}
+use Rattle.answer_terms.specs.Accepting.{IsFaultless, has_unlike_ttls, soas, sorted_records, zone_of}
+use Rattle.answer_terms.proofs.Servable.{servable}
 use Rattle.answer_judge.specs.Honest.{NoStranger, NothingForged, Signing, SignedOfKeys, WasSigned, sought_of_keys}
 use Rattle.answer_judge.specs.Versions.{Version, zone_in}
 use Rattle.answer_judge.specs.Judging.{JudgeInput}

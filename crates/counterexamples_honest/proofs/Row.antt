@@ -10,8 +10,8 @@ use Rattle.definitions.specs.Signing.{label_count, signed_octets}
 use Rattle.definitions.specs.Zone.{Verdict}
 use Rattle.denial_laws.specs.Truth.{NoSharedHash}
 use Rattle.messages.specs.Handed.{IsHanded}
-use Rattle.answer_shared.specs.Chainable.{HasChain}
-use Rattle.answer_shared.specs.Hashing.{hash_in}
+use Rattle.answer_terms.specs.Chainable.{HasChain}
+use Rattle.answer_terms.specs.Hashing.{hash_in}
 use Rattle.answer_judge.specs.Honest.{FewIterations, IsSaidByOne, NoStranger, NothingForged, Settled, Signing, WasSigned, SignedOfVersion, is_alias_in, sought_of_answer, sought_of_keys, verdict_of}
 use Rattle.answer_judge.specs.Versions.{IsRrsetOf, Version, zone_in}
 use Rattle.answer_judge.specs.Judging.{JudgeInput}

@@ -9,10 +9,10 @@ use Rattle.denial_laws.specs.Truth.{NoSharedHash, delegates_star, is_added_type}
 use Rattle.messages.specs.Handed.{IsHanded}
 use Rattle.messages.specs.Message.{AreOctets}
 use Rattle.messages.specs.WrittenLaws.{IsQuestion}
-use Rattle.answer_shared.specs.Chainable.{HasChain}
-use Rattle.answer_shared.specs.Hashing.{hash_in}
+use Rattle.answer_terms.specs.Chainable.{HasChain}
+use Rattle.answer_terms.specs.Hashing.{hash_in}
 use Rattle.answer_scheme.specs.Answers.{Answers}
-use Rattle.answer_judge.specs.Honest.{AnswersHonest, AreHonest, FewIterations, IsSaidByOne, NoStranger, NothingForged, Settled, Signing, WasSigned, sought_of_answer, sought_of_keys}
+use Rattle.answer_judge.specs.Honest.{AnswersHonest, IsHonestInput, FewIterations, IsSaidByOne, NoStranger, NothingForged, Settled, Signing, WasSigned, sought_of_answer, sought_of_keys}
 use Rattle.answer_judge.specs.Versions.{Version, zone_in}
 use Rattle.answer_judge.specs.Judged.{judged}
 use Rattle.answer_judge.specs.Judging.{Answer, JudgeInput, Refuses, Says}
@@ -139,9 +139,9 @@ pub record AreHonestIn (p : Premises) (a : Answers) (h : JudgeInput) (versions :
   pub keys_known : Where p.keys_known (NoStranger a pointer_limit h published)
   pub answer_unforged : Where p.answer_unforged (NothingForged a pointer_limit h published (WasSigned a h.apex signed_keys signings) (sought_of_answer pointer_limit h) h.answer_bytes)
 
--- with all premises what is handed in is honest, as `AreHonest` says it
+-- with all premises what is handed in is honest, as `IsHonestInput` says it
 abbrev pub AllAreHonest : Type 0
-AllAreHonest = (a : Answers) (h : JudgeInput) (versions : List Version) → AreHonestIn all a h versions → AreHonest a pointer_limit h versions
+AllAreHonest = (a : Answers) (h : JudgeInput) (versions : List Version) → AreHonestIn all a h versions → IsHonestInput a pointer_limit h versions
 
 -- Of some zone and what is handed in of it, as far as some premises ask, a judge says what no version of the zone says of a name
 -- that is no alias.
@@ -160,7 +160,7 @@ NoneIsFalse = SaysFalsely all → ⊥
 
 -- what is handed in of a zone that had these versions is honest, and a judge answers so
 pub record IsHonestCase (a : Answers) (h : JudgeInput) (versions : List Version) (answer : Answer) : Type 0 where
-  pub honest : AreHonest a pointer_limit h versions
+  pub honest : IsHonestInput a pointer_limit h versions
   pub answers : judged a pointer_limit h ≡ answer
 
 -- the same, of which a judge that looks away would say what no version says: it would break its promise on honest messages

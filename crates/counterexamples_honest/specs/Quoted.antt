@@ -5,8 +5,8 @@ use Rattle.definitions.specs.Dnskey.{Dnskey}
 use Rattle.definitions.specs.Name.{Name}
 use Rattle.definitions.specs.Signing.{Fields, in_time}
 use Rattle.messages.specs.Message.{AreOctets, Asked, Message, Spelled, message, rrsig_at}
-use Rattle.answer_shared.specs.Served.{Group}
-use Rattle.answer_shared.specs.Told.{Tells}
+use Rattle.answer_terms.specs.Served.{ServedRrset}
+use Rattle.answer_terms.specs.Told.{Tells}
 use Rattle.answer_scheme.specs.Answers.{Answers}
 use Rattle.answer_judge.specs.Honest.{IsHonest, Signing, WasSigned}
 use Rattle.answer_judge.specs.Judging.{JudgeInput}
@@ -19,7 +19,7 @@ pub record IsQuoted (a : Answers) (k : ℕ) (apex : Name) (Signed : List ℕ →
   pub at : ℕ
   pub life : ℕ
   pub signers : List Dnskey
-  pub groups : List Group
+  pub groups : List ServedRrset
   pub were : AreSigned Signed apex at life groups
   pub others : AllByRecursion (λ g. g.rtype ≡ 46 → ⊥) groups
   pub asked : Asked

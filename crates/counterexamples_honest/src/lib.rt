@@ -1,5 +1,5 @@
-//! Messages in which nothing is forged, and what is lost without each premise: for each there are
-//! messages of which a judge says what the zone does not say, while all other premises hold.
+//! Messages in which nothing is forged, and for each premise messages that lack only this one. For
+//! these a judge returns what the zone does not say.
 #![tactic(auto)]
 
 pub mod laws;

@@ -1,4 +1,4 @@
-//! DNSSEC record data, sorted records and the chains of denial under one name (RFC 4034, RFC 5155).
+//! DNSSEC record data, sorted records and denial chains under one name (RFC 4034, RFC 5155).
 #![tactic(auto)]
 
 pub mod config;

@@ -9,7 +9,7 @@ use Rattle.definitions.proofs.Members.{any_in}
 use Rattle.definitions.proofs.ZoneNames.{low-low, above_itself, above_longer}
 use Rattle.denial_laws.specs.Facts.{HashLink}
 use Rattle.denial_laws.specs.NsecRules.{first_some, is_cut, star_lacks, at_name}
-use Rattle.denial_laws.specs.Nsec3Rules.{is_at, covers_hash, is_matched, at_hash, encloses, cut_above, star_at, beyond, enclosed, climbed, hash_denied}
+use Rattle.denial_laws.specs.Nsec3Rules.{is_at, covers_hash, is_matched, at_hash, encloses, cut_above, star_at, beyond, enclosed, by_closest_encloser, hash_denied}
 use Rattle.denial_laws.proofs.NameFacts.{same_names, names_same, above_cases, above_trans, strictly_at, at_strictly_above, strictly_shorter, strictly_unlike}
 use Rattle.denial_laws.proofs.AtName.{Answers}
 use Rattle.denial_laws.proofs.Found.{left_is, right_is, first_is}
@@ -25,7 +25,7 @@ module _ (apex : Name) (hash : Name → List ℕ) (t : ℕ) (fs : List HashLink)
       let h : List ℕ = hash (low q) in
       let here : at_hash apex q t h f.link ≡ Some a.0 = ap (λ b. elim b as (λ _. Option Verdict) [ true ↦ at_name apex q t f.link.bits | false ↦ None ]) f.passes ∙ a.1 in
       let first = first_is (at_hash apex q t h) fs f.link a.0 f.inside here in
-      (first.0, ap (λ b. elim b as (λ _. Option Verdict) [ true ↦ first_some (at_hash apex q t h) fs | false ↦ climbed apex hash q t fs ]) (any_in (is_at h) fs f.link f.inside f.passes) ∙ first.1)
+      (first.0, ap (λ b. elim b as (λ _. Option Verdict) [ true ↦ first_some (at_hash apex q t h) fs | false ↦ by_closest_encloser apex hash q t fs ]) (any_in (is_at h) fs f.link f.inside f.passes) ∙ first.1)
 
   -- ---- records of the closest encloser and of names below it
 
@@ -84,7 +84,7 @@ pub record Climbs (apex : Name) (hash : Name → List ℕ) (t : ℕ) (fs : List 
   pub parent : Name
   pub is : low parent ≡ low e
   pub above : at_or_above (label ∷ parent) q ≡ true
-  pub stops : climbed apex hash q t fs ≡ enclosed apex hash (label ∷ parent) parent t fs
+  pub stops : by_closest_encloser apex hash q t fs ≡ enclosed apex hash (label ∷ parent) parent t fs
 
 module _ (z : Zone) (ex : Bool) (hash : Name → List ℕ) (t : ℕ) (fs : List HashLink) where
   -- no record has the hash of a name on the way that is not kept
@@ -92,7 +92,7 @@ module _ (z : Zone) (ex : Bool) (hash : Name → List ℕ) (t : ℕ) (fs : List 
   Unmatched q = (n : Name) → at_or_above (apex_of z) n ≡ true → at_or_above n q ≡ true → kept z ex n ≡ false → is_matched fs (hash (low n)) ≡ false
 
   abbrev step : Bool → Bool → List ℕ → Name → Option Verdict
-  step b c l p = elim b as (λ _. Option Verdict) [ true ↦ None | false ↦ elim c [ true ↦ enclosed z.name hash (l ∷ p) p t fs | false ↦ climbed z.name hash p t fs ] ]
+  step b c l p = elim b as (λ _. Option Verdict) [ true ↦ None | false ↦ elim c [ true ↦ enclosed z.name hash (l ∷ p) p t fs | false ↦ by_closest_encloser z.name hash p t fs ] ]
 
   pub climbs : (q e : Name) → IsKeptParent z ex q e → Unmatched q → is_matched fs (hash (low e)) ≡ true → Climbs z.name hash t fs q e
   climbs [] e k u m = absurd (false≢true k.above)

@@ -13,7 +13,7 @@ use Rattle.definitions.proofs.Members.{any_of}
 use Rattle.definitions.proofs.ZoneNames.{above_itself, low-low, lowered_above}
 use Rattle.denial_laws.specs.Facts.{HashLink}
 use Rattle.denial_laws.specs.NsecRules.{first_some, is_cut, lacks, star_lacks}
-use Rattle.denial_laws.specs.Nsec3Rules.{is_at, covers_hash, is_matched, encloses, cut_above, star_at, beyond, enclosed, climbed}
+use Rattle.denial_laws.specs.Nsec3Rules.{is_at, covers_hash, is_matched, encloses, cut_above, star_at, beyond, enclosed, by_closest_encloser}
 use Rattle.denial_laws.specs.Aliases.{has_alias}
 use Rattle.denial_laws.specs.Truth.{IsServable, IsTrueHashLink, concerned}
 use Rattle.denial_laws.specs.Laws.{IsSaidBy}
@@ -49,7 +49,7 @@ climbed_on apex hash l p t fs v k = record {
     or_true true = refl
     or_true false = refl
 
-climbed_from : (apex : Name) (hash : Name → List ℕ) (q : Name) (t : ℕ) (fs : List HashLink) (v : Verdict) → at_or_above apex q ≡ true → climbed apex hash q t fs ≡ Some v → IsClimbed apex hash q t fs v
+climbed_from : (apex : Name) (hash : Name → List ℕ) (q : Name) (t : ℕ) (fs : List HashLink) (v : Verdict) → at_or_above apex q ≡ true → by_closest_encloser apex hash q t fs ≡ Some v → IsClimbed apex hash q t fs v
 climbed_from apex hash [] t fs v i h = absurd cc
 climbed_from apex hash (l ∷ p) t fs v i h = go (same (l ∷ p) apex) refl (is_matched fs (hash (low p))) h (λ j k. climbed_on apex hash l p t fs v (climbed_from apex hash p t fs v j k))
   where
@@ -60,8 +60,8 @@ climbed_from apex hash (l ∷ p) t fs v i h = go (same (l ∷ p) apex) refl (is_
     ]
 
     go : (b : Bool) → same (l ∷ p) apex ≡ b → (c : Bool)
-        → (elim b as (λ _. Option Verdict) [ true ↦ None | false ↦ elim c [ true ↦ enclosed apex hash (l ∷ p) p t fs | false ↦ climbed apex hash p t fs ] ]) ≡ Some v
-        → (at_or_above apex p ≡ true → climbed apex hash p t fs ≡ Some v → IsClimbed apex hash (l ∷ p) t fs v) → IsClimbed apex hash (l ∷ p) t fs v
+        → (elim b as (λ _. Option Verdict) [ true ↦ None | false ↦ elim c [ true ↦ enclosed apex hash (l ∷ p) p t fs | false ↦ by_closest_encloser apex hash p t fs ] ]) ≡ Some v
+        → (at_or_above apex p ≡ true → by_closest_encloser apex hash p t fs ≡ Some v → IsClimbed apex hash (l ∷ p) t fs v) → IsClimbed apex hash (l ∷ p) t fs v
     go true e c h k = absurd cc
     go false e true h k = record { label = l; parent = p; above = above_itself (l ∷ p); inside = inside e; enclosed = h }
     go false e false h k = k (inside e) h
@@ -202,7 +202,7 @@ module _ (z : Zone) (hash : Name → List ℕ) (ex : Bool) (s : IsServable z) (n
       ]
 
   pub climbed_truly : ((n : Name) → Contains (concerned (apex_of z) (low q)) n → SharesNone hash (nsec3_names z ex) n) → at_or_above z.name q ≡ true → (fs : List HashLink) → AllTrue fs → (v : Verdict)
-      → climbed z.name hash q t fs ≡ Some v → IsSaidBy z ex q t v
+      → by_closest_encloser z.name hash q t fs ≡ Some v → IsSaidBy z ex q t v
   climbed_truly shares inside fs all v h =
       let k = climbed_from z.name hash q t fs v inside h in
       let p : Name = k.parent in

@@ -10,7 +10,7 @@ use Rattle.definitions.proofs.Members.{In, any_in}
 use Rattle.definitions.proofs.ZoneNames.{above_itself, above_lowered}
 use Rattle.denial_laws.specs.Facts.{Rrset, HashLink}
 use Rattle.denial_laws.specs.NsecRules.{first_some}
-use Rattle.denial_laws.specs.Nsec3Rules.{is_at, covers_hash, at_hash, star_at, enclosed, climbed, hash_denied, last_labels, hash_expanded_by, hash_expanded}
+use Rattle.denial_laws.specs.Nsec3Rules.{is_at, covers_hash, at_hash, star_at, enclosed, by_closest_encloser, hash_denied, last_labels, hash_expanded_by, hash_expanded}
 use Rattle.denial_laws.specs.OwnFacts.{next_closer}
 use Rattle.denial_laws.specs.Truth.{IsServable, IsTrueHashLink, NoSharedHash}
 use Rattle.denial_laws.specs.Laws.{is_asked_type}
@@ -67,10 +67,10 @@ module _ (z : Zone) (hash : Name → List ℕ) (ex : Bool) (s : IsServable z) (i
       let f = at_kept e i k.there in
       climbs z ex hash t records q e k (λ n a b g. own_none z hash ex s apart.0 iterations salt qs n (shares n a b) g) (any_in (is_at (hash (low e))) records f.link f.inside f.passes)
 
-  by_climb : kept z ex q ≡ false → (o : Option Verdict) → climbed z.name hash q t records ≡ o → Answers o → Answers (hash_denied z.name hash q t records)
+  by_climb : kept z ex q ≡ false → (o : Option Verdict) → by_closest_encloser z.name hash q t records ≡ o → Answers o → Answers (hash_denied z.name hash q t records)
   by_climb g o e a = (
     a.0,
-    ap (λ b. elim b as (λ _. Option Verdict) [ true ↦ first_some (at_hash z.name q t (hash (low q))) records | false ↦ climbed z.name hash q t records ]) (own_none z hash ex s apart.0 iterations salt qs q (shares q inside (above_itself q)) g)
+    ap (λ b. elim b as (λ _. Option Verdict) [ true ↦ first_some (at_hash z.name q t (hash (low q))) records | false ↦ by_closest_encloser z.name hash q t records ]) (own_none z hash ex s apart.0 iterations salt qs q (shares q inside (above_itself q)) g)
         ∙ e
         ∙ a.1,
   )

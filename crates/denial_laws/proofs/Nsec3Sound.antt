@@ -9,7 +9,7 @@ use Rattle.definitions.specs.Laws.{SharesNone}
 use Rattle.definitions.proofs.ZoneNames.{above_itself, lowered_above}
 use Rattle.denial_laws.specs.Facts.{Rrset, HashLink, Facts, is_expanded}
 use Rattle.denial_laws.specs.NsecRules.{first_some, denied, expanded}
-use Rattle.denial_laws.specs.Nsec3Rules.{is_matched, at_hash, climbed, hash_denied, hash_expanded}
+use Rattle.denial_laws.specs.Nsec3Rules.{is_matched, at_hash, by_closest_encloser, hash_denied, hash_expanded}
 use Rattle.denial_laws.specs.Deciding.{by_chain, by_wildcard, decided_inside, decided}
 use Rattle.denial_laws.specs.Truth.{IsServable, IsTrueRrset, IsTrueHashLink, AreTrue, NoSharedHash}
 use Rattle.denial_laws.specs.Laws.{IsSaidBy}
@@ -27,7 +27,7 @@ module _ (z : Zone) (hash : Name → List ℕ) (iterations : ℕ) (salt : List �
       own : SharesNone hash (nsec3_names z ex) (low q)
       own = apart.1 (low q) (concerns_name (apex_of z) q q (lowered_above z.name q ∙ inside) (above_itself q))
 
-      go : (b : Bool) → (elim b as (λ _. Option Verdict) [ true ↦ first_some (at_hash z.name q t (hash (low q))) fs | false ↦ climbed z.name hash q t fs ]) ≡ Some v → IsSaidBy z ex q t v
+      go : (b : Bool) → (elim b as (λ _. Option Verdict) [ true ↦ first_some (at_hash z.name q t (hash (low q))) fs | false ↦ by_closest_encloser z.name hash q t fs ]) ≡ Some v → IsSaidBy z ex q t v
       go true h = matched_truly z hash ex s apart.0 q t l own fs all v h
       go false h = climbed_truly z hash ex s apart.0 q t l apart.1 inside fs all v h
 

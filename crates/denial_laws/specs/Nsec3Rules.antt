@@ -54,13 +54,13 @@ enclosed apex hash closer e t fs =
     (elim (list_any (encloses h) fs) [ true ↦ first_some (beyond hash e t fs (hash (low closer))) fs | false ↦ None ])
 
 -- the parents of a name, up to the apex, until one is matched
-abbrev pub climbed : Name → (Name → List ℕ) → Name → ℕ → List HashLink → Option Verdict
-climbed apex hash [] t fs = None
-climbed apex hash (l ∷ p) t fs = elim (same (l ∷ p) apex) [
+abbrev pub by_closest_encloser : Name → (Name → List ℕ) → Name → ℕ → List HashLink → Option Verdict
+by_closest_encloser apex hash [] t fs = None
+by_closest_encloser apex hash (l ∷ p) t fs = elim (same (l ∷ p) apex) [
   | true ↦ None
   | false ↦ elim (is_matched fs (hash (low p))) [
     | true ↦ enclosed apex hash (l ∷ p) p t fs
-    | false ↦ climbed apex hash p t fs
+    | false ↦ by_closest_encloser apex hash p t fs
   ]
 ]
 
@@ -68,7 +68,7 @@ climbed apex hash (l ∷ p) t fs = elim (same (l ∷ p) apex) [
 abbrev pub hash_denied : Name → (Name → List ℕ) → Name → ℕ → List HashLink → Option Verdict
 hash_denied apex hash q t fs =
     let h = hash (low q) in
-    elim (is_matched fs h) [ true ↦ first_some (at_hash apex q t h) fs | false ↦ climbed apex hash q t fs ]
+    elim (is_matched fs h) [ true ↦ first_some (at_hash apex q t h) fs | false ↦ by_closest_encloser apex hash q t fs ]
 
 -- the last labels of a name, so many
 abbrev pub last_labels : ℕ → Name → Name

@@ -1,6 +1,6 @@
-//! What verified records of denial prove of a name and a type: facts, the rules on them, when facts
-//! are true of a zone, and laws that join the two. `reference` has a plain program of the rules. No
-//! message, no signature and no key is seen here.
+//! What verified NSEC and NSEC3 records prove about a name and a type: facts, the rules, when facts
+//! are true of a zone, and the laws that join these. `reference` has a plain program of the rules.
+//! No message, signature or key is seen here.
 #![tactic(auto)]
 
 pub mod laws;

@@ -1,4 +1,4 @@
-//! The names of a chain of hashed names, each with its hash (RFC 5155, 7.1).
+//! The names of an NSEC3 chain, each with its hash (RFC 5155, 7.1).
 #![tactic(auto)]
 
 mod buckets;

@@ -10,9 +10,9 @@ use Rattle.std.specs.List.Sorted.{IsStrictlySortedBy}
 use Rattle.definitions.specs.Name.{Name}
 use Rattle.plain.specs.Records.{record_canonical_cmp}
 use Rattle.plain.specs.declared.record.Record.{Record}
-use Rattle.denial_sorted.specs.declared.starts.Kin.TheVariants.{Before, Behind, Neither}
+use Rattle.denial_sorted.specs.declared.starts.Neighbour.TheVariants.{Before, Behind, Neither}
 use Rattle.denial_rrsets.specs.Groups.{of_one_owner}
-use Rattle.denial_sorted.specs.Kin.{IsApartAt, are_kin, leads}
+use Rattle.denial_sorted.specs.Neighbour.{IsApartAt, are_neighbours, leads}
 use Rattle.denial_rrsets.specs.Starts.{follows}
 use Rattle.denial_sorted.proofs.Parted.{still_apart}
 
@@ -25,7 +25,7 @@ module _ {N D : Type 0} (name : N → Name) (rtype : D → ℕ) (by_data : D →
   apart_at rs zero a l s h = refl
   apart_at rs (suc k) a l s h = go (slice_get rs k) refl (slice_get rs (suc k)) refl
     where
-      go : (u : Option (Record N D)) → slice_get rs k ≡ u → (v : Option (Record N D)) → slice_get rs (suc k) ≡ v → are_kin (of_one_owner name) u v ≡ false
+      go : (u : Option (Record N D)) → slice_get rs k ≡ u → (v : Option (Record N D)) → slice_get rs (suc k) ≡ v → are_neighbours (of_one_owner name) u v ≡ false
       go None e v f = refl
       go (Some b) e None f = refl
       go (Some b) e (Some n) f =

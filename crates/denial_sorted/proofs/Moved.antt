@@ -5,8 +5,8 @@ use Rattle.std.proofs.lemmas.Bool.{lt-ltb, le-ltb, both_ways}
 use Rattle.std.specs.Cmp.{IsEquivalence}
 use Rattle.std.specs.List.{AllByRecursion, slice_get}
 use Rattle.std.specs.List.Sorted.{IsPartitionedBy, IsPartitionPoint}
-use Rattle.denial_sorted.specs.declared.starts.Kin.TheVariants.{Before, Behind, Neither}
-use Rattle.denial_sorted.specs.Kin.{IsApartAt, are_kin, before_at, joins, leads, moved}
+use Rattle.denial_sorted.specs.declared.starts.Neighbour.TheVariants.{Before, Behind, Neither}
+use Rattle.denial_sorted.specs.Neighbour.{IsApartAt, are_neighbours, before_at, joins, leads, moved}
 use Rattle.denial_rrsets.specs.Starts.{follows, starts_behind, starts_in}
 use Rattle.denial_rrsets.proofs.Grouped.{all_more}
 
@@ -133,7 +133,7 @@ module _ {A : Type 0} (alike : A → A → Bool) (o : IsEquivalence alike) where
         let P : List ℕ → Type 0 = λ ss. 0 < length ss in subst P (sym same) (omega arith),
       )
 
-  in_neither : (before : Option A) (p : ℕ) (a : A) (bs : List A) → follows alike before a ≡ false → leads alike a (head_of bs) ≡ false → are_kin alike before (head_of bs) ≡ false → starts_behind alike before p (a ∷ bs) ≡ p ∷ map (λ s. s + 1) (starts_behind alike before p bs)
+  in_neither : (before : Option A) (p : ℕ) (a : A) (bs : List A) → follows alike before a ≡ false → leads alike a (head_of bs) ≡ false → are_neighbours alike before (head_of bs) ≡ false → starts_behind alike before p (a ∷ bs) ≡ p ∷ map (λ s. s + 1) (starts_behind alike before p bs)
   in_neither before p a [] f l k = ap (λ t. if t then [] else p ∷ []) f
   in_neither before p a (b ∷ bs) f l k =
       let g : follows alike before b ≡ false = unled before k in
@@ -142,7 +142,7 @@ module _ {A : Type 0} (alike : A → A → Bool) (o : IsEquivalence alike) where
       ∙ ap (λ ss. p ∷ (p + 1) ∷ ss) (shifted alike (Some b) (p + 1) bs)
       ∙ ap (λ t. p ∷ map (λ s. s + 1) (if t then starts_behind alike (Some b) (p + 1) bs else p ∷ starts_behind alike (Some b) (p + 1) bs)) (sym g)
     where
-      unled : (before : Option A) → are_kin alike before (Some b) ≡ false → follows alike before b ≡ false
+      unled : (before : Option A) → are_neighbours alike before (Some b) ≡ false → follows alike before b ≡ false
       unled None k = refl
       unled (Some x) k = k
 
@@ -179,30 +179,30 @@ module _ {A : Type 0} (alike : A → A → Bool) (o : IsEquivalence alike) where
     where
       go : (a : A) → IsApartAt alike xs p a → (t : Bool) → follows alike (before_at xs p) a ≡ t → (s : Bool) → leads alike a (slice_get xs p) ≡ s → starts_behind alike None 0 (take p xs) ++ starts_behind alike (before_at xs p) p (a ∷ drop p xs) ≡ moved (joins alike xs p a) p (starts_behind alike None 0 (take p xs)) (starts_behind alike (before_at xs p) p (drop p xs))
       go a h true e s f =
-          let kin : joins alike xs p a ≡ Before = ap (λ t. if t then Before else if leads alike a (slice_get xs p) then Behind else Neither) e in
+          let neighbour : joins alike xs p a ≡ Before = ap (λ t. if t then Before else if leads alike a (slice_get xs p) then Behind else Neither) e in
           ap (λ ss. starts_behind alike None 0 (take p xs) ++ ss) (in_before (before_at xs p) p a (drop p xs) e)
-          ∙ ap (λ k. moved k p (starts_behind alike None 0 (take p xs)) (starts_behind alike (before_at xs p) p (drop p xs))) (sym kin)
+          ∙ ap (λ k. moved k p (starts_behind alike None 0 (take p xs)) (starts_behind alike (before_at xs p) p (drop p xs))) (sym neighbour)
       go a h false e true f =
-          let kin : joins alike xs p a ≡ Behind = ap (λ t. if t then Before else if leads alike a (slice_get xs p) then Behind else Neither) e ∙ ap (λ t. if t then Behind else Neither) f in
+          let neighbour : joins alike xs p a ≡ Behind = ap (λ t. if t then Before else if leads alike a (slice_get xs p) then Behind else Neither) e ∙ ap (λ t. if t then Behind else Neither) f in
           let next = ap (leads alike a) (head_dropped xs p) ∙ f in
           ap (λ ss. starts_behind alike None 0 (take p xs) ++ ss) (in_behind (before_at xs p) p a (drop p xs) e next).0
-          ∙ ap (λ k. moved k p (starts_behind alike None 0 (take p xs)) (starts_behind alike (before_at xs p) p (drop p xs))) (sym kin)
+          ∙ ap (λ k. moved k p (starts_behind alike None 0 (take p xs)) (starts_behind alike (before_at xs p) p (drop p xs))) (sym neighbour)
       go a h false e false f =
-          let kin : joins alike xs p a ≡ Neither = ap (λ t. if t then Before else if leads alike a (slice_get xs p) then Behind else Neither) e ∙ ap (λ t. if t then Behind else Neither) f in
+          let neighbour : joins alike xs p a ≡ Neither = ap (λ t. if t then Before else if leads alike a (slice_get xs p) then Behind else Neither) e ∙ ap (λ t. if t then Behind else Neither) f in
           let next = ap (leads alike a) (head_dropped xs p) ∙ f in
-          let apart = ap (are_kin alike (before_at xs p)) (head_dropped xs p) ∙ h kin in
+          let apart = ap (are_neighbours alike (before_at xs p)) (head_dropped xs p) ∙ h neighbour in
           ap (λ ss. starts_behind alike None 0 (take p xs) ++ ss) (in_neither (before_at xs p) p a (drop p xs) e next apart)
-          ∙ ap (λ k. moved k p (starts_behind alike None 0 (take p xs)) (starts_behind alike (before_at xs p) p (drop p xs))) (sym kin)
+          ∙ ap (λ k. moved k p (starts_behind alike None 0 (take p xs)) (starts_behind alike (before_at xs p) p (drop p xs))) (sym neighbour)
 
       there : (a : A) (t : Bool) → follows alike (before_at xs p) a ≡ t → (s : Bool) → leads alike a (slice_get xs p) ≡ s → joins alike xs p a ≡ Behind → 0 < length (starts_behind alike (before_at xs p) p (drop p xs))
       there a true e s f h =
-          let kin : joins alike xs p a ≡ Before = ap (λ t. if t then Before else if leads alike a (slice_get xs p) then Behind else Neither) e in
-          let no : Before ≡ Behind = sym kin ∙ h in
+          let neighbour : joins alike xs p a ≡ Before = ap (λ t. if t then Before else if leads alike a (slice_get xs p) then Behind else Neither) e in
+          let no : Before ≡ Behind = sym neighbour ∙ h in
           absurd cc
       there a false e true f h = (in_behind (before_at xs p) p a (drop p xs) e (ap (leads alike a) (head_dropped xs p) ∙ f)).1
       there a false e false f h =
-          let kin : joins alike xs p a ≡ Neither = ap (λ t. if t then Before else if leads alike a (slice_get xs p) then Behind else Neither) e ∙ ap (λ t. if t then Behind else Neither) f in
-          let no : Neither ≡ Behind = sym kin ∙ h in
+          let neighbour : joins alike xs p a ≡ Neither = ap (λ t. if t then Before else if leads alike a (slice_get xs p) then Behind else Neither) e ∙ ap (λ t. if t then Behind else Neither) f in
+          let no : Neither ≡ Behind = sym neighbour ∙ h in
           absurd cc
 
   -- the same by the places themselves, and how many of them come before the item

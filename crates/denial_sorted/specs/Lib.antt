@@ -2,7 +2,7 @@ pub mod Adding
 pub mod Headed
 pub mod Inserting
 pub mod Keys
-pub mod Kin
+pub mod Neighbour
 pub mod Owned
 pub mod Places
 pub mod Removing

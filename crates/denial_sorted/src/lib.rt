@@ -1,4 +1,4 @@
-//! Records in canonical order, and where their owners begin.
+//! Records in canonical order, with an index of their owners.
 #![tactic(auto)]
 
 pub mod finding;

@@ -12,13 +12,13 @@ ghost use Rattle.plain.specs.declared.record.Record.{Record};
 ghost use Rattle.std.specs.Slice.Iter.{iter_rest};
 ghost use Rattle.denial_rrsets.specs.Groups.{of_one_owner};
 ghost use Rattle.denial_sorted.specs.Inserting.{Inserts};
-ghost use Rattle.denial_sorted.specs.Kin.{IsApartAt};
+ghost use Rattle.denial_sorted.specs.Neighbour.{IsApartAt};
 ghost use Rattle.denial_sorted.specs.Places.{Places};
 ghost use Rattle.denial_rrsets.specs.Starts.{starts_in};
 
 use crate::keys::near_order;
 use crate::sorter::{DefaultSorter, Sorter};
-use crate::starts::{count_before, fill, kin_at, move_behind, starts_of};
+use crate::starts::{count_before, fill, move_behind, neighbour_at, starts_of};
 use denial_rrsets::runs::ByOwner;
 use names_rdata::canonical::CanonicalOrd;
 use names_rdata::data::RecordData;
@@ -232,10 +232,10 @@ fn put_at<N: ToName, D: RecordData>(
     if starts.reserve(1).is_err() {
         return Err(rr);
     }
-    let kin = kin_at::<Record<N, D>, ByOwner>(records.as_slice(), place, &rr);
+    let neighbour = neighbour_at::<Record<N, D>, ByOwner>(records.as_slice(), place, &rr);
     insert_at(records, place, rr)?;
     let at = count_before(starts.as_slice(), place);
-    move_behind(starts, at, place, kin);
+    move_behind(starts, at, place, neighbour);
     Ok(())
 }
 

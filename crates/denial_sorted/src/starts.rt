@@ -4,7 +4,7 @@
 ghost use Rattle.std.specs.Prelude.{◌≡◌, ◌++◌, ◌∷◌, [], ◌+◌, ◌<◌, ◌≤◌, length, map, take, drop, vec_capacity, vec_len, nat_lt, true, false, IfOk};
 ghost use Rattle.std.specs.List.{AllByRecursion};
 ghost use Rattle.std.specs.List.Sorted.{IsPartitionPoint, IsPartitionedBy};
-ghost use Rattle.denial_sorted.specs.Kin.{joins, moved};
+ghost use Rattle.denial_sorted.specs.Neighbour.{joins, moved};
 ghost use Rattle.denial_rrsets.specs.Starts.{starts_in};
 
 use denial_rrsets::runs::Alike;
@@ -55,7 +55,7 @@ fn push_within(starts: &mut Vec<usize>, place: usize)
 
 /// The neighbour that an inserted item belongs with.
 #[derive(Clone, Copy, Debug, PartialEq, Eq)]
-pub(crate) enum Kin {
+pub(crate) enum Neighbour {
     /// The item before it.
     Before,
     /// The item behind it, and not the item before it.
@@ -64,19 +64,19 @@ pub(crate) enum Kin {
 }
 
 /// The neighbour that an item belongs with when it is inserted at a place.
-pub(crate) fn kin_at<T, K: Alike<T>>(items: &[T], place: usize, item: &T) -> Kin
+pub(crate) fn neighbour_at<T, K: Alike<T>>(items: &[T], place: usize, item: &T) -> Neighbour
     ensures { result ≡ joins K.alike items.now place item.now }
 {
     if place > 0 {
         if let Some(before) = items.get(place - 1) {
             if K::are_alike(before, item) {
-                return Kin::Before;
+                return Neighbour::Before;
             }
         }
     }
     match items.get(place) {
-        Some(behind) if K::are_alike(item, behind) => Kin::Behind,
-        _ => Kin::Neither,
+        Some(behind) if K::are_alike(item, behind) => Neighbour::Behind,
+        _ => Neighbour::Neither,
     }
 }
 
@@ -93,19 +93,19 @@ pub(crate) fn count_before(starts: &[usize], place: usize) -> usize
 /// Raises the places from an index on by one. The place of the item that was inserted before them
 /// is added or kept, unless the item belongs with the one before it. There is room for one more
 /// place.
-pub(crate) fn move_behind(starts: &mut Vec<usize>, at: usize, place: usize, kin: Kin)
+pub(crate) fn move_behind(starts: &mut Vec<usize>, at: usize, place: usize, neighbour: Neighbour)
     requires room { vec_len starts.old < vec_capacity starts.old }
     requires within { at ≤ length starts.old.items }
-    requires some { kin ≡ Kin.Behind → at < length starts.old.items }
+    requires some { neighbour ≡ Neighbour.Behind → at < length starts.old.items }
     requires few { AllByRecursion (λ s. s < usize.MAX) starts.old.items }
     ensures { let old = starts.old.items in
-        starts.new.items ≡ moved kin place (take at old) (drop at old) }
+        starts.new.items ≡ moved neighbour place (take at old) (drop at old) }
 {
     raise_from(starts, at);
-    match kin {
-        Kin::Before => {}
-        Kin::Behind => starts[at] = place,
-        Kin::Neither => {
+    match neighbour {
+        Neighbour::Before => {}
+        Neighbour::Behind => starts[at] = place,
+        Neighbour::Neither => {
             if starts.insert(at, place).is_err() {
                 unreachable!()
             }

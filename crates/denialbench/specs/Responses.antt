@@ -7,7 +7,7 @@ use Rattle.sha2.specs.Sha256.{sha256}
 use Rattle.definitions.specs.Dnskey.{Dnskey, dnskey_data}
 use Rattle.messages.specs.HandedRr.{HandedRr}
 use Rattle.denial_nsec3_sha1.specs.Iterated.{answered}
-use Rattle.answer_shared.specs.Accepting.{sorted_records}
+use Rattle.answer_terms.specs.Accepting.{sorted_records}
 use Rattle.answer_zone_records.specs.Faults.{IsFault}
 use Rattle.answer.specs.Simulations.{IsSimulation}
 use Rattle.answer.specs.World.{World, world}

@@ -1,5 +1,4 @@
-//! Reads a session from standard input and prints what comes of it: the keys of a signed zone roll,
-//! a publisher answers, and a judge says what the answers prove.
+//! The bench: reads a session from standard input and prints the outcome of each event.
 //!
 //! The exit status is 0, or 1 where a line cannot be read, or 2 where input, output or memory
 //! failed.

@@ -1,5 +1,5 @@
-//! What the bench and its explanations share: stand-ins for signatures and digests, and what is
-//! printed of outcomes.
+//! What the bench and its explanations share: stand-ins for signatures and digests, and the text of
+//! outcomes.
 #![tactic(auto)]
 
 pub mod named;

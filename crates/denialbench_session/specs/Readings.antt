@@ -3,7 +3,7 @@ use Rattle.std.specs.Prelude.{◌≡◌, ℕ, false, List, map, Option, Some, No
 use Rattle.std.specs.Borrow.{Bor}
 use Rattle.std.specs.Option.{option_map}
 use Rattle.answer_events.specs.Questions.{asked_of}
-use Rattle.answer_shared.specs.ModeView.{mode_of}
+use Rattle.answer_terms.specs.ModeView.{mode_of}
 use Rattle.answer_events.specs.Calls.{call_of}
 use Rattle.answer_events.specs.declared.event.Event.{Event}
 use Rattle.answer_events.specs.declared.event.Act.{Act}

@@ -1,5 +1,4 @@
-//! The lines of a session of the bench: octets cut into lines and fields, and read as a zone, its
-//! records and the events that follow.
+//! The lines of a session, read as a zone, its records and the events that follow.
 #![tactic(auto)]
 
 pub mod event_lines;

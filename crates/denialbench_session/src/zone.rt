@@ -2,7 +2,7 @@
 ghost use Rattle.std.specs.Prelude.{◌≤◌};
 
 use answer_events::names::Name;
-use answer_shared::mode::Mode;
+use answer_terms::mode::Mode;
 
 /// What a zone is published with.
 #[derive(Drop)]

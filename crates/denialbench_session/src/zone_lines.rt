@@ -14,7 +14,7 @@ use crate::number_fields::{number_u16, number_u32};
 use crate::zone::Zone;
 use answer_events::names::{Name, Serial, UnknownRecordData};
 use answer_events::record::{ZoneData, ZoneRecord};
-use answer_shared::mode::Mode;
+use answer_terms::mode::Mode;
 use denial_fields::salt::Nsec3Salt;
 use numbers::class::Class;
 use numbers::rtype::Rtype;

@@ -1,5 +1,5 @@
-//! A caller of the judge: a zone publishes two answers, and a resolver that holds its DS set judges
-//! them from their bytes.
+//! An example: a zone publishes two answers, and a resolver that has its DS set judges them from
+//! their bytes.
 #![tactic(auto)]
 
 mod copying;

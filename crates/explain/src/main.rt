@@ -1,7 +1,7 @@
-//! Explains sessions of the bench: each event beside what is printed of it; behind a key call the
-//! rolls that run, and when their waits end; each thing shown as `dig` writes it; behind a
-//! judgement its reasons; of a line that cannot be read the field and why; of a refused zone the
-//! records.
+//! Explains sessions of the bench: events, key calls, messages, judgements and refusals. An event
+//! with what is printed for it; a key call with the running rolls and their waits; a message as
+//! `dig` writes it; a judgement with its reasons; a line that cannot be read with the field and
+//! why; a refused zone with the records.
 //!
 //! usage: explain [--octets] [--text | --json | --agree] [FILE..] [--zone [--origin=NAME] FILE..]
 //! [--date DATE|SECONDS..]

@@ -1,12 +1,12 @@
 //! A judgement explained: what it comes to, and why.
 
 use crate::errors::{error_of, error_reason};
-use crate::findings::{Said, said_in};
+use crate::meanings::{Said, said_in};
 use crate::primitives::Primitives;
 use crate::reasons::{Reasoned, Reasons, reasons_of};
 use crate::words::tell_outcome;
 use answer_extended_errors::ExtendedError;
-use answer_findings::{Case, Finding, Lasting, Refusal, case_for, first_question};
+use answer_findings::{Case, Meaning, Refusal, Validity, case_for, first_question};
 use answer_judge::verdict::{Judgement, Refused};
 use answer_scheme::scheme::Scheme;
 use denial_nsec3_hash::hasher::Nsec3Hasher;
@@ -44,7 +44,7 @@ pub fn explanation_of<S: Scheme, H: Nsec3Hasher>(
     let error = error_beside(alloc, &primitives, case, &beside, refusal)?;
     let mut words = Vec::new(alloc);
     tell_outcome(&mut words, &own.outcome, &said, error)?;
-    let lasting = lasting_of(&own.outcome, &said);
+    let validity = validity_to_show(&own.outcome, &said);
     let proves = refusal.is_none();
     let reasons = match &beside {
         Some(question) => reasons_for(alloc, &primitives, case, question, own.reasons, proves)?,
@@ -53,25 +53,25 @@ pub fn explanation_of<S: Scheme, H: Nsec3Hasher>(
     let reasons = with_error(alloc, reasons, error)?;
     Ok(Explanation {
         words,
-        reasons: with_times(reasons, case, lasting),
+        reasons: with_times(reasons, case, validity),
     })
 }
 
 /// Reasons with how long the verdict lasts, where anything says it.
-fn with_times(reasons: Reasons, case: &Case, lasting: Option<Lasting>) -> Reasons {
+fn with_times(reasons: Reasons, case: &Case, validity: Option<Validity>) -> Reasons {
     let mut reasons = reasons;
-    if let Some(lasting) = lasting {
-        reasons.ttl = Some(lasting.ttl.as_secs());
-        reasons.until = Some(lasting.until(case.moment));
+    if let Some(validity) = validity {
+        reasons.ttl = Some(validity.ttl.as_secs());
+        reasons.until = Some(validity.until(case.moment));
     }
     reasons
 }
 
 /// How long what is said lasts.
-fn lasting_of(outcome: &Result<Judgement, Refused>, said: &Option<Said>) -> Option<Lasting> {
+fn validity_to_show(outcome: &Result<Judgement, Refused>, said: &Option<Said>) -> Option<Validity> {
     match (said, outcome) {
-        (Some(said), _) => said.lasting,
-        (None, Ok(judgement)) => judgement.lasting,
+        (Some(said), _) => said.validity,
+        (None, Ok(judgement)) => judgement.validity,
         (None, Err(_)) => None,
     }
 }
@@ -99,12 +99,12 @@ fn question_beside(
     let Some(said) = said else {
         return first_question(alloc, case);
     };
-    match &said.finding {
-        Finding::Alias(_) | Finding::WildcardAlias(_) | Finding::LeftOpen => {
+    match &said.meaning {
+        Meaning::Alias(_) | Meaning::WildcardAlias(_) | Meaning::LeftOpen => {
             asking(alloc, case, &case.question.name, Rtype::CNAME)
         }
-        Finding::Dname { owner, .. } => asking(alloc, case, owner, Rtype::DNAME),
-        Finding::Referral { cut, .. } => asking(alloc, case, cut, Rtype::DS),
+        Meaning::Dname { owner, .. } => asking(alloc, case, owner, Rtype::DNAME),
+        Meaning::Referral { cut, .. } => asking(alloc, case, cut, Rtype::DS),
         _ => Ok(None),
     }
 }

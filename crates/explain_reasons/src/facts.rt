@@ -1,6 +1,6 @@
 //! The verified records of an answer.
 
-use answer_shared::owner::hash_spelled;
+use answer_terms::owner::hash_spelled;
 use denial_data::{Nsec, Nsec3};
 use explain_signatures::asked::Asked;
 use explain_signatures::signatures::{Seen, Source};

@@ -1,6 +1,5 @@
-//! Why a judgement came out so: the names that the judge hashed, as its own calls tell, and the
-//! records by which it decided; what a resolver is told beside it, and what the answer proves where
-//! the judge has no verdict.
+//! The reasons of a judgement: the names that the judge hashed, and the records that decided. Also
+//! what a resolver learns in addition, and what the answer proves without a verdict.
 #![tactic(auto)]
 
 mod by_hashes;
@@ -8,7 +7,7 @@ mod by_names;
 pub mod errors;
 pub mod explanation;
 mod facts;
-mod findings;
+mod meanings;
 mod primitives;
 pub mod reasons;
 mod refusals;

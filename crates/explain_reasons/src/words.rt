@@ -1,9 +1,9 @@
 //! What a judgement comes to, in the field's words: those of docs/use/CALLING.md.
 
-use crate::findings::Said;
+use crate::meanings::Said;
 use crate::tell::tell;
 use answer_extended_errors::ExtendedError;
-use answer_findings::{Finding, Lead, Refusal, Verdict};
+use answer_findings::{Lead, Meaning, Refusal, Verdict};
 use answer_judge::verdict::{Judgement, Refused};
 use messages::names::{Name, ToName};
 use std::alloc::AllocError;
@@ -20,10 +20,10 @@ pub(crate) fn tell_outcome(
         (Ok(judgement), None) => tell(words, verdict_words(&judgement.verdict)),
         (Ok(judgement), Some(said)) => {
             tell(words, verdict_words(&judgement.verdict))?;
-            tell_beside(words, &said.finding)
+            tell_beside(words, &said.meaning)
         }
         (Err(refused), None) => tell_refusal(words, refused.refusal, error),
-        (Err(_), Some(said)) => tell_lead(words, &said.finding),
+        (Err(_), Some(said)) => tell_lead(words, &said.meaning),
     }
 }
 
@@ -47,17 +47,17 @@ fn verdict_words(verdict: &Verdict) -> &'static str {
 }
 
 /// Says what is found beside a verdict: which delegation it is, or whether there is one.
-fn tell_beside(words: &mut Vec<String>, finding: &Finding) -> Result<(), AllocError> {
-    match finding {
-        Finding::Delegated(Some(cut)) => {
+fn tell_beside(words: &mut Vec<String>, meaning: &Meaning) -> Result<(), AllocError> {
+    match meaning {
+        Meaning::Delegated(Some(cut)) => {
             let cut = cut.fmt_with_dot();
             tell(words, format_args!("the topmost delegation is {cut}"))
         }
-        Finding::NoDs(true) => tell(
+        Meaning::NoDs(true) => tell(
             words,
             "the name is a delegation, to a zone that is not signed",
         ),
-        Finding::NoDs(false) => tell(
+        Meaning::NoDs(false) => tell(
             words,
             "the name is no delegation: the zone itself answers for it",
         ),
@@ -66,16 +66,16 @@ fn tell_beside(words: &mut Vec<String>, finding: &Finding) -> Result<(), AllocEr
 }
 
 /// Says where an answer leads.
-fn tell_lead(words: &mut Vec<String>, finding: &Finding) -> Result<(), AllocError> {
-    match finding {
-        Finding::Alias(target) => {
+fn tell_lead(words: &mut Vec<String>, meaning: &Meaning) -> Result<(), AllocError> {
+    match meaning {
+        Meaning::Alias(target) => {
             let target = target.fmt_with_dot();
             tell(
                 words,
                 format_args!("secure alias: the name has a CNAME record, which leads to {target}"),
             )
         }
-        Finding::WildcardAlias(target) => {
+        Meaning::WildcardAlias(target) => {
             let target = target.fmt_with_dot();
             tell(
                 words,
@@ -84,12 +84,12 @@ fn tell_lead(words: &mut Vec<String>, finding: &Finding) -> Result<(), AllocErro
                 ),
             )
         }
-        Finding::LeftOpen => tell(
+        Meaning::LeftOpen => tell(
             words,
             "insecure by opt-out: a delegation without signatures may be there in place of a wildcard's alias",
         ),
-        Finding::Dname { owner, leads } => tell_dname(words, owner, leads),
-        Finding::Referral { cut, .. } => {
+        Meaning::Dname { owner, leads } => tell_dname(words, owner, leads),
+        Meaning::Referral { cut, .. } => {
             let cut = cut.fmt_with_dot();
             tell(
                 words,

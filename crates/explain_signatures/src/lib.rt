@@ -1,5 +1,4 @@
-//! What became of each signature that a judge was handed: which it tried, as its own calls tell,
-//! and why others were not tried. Beside them, what each DS record is to the keys.
+//! Which signatures a judge tried, and why it skipped the others; how each DS record fits the keys.
 #![tactic(auto)]
 
 pub mod asked;

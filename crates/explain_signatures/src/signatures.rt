@@ -8,7 +8,7 @@ use answer_judge_facts::groups::{is_chain_type, read_group};
 use answer_judge_keys::keys::TaggedKey;
 use answer_judge_keys::order::sort_data;
 use answer_judge_keys::trust::Signature;
-use answer_shared::owner::spells_hash;
+use answer_terms::owner::spells_hash;
 use explain_messages::date::Date;
 use explain_messages::type_text::TypeText;
 use messages::names::{Name, ParsedName, ToName, ZoneName, cow_name, is_at_or_above};

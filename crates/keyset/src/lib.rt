@@ -1,5 +1,5 @@
-//! The keys of a zone, and the rolls that replace them one by one without a moment at which
-//! validation fails (RFC 6781, section 4.1).
+//! The key set of a zone, and the rolls that replace its keys without a time at which validation
+//! fails (RFC 6781, 4.1).
 #![tactic(auto)]
 
 pub mod laws;

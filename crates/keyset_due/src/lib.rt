@@ -1,5 +1,4 @@
-//! What is due of the rolls that run: what each asks for, and from when on its next wait is
-//! accepted.
+//! What is due next in each running roll, and from which second its next wait is accepted.
 #![tactic(auto)]
 
 pub mod dues;

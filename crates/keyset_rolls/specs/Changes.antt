@@ -1,8 +1,8 @@
 -- What rolls do to the flags of one role of a key.
 use Rattle.std.specs.Prelude.{true, false, not, ◌&&◌, if◌then◌else◌}
 use Rattle.keyset_keys.specs.Keys.{Flags, set_old, set_signer, set_present, set_at_parent}
-use Rattle.keyset_rolls.specs.declared.table.Change.{Change}
-use Rattle.keyset_rolls.specs.declared.table.Change.TheVariants as change
+use Rattle.keyset_rolls.specs.declared.table.RoleChange.{RoleChange}
+use Rattle.keyset_rolls.specs.declared.table.RoleChange.TheVariants as change
 
 -- the role enters the DNSKEY RRset, and signs
 abbrev pub serve : Flags → Flags
@@ -41,7 +41,7 @@ abbrev pub leave_parent : Flags → Flags
 leave_parent f = if f.old && f.at_parent then set_at_parent false f else f
 
 -- the change of this name
-abbrev pub changed : Change → Flags → Flags
+abbrev pub changed : RoleChange → Flags → Flags
 changed change.MarkOld f = set_old true f
 changed change.Serve f = serve f
 changed change.Show f = set_present true f

@@ -1,6 +1,5 @@
-//! The rolls that replace the keys of a zone: what each does to a key at its start, its reports and
-//! its waits, and what it asks for (RFC 6781, section 4.1). The crate `keyset`, which gives these
-//! items under its own name, has the set of keys that rolls run on.
+//! The six rolls: what each does to a key, and which actions it requires (RFC 6781, 4.1). The crate
+//! `keyset` exports these items too.
 #![tactic(auto)]
 
 pub mod rolls;

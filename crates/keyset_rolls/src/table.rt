@@ -9,7 +9,7 @@ use keyset_keys::{Key, KeyState, KeyType, UnixTime};
 
 /// What a roll does to the flags of a role.
 #[derive(Clone, Copy, Debug, PartialEq, Eq)]
-pub(crate) enum Change {
+pub(crate) enum RoleChange {
     /// The role is on its way out.
     MarkOld,
     /// The role enters the DNSKEY RRset, and signs.
@@ -36,23 +36,23 @@ pub(crate) enum Change {
     LeaveParent,
 }
 
-impl Change {
+impl RoleChange {
     fn of(self, state: KeyState) -> KeyState
         ensures { result ≡ changed self state }
     {
         match self {
-            Change::MarkOld => state.with_old(true),
-            Change::Serve => state.with_signer(true).with_present(true),
-            Change::Show => state.with_present(true),
-            Change::Delegate => state.with_at_parent(true),
-            Change::HandOver => hand_over(state),
-            Change::Swap => swap(state),
-            Change::TakeOver => take_over(state),
-            Change::Retire => retire(state),
-            Change::RetireOld => retire_if(state, state.old()),
-            Change::Leave => retire_if(state, state.old() && state.present()),
-            Change::Fade => fade(state),
-            Change::LeaveParent => leave_parent(state),
+            RoleChange::MarkOld => state.with_old(true),
+            RoleChange::Serve => state.with_signer(true).with_present(true),
+            RoleChange::Show => state.with_present(true),
+            RoleChange::Delegate => state.with_at_parent(true),
+            RoleChange::HandOver => hand_over(state),
+            RoleChange::Swap => swap(state),
+            RoleChange::TakeOver => take_over(state),
+            RoleChange::Retire => retire(state),
+            RoleChange::RetireOld => retire_if(state, state.old()),
+            RoleChange::Leave => retire_if(state, state.old() && state.present()),
+            RoleChange::Fade => fade(state),
+            RoleChange::LeaveParent => leave_parent(state),
         }
     }
 
@@ -268,12 +268,12 @@ impl RollType {
         ensures { result ≡ new_roles self keytype }
     {
         match self {
-            RollType::KskRoll => Change::Serve.of_ksk(keytype),
-            RollType::KskDoubleDsRoll => Change::Delegate.of_ksk(keytype),
-            RollType::ZskRoll => Change::Show.of_zsk(keytype),
-            RollType::ZskDoubleSignatureRoll => Change::Serve.of_zsk(keytype),
-            RollType::CskRoll => Change::Show.of_zsk(Change::Serve.of_ksk(keytype)),
-            RollType::AlgorithmRoll => Change::Serve.of_each(keytype),
+            RollType::KskRoll => RoleChange::Serve.of_ksk(keytype),
+            RollType::KskDoubleDsRoll => RoleChange::Delegate.of_ksk(keytype),
+            RollType::ZskRoll => RoleChange::Show.of_zsk(keytype),
+            RollType::ZskDoubleSignatureRoll => RoleChange::Serve.of_zsk(keytype),
+            RollType::CskRoll => RoleChange::Show.of_zsk(RoleChange::Serve.of_ksk(keytype)),
+            RollType::AlgorithmRoll => RoleChange::Serve.of_each(keytype),
         }
     }
 
@@ -284,7 +284,7 @@ impl RollType {
         if is_new {
             self.new_roles(keytype)
         } else if is_old {
-            Change::MarkOld.of_each(keytype)
+            RoleChange::MarkOld.of_each(keytype)
         } else {
             keytype
         }
@@ -450,11 +450,11 @@ impl RollType {
         ensures { result ≡ wait1_roles self keytype }
     {
         match self {
-            RollType::KskRoll | RollType::AlgorithmRoll => Change::HandOver.of_ksk(keytype),
-            RollType::KskDoubleDsRoll => Change::Swap.of_ksk(keytype),
-            RollType::ZskRoll => Change::TakeOver.of_zsk(keytype),
-            RollType::ZskDoubleSignatureRoll => Change::RetireOld.of_zsk(keytype),
-            RollType::CskRoll => Change::TakeOver.of_zsk(Change::HandOver.of_ksk(keytype)),
+            RollType::KskRoll | RollType::AlgorithmRoll => RoleChange::HandOver.of_ksk(keytype),
+            RollType::KskDoubleDsRoll => RoleChange::Swap.of_ksk(keytype),
+            RollType::ZskRoll => RoleChange::TakeOver.of_zsk(keytype),
+            RollType::ZskDoubleSignatureRoll => RoleChange::RetireOld.of_zsk(keytype),
+            RollType::CskRoll => RoleChange::TakeOver.of_zsk(RoleChange::HandOver.of_ksk(keytype)),
         }
     }
 
@@ -483,15 +483,15 @@ impl RollType {
         ensures { result ≡ wait2_roles self keytype }
     {
         match self {
-            RollType::KskRoll => Change::Leave.of_ksk(keytype),
-            RollType::KskDoubleDsRoll => Change::LeaveParent.of_ksk(keytype),
-            RollType::ZskRoll => Change::Fade.of_zsk(keytype),
+            RollType::KskRoll => RoleChange::Leave.of_ksk(keytype),
+            RollType::KskDoubleDsRoll => RoleChange::LeaveParent.of_ksk(keytype),
+            RollType::ZskRoll => RoleChange::Fade.of_zsk(keytype),
             RollType::ZskDoubleSignatureRoll => keytype,
-            RollType::CskRoll => Change::Fade.of_zsk(Change::Leave.of_ksk(keytype)),
+            RollType::CskRoll => RoleChange::Fade.of_zsk(RoleChange::Leave.of_ksk(keytype)),
             RollType::AlgorithmRoll => {
                 let role = keytype.main_role();
                 if role.old() && role.present() {
-                    Change::Retire.of_each(keytype)
+                    RoleChange::Retire.of_each(keytype)
                 } else {
                     keytype
                 }

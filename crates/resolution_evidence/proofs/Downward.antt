@@ -5,9 +5,9 @@ use Rattle.definitions.specs.Name.{Name, at_or_above}
 use Rattle.definitions.proofs.ZoneNames.{lowered_above}
 use Rattle.messages.specs.Message.{AreOctets, Asked}
 use Rattle.answer_judge.specs.Judging.{JudgeInput}
-use Rattle.answer_judge_facts.specs.declared.lasting.Lasting.{Lasting}
+use Rattle.answer_judge_facts.specs.declared.validity.Validity.{Validity}
 use Rattle.resolution_step.specs.Told.{StepSeen, TellsVerdict, TellsLead, TellsDown, TellsUnsigned, TellsOpen, TellsNoCut, TellsNoneBelow, TellsNothing, AsksFor, IsCutTold, IsTold, at_cut}
-use Rattle.resolution_step.specs.declared.telling.Counts.{Counts}
+use Rattle.resolution_step.specs.declared.judged_step.Counts.{Counts}
 use Rattle.resolution_step.proofs.Downward.{cut_told_down, told_down}
 use Rattle.resolution_evidence.specs.Given.{Given, judge_input}
 use Rattle.resolution_evidence.specs.Staying.{HasOctets}
@@ -36,7 +36,7 @@ at_cut_down c ds TellsNoneBelow e = absurd cc
 at_cut_down c ds (TellsNothing r) e = absurd cc
 at_cut_down c ds (AsksFor asks) e = absurd cc
 
-module _ (e : Given) (octets : HasOctets e) (zone : Name) (ds : List Ds) (c : Name) (below : List Ds) (l : Option Lasting) (counts : Counts) where
+module _ (e : Given) (octets : HasOctets e) (zone : Name) (ds : List Ds) (c : Name) (below : List Ds) (l : Option Validity) (counts : Counts) where
   own_down : (asked : Asked) → IsOwnStep e zone ds asked (TellsDown c below) l counts → at_or_above c asked.name ≡ true
   own_down asked k =
       let h : JudgeInput = judge_input e zone ds asked k.of.keys k.of.answer in
@@ -53,7 +53,7 @@ module _ (e : Given) (octets : HasOctets e) (zone : Name) (ds : List Ds) (c : Na
       let answer : AreOctets k.of.answer = sent_octets _ e.messages k.of.answer octets k.of.answer_is in
       subst (λ m. at_or_above m asked.name ≡ true) (cut_told_down e.algorithms e.table e.at h keys answer c below l counts told) (lowered_above n asked.name ∙ above)
 
-pub onward_down : (e : Given) → HasOctets e → (asked : Asked) (zone : Name) (ds : List Ds) (c : Name) (below : List Ds) (l : Option Lasting) → IsOnward e asked zone ds (GoesDown c below) l → at_or_above c asked.name ≡ true
+pub onward_down : (e : Given) → HasOctets e → (asked : Asked) (zone : Name) (ds : List Ds) (c : Name) (below : List Ds) (l : Option Validity) → IsOnward e asked zone ds (GoesDown c below) l → at_or_above c asked.name ≡ true
 onward_down e octets asked zone ds c below l (ByQuestion said counts step is) =
     own_down e octets zone ds c below l counts asked (subst (λ (x : StepSeen). IsOwnStep e zone ds asked x l counts) (goes_down zone c below said is) step)
 onward_down e octets asked zone ds c below l (ByName n said counts inside above other step is) =

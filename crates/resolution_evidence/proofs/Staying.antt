@@ -10,14 +10,14 @@ use Rattle.definitions.proofs.Members.{In, contained}
 use Rattle.denial_laws.specs.Leading.{To}
 use Rattle.messages.specs.Message.{AreOctets, Asked}
 use Rattle.answer_judge.specs.Judging.{JudgeInput}
-use Rattle.answer_judge_facts.specs.declared.lasting.Lasting.{Lasting}
+use Rattle.answer_judge_facts.specs.declared.validity.Validity.{Validity}
 use Rattle.resolution_tree.specs.Laws.{TreesResolveToOne}
 use Rattle.resolution_tree.specs.Orderly.{IsOrderlyTree, IsOrderlyZone}
 use Rattle.resolution_tree.specs.Tree.{Said, Leads, Resolves}
 use Rattle.resolution_step.specs.KnownDs.{knows}
 use Rattle.resolution_step.specs.Proved.{tells}
 use Rattle.resolution_step.specs.Told.{StepSeen, TellsVerdict, TellsLead, TellsDown, TellsUnsigned, TellsOpen, TellsNoCut, TellsNoneBelow, TellsNothing, AsksFor, IsCutTold, IsTold, at_cut}
-use Rattle.resolution_step.specs.declared.telling.Counts.{Counts}
+use Rattle.resolution_step.specs.declared.judged_step.Counts.{Counts}
 use Rattle.resolution_step.proofs.Staying.{LastsFor, at_cut_tells, both_last, cut_told_stays, told_stays}
 use Rattle.resolution_evidence.specs.Given.{Given, Message, judge_input}
 use Rattle.resolution_evidence.specs.Staying.{HasOctets, IsOwnProved, IsNameProved, IsOnwardProved, ByQuestionProved, ByNameProved, ProvesDown, EndsProved, GoesProved, ProvesThrough, AtOnceProved, LedProved, EvidenceStaysProved, EvidenceAgrees, at_time}
@@ -55,7 +55,7 @@ module _ (e : Given) (later n : ℕ) (after : e.at ≤ later) (late : later / 10
   abbrev moved : Given
   moved = at_time later e
 
-  own_stays : (zone : Name) (ds : List Ds) (asked : Asked) (said : StepSeen) (l : Option Lasting) (counts : Counts) → IsOwnStep e zone ds asked said l counts → tells said ≡ true → LastsFor n l → IsOwnProved moved zone ds asked said
+  own_stays : (zone : Name) (ds : List Ds) (asked : Asked) (said : StepSeen) (l : Option Validity) (counts : Counts) → IsOwnStep e zone ds asked said l counts → tells said ≡ true → LastsFor n l → IsOwnProved moved zone ds asked said
   own_stays zone ds asked said l counts k some lasts =
       let h : JudgeInput = judge_input e zone ds asked k.of.keys k.of.answer in
       let told : IsTold e.algorithms e.table h said l counts = subst (λ (x : JudgeInput). IsTold e.algorithms e.table x said l counts) k.of.is k.told_is in
@@ -67,7 +67,7 @@ module _ (e : Given) (later n : ℕ) (after : e.at ≤ later) (late : later / 10
         proved = told_stays e.algorithms e.table e.at later n after late h keys answer said l counts told some lasts;
       }
 
-  name_stays : (zone : Name) (ds : List Ds) (asked : Asked) (said : StepSeen) (l : Option Lasting) (counts : Counts) → IsNameStep e zone ds asked said l counts → tells said ≡ true → LastsFor n l → IsNameProved moved zone ds asked said
+  name_stays : (zone : Name) (ds : List Ds) (asked : Asked) (said : StepSeen) (l : Option Validity) (counts : Counts) → IsNameStep e zone ds asked said l counts → tells said ≡ true → LastsFor n l → IsNameProved moved zone ds asked said
   name_stays zone ds asked said l counts k some lasts =
       let h : JudgeInput = judge_input e zone ds asked k.of.keys k.of.answer in
       let told : IsCutTold e.algorithms e.table h said l counts = subst (λ (x : JudgeInput). IsCutTold e.algorithms e.table x said l counts) k.of.is k.told_is in
@@ -79,19 +79,19 @@ module _ (e : Given) (later n : ℕ) (after : e.at ≤ later) (late : later / 10
         proved = cut_told_stays e.table e.at later n after late h keys answer e.algorithms said l counts told some lasts;
       }
 
-  onward_stays : (asked : Asked) (zone : Name) (ds : List Ds) (o : Onward) (l : Option Lasting) → goes o ≡ true → IsOnward e asked zone ds o l → LastsFor n l → IsOnwardProved moved asked zone ds o
+  onward_stays : (asked : Asked) (zone : Name) (ds : List Ds) (o : Onward) (l : Option Validity) → goes o ≡ true → IsOnward e asked zone ds o l → LastsFor n l → IsOnwardProved moved asked zone ds o
   onward_stays asked zone ds o l k (ByQuestion said counts step is) lasts = ByQuestionProved said (own_stays zone ds asked said l counts step (goes_tells zone said o k is) lasts) is
   onward_stays asked zone ds o l k (ByName m said counts below above other step is) lasts =
       let some : tells said ≡ true = at_cut_tells said (goes_tells zone (at_cut said) o k is) in
       ByNameProved m said below above other (name_stays zone ds (ds_at asked m) said l counts step some lasts) is
 
-  tells_stays : (asked : Asked) (said : Said) (zone : Name) (ds : List Ds) (l : Option Lasting) → Tells e asked said zone ds l → LastsFor n l → ProvesDown moved asked said zone ds
+  tells_stays : (asked : Asked) (said : Said) (zone : Name) (ds : List Ds) (l : Option Validity) → Tells e asked said zone ds l → LastsFor n l → ProvesDown moved asked said zone ds
   tells_stays asked said zone ds l (Ends x) lasts = EndsProved (onward_stays asked zone ds (EndsIn said) l refl x lasts)
   tells_stays asked said zone ds l (Goes {c = c} {below = below} {first = first} {rest = rest} x more is) lasts =
       let both = both_last n first rest (subst (LastsFor n) is lasts) in
       GoesProved (onward_stays asked zone ds (GoesDown c below) first refl x both.0) (tells_stays asked said c below rest more both.1)
 
-  pub follows_stays : (said : Said) (asked : Asked) (ns : List Name) (l : Option Lasting) → Follows e said asked ns l → LastsFor n l → ProvesThrough moved said asked ns
+  pub follows_stays : (said : Said) (asked : Asked) (ns : List Name) (l : Option Validity) → Follows e said asked ns l → LastsFor n l → ProvesThrough moved said asked ns
   follows_stays said asked ns l (AtOnce w x leads) lasts = AtOnceProved w (tells_stays asked said e.anchor e.ds l x lasts) leads
   follows_stays said asked ns l (Led {n = m} {ns = ms} {first = first} {rest = rest} w x more is) lasts =
       let both = both_last n first rest (subst (LastsFor n) is lasts) in

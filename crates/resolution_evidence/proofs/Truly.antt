@@ -10,13 +10,13 @@ use Rattle.denial_laws.specs.Leading.{To}
 use Rattle.denial_laws.proofs.NameFacts.{strictly_at}
 use Rattle.messages.specs.Message.{Asked}
 use Rattle.answer_judge.specs.Judging.{JudgeInput}
-use Rattle.answer_judge_facts.specs.declared.lasting.Lasting.{Lasting}
+use Rattle.answer_judge_facts.specs.declared.validity.Validity.{Validity}
 use Rattle.resolution_tree.specs.Tree.{Said, Leads, Says, SaysItself, Itself, Below, Resolves, is_bound, is_within, refers_to, zone_at}
 use Rattle.resolution_tree.specs.Tree as tree
 use Rattle.resolution_tree.specs.Orderly.{IsOrderlyZone}
 use Rattle.resolution_tree.proofs.Trees.{IsReferred, referred}
 use Rattle.resolution_step.specs.KnownDs.{knows}
-use Rattle.resolution_step.specs.declared.telling.Counts.{Counts}
+use Rattle.resolution_step.specs.declared.judged_step.Counts.{Counts}
 use Rattle.resolution_step.specs.Told.{StepSeen, TellsVerdict, TellsLead, TellsDown, TellsUnsigned, TellsOpen, TellsNoCut, TellsNoneBelow, TellsNothing, AsksFor, at_cut}
 use Rattle.resolution_step.specs.Truth.{AreOfZone, IsCutSo, IsToldSo, IsWayDown, zone_of_version}
 use Rattle.resolution_step.proofs.Truly.{cut_truly, lowered_so, told_truly}
@@ -44,19 +44,19 @@ module _ (e : Given) (class : ℕ) (zones : List SignedZone) (anchor : SignedZon
 
   -- ---- one zone
 
-  pub own_so : (asked : Asked) → asked.class ≡ class → (s : SignedZone) (ds : List Ds) (said : StepSeen) (l : Option Lasting) (n : Counts) → IsAnchored e zones anchor s ds → IsOwnStep e s.apex ds asked said l n → IsToldSo e.algorithms (zone_of s) asked.name asked.rtype said
+  pub own_so : (asked : Asked) → asked.class ≡ class → (s : SignedZone) (ds : List Ds) (said : StepSeen) (l : Option Validity) (n : Counts) → IsAnchored e zones anchor s ds → IsOwnStep e s.apex ds asked said l n → IsToldSo e.algorithms (zone_of s) asked.name asked.rtype said
   own_so asked in_class s ds said l n a k =
       let so = told_truly e.algorithms e.table k.judged said l n k.told_is s.version (of_zone asked in_class s ds k.judged a k.of) in
       subst (λ (h : JudgeInput). IsToldSo e.algorithms (zone_of_version h.apex s.version) h.asked.name h.asked.rtype said) k.of.is so
 
-  name_so : (asked : Asked) → asked.class ≡ class → (n : Name) (s : SignedZone) (ds : List Ds) (said : StepSeen) (l : Option Lasting) (m : Counts) → IsAnchored e zones anchor s ds → IsNameStep e s.apex ds (ds_at asked n) said l m → IsCutSo e.algorithms (zone_of s) n said
+  name_so : (asked : Asked) → asked.class ≡ class → (n : Name) (s : SignedZone) (ds : List Ds) (said : StepSeen) (l : Option Validity) (m : Counts) → IsAnchored e zones anchor s ds → IsNameStep e s.apex ds (ds_at asked n) said l m → IsCutSo e.algorithms (zone_of s) n said
   name_so asked in_class n s ds said l m a k =
       let ds_is = ap (λ (h : JudgeInput). h.asked.rtype) k.of.is in
       let so = cut_truly e.algorithms e.table k.judged said l m k.told_is s.version ds_is (of_zone (ds_at asked n) in_class s ds k.judged a k.of) in
       subst (λ (h : JudgeInput). IsCutSo e.algorithms (zone_of_version h.apex s.version) h.asked.name said) k.of.is so
 
   -- what an answer for DS at a name at or above the question's tells of a delegation there is so of the question
-  pub named_so : (asked : Asked) → asked.class ≡ class → (n : Name) (s : SignedZone) (ds : List Ds) (said : StepSeen) (l : Option Lasting) (m : Counts)
+  pub named_so : (asked : Asked) → asked.class ≡ class → (n : Name) (s : SignedZone) (ds : List Ds) (said : StepSeen) (l : Option Validity) (m : Counts)
       → strictly_above s.apex n ≡ true → at_or_above n asked.name ≡ true → (same n asked.name && (asked.rtype == 43)) ≡ false
       → IsAnchored e zones anchor s ds → IsNameStep e s.apex ds (ds_at asked n) said l m → IsToldSo e.algorithms (zone_of s) asked.name asked.rtype (at_cut said)
   named_so asked in_class n s ds said l m below above other a k =
@@ -79,14 +79,14 @@ module _ (e : Given) (class : ℕ) (zones : List SignedZone) (anchor : SignedZon
   told_onward asked s (TellsNothing r) so = tt
   told_onward asked s (AsksFor asks) so = tt
 
-  onward_so : (asked : Asked) → asked.class ≡ class → (s : SignedZone) (ds : List Ds) (o : Onward) (l : Option Lasting) → IsAnchored e zones anchor s ds → IsOnward e asked s.apex ds o l → IsOnwardSo asked s o
+  onward_so : (asked : Asked) → asked.class ≡ class → (s : SignedZone) (ds : List Ds) (o : Onward) (l : Option Validity) → IsAnchored e zones anchor s ds → IsOnward e asked s.apex ds o l → IsOnwardSo asked s o
   onward_so asked in_class s ds o l a (ByQuestion said m k is) = subst (IsOnwardSo asked s) (sym is) (told_onward asked s said (own_so asked in_class s ds said l m a k))
   onward_so asked in_class s ds o l a (ByName n said m below above other k is) =
       subst (IsOnwardSo asked s) (sym is) (told_onward asked s (at_cut said) (named_so asked in_class n s ds said l m below above other a k))
 
   -- ---- down
 
-  pub down_so : (asked : Asked) → asked.class ≡ class → (zone c : Name) (ds below : List Ds) (l : Option Lasting) (s : SignedZone) → s.apex ≡ zone → IsAnchored e zones anchor s ds → IsOnward e asked zone ds (GoesDown c below) l
+  pub down_so : (asked : Asked) → asked.class ≡ class → (zone c : Name) (ds below : List Ds) (l : Option Validity) (s : SignedZone) → s.apex ≡ zone → IsAnchored e zones anchor s ds → IsOnward e asked zone ds (GoesDown c below) l
       → IsDown e zones anchor asked s c below
   down_so asked in_class zone c ds below l s at a x =
       let so = onward_so asked in_class s ds (GoesDown c below) l a (subst (λ n. IsOnward e asked n ds (GoesDown c below) l) (sym at) x) in
@@ -102,7 +102,7 @@ module _ (e : Given) (class : ℕ) (zones : List SignedZone) (anchor : SignedZon
         found = child.3;
       }
 
-  pub tells_so : (asked : Asked) → asked.class ≡ class → (said : Said) (zone : Name) (ds : List Ds) (l : Option Lasting) (s : SignedZone) → s.apex ≡ zone → IsAnchored e zones anchor s ds → Tells e asked said zone ds l → Says (knows e.algorithms) (tree_of zones) asked.name asked.rtype said (zone_of s)
+  pub tells_so : (asked : Asked) → asked.class ≡ class → (said : Said) (zone : Name) (ds : List Ds) (l : Option Validity) (s : SignedZone) → s.apex ≡ zone → IsAnchored e zones anchor s ds → Tells e asked said zone ds l → Says (knows e.algorithms) (tree_of zones) asked.name asked.rtype said (zone_of s)
   tells_so asked in_class said zone ds l s at a (Ends x) = Itself (onward_so asked in_class s ds (EndsIn said) l a (subst (λ n. IsOnward e asked n ds (EndsIn said) l) (sym at) x))
   tells_so asked in_class said zone ds l s at a (Goes {c = c} {below = below} {first = first} {rest = rest} x more lasts) =
       let d : IsDown e zones anchor asked s c below = down_so asked in_class zone c ds below first s at a x in
@@ -116,10 +116,10 @@ module _ (e : Given) (class : ℕ) (zones : List SignedZone) (anchor : SignedZon
       and_from _ _ (lowered_above anchor.apex asked.name ∙ ap (λ n. at_or_above n asked.name) of.anchor_is ∙ both.0)
       (ap (λ n. not (same n asked.name && (asked.rtype == 43))) of.anchor_is ∙ both.1)
 
-  told_by_anchor : (asked : Asked) → asked.class ≡ class → (said : Said) (l : Option Lasting) → Tells e asked said e.anchor e.ds l → Says (knows e.algorithms) (tree_of zones) asked.name asked.rtype said (zone_of anchor)
+  told_by_anchor : (asked : Asked) → asked.class ≡ class → (said : Said) (l : Option Validity) → Tells e asked said e.anchor e.ds l → Says (knows e.algorithms) (tree_of zones) asked.name asked.rtype said (zone_of anchor)
   told_by_anchor asked in_class said l x = tells_so asked in_class said e.anchor e.ds l anchor of.anchor_is (record { there = of.anchor_there; by = inl (refl, refl) }) x
 
-  pub follows_so : (said : Said) (asked : Asked) → asked.class ≡ class → (ns : List Name) (l : Option Lasting) → Follows e said asked ns l → Resolves (knows e.algorithms) (tree_of zones) (zone_of anchor) asked.rtype said asked.name ns
+  pub follows_so : (said : Said) (asked : Asked) → asked.class ≡ class → (ns : List Name) (l : Option Validity) → Follows e said asked ns l → Resolves (knows e.algorithms) (tree_of zones) (zone_of anchor) asked.rtype said asked.name ns
   follows_so said asked in_class ns l (AtOnce w x leads) = tree.Ends (within asked w) (told_by_anchor asked in_class said l x) leads
   follows_so said asked in_class ns l (Led {n = n} {ns = ms} {first = first} {rest = rest} w x more lasts) =
       tree.Led (within asked w) (told_by_anchor asked in_class (Leads (To n)) first x) (follows_so said (renamed asked n) in_class ms rest more)

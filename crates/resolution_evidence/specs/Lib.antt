@@ -6,8 +6,8 @@ pub use Rattle.resolution_step.specs.Told
 pub use Rattle.resolution_step.specs.Counted
 pub use Rattle.resolution_step.specs.Lasts
 pub use Rattle.resolution_step.specs.KnownDs
-pub use Rattle.resolution_step.specs.declared.telling.Step
-pub use Rattle.resolution_step.specs.declared.telling.Telling
-pub use Rattle.resolution_step.specs.declared.telling.Counts
+pub use Rattle.resolution_step.specs.declared.judged_step.Step
+pub use Rattle.resolution_step.specs.declared.judged_step.JudgedStep
+pub use Rattle.resolution_step.specs.declared.judged_step.Counts
 pub use Rattle.resolution_step.specs.Seen
 pub use Rattle.resolution_step.specs.Redirection

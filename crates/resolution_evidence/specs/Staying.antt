@@ -6,11 +6,11 @@ use Rattle.definitions.specs.Name.{Name, same, at_or_above, strictly_above}
 use Rattle.denial_laws.specs.Leading.{To}
 use Rattle.messages.specs.Message.{AreOctets, Asked}
 use Rattle.answer_judge.specs.Judging.{JudgeInput}
-use Rattle.answer_judge_facts.specs.declared.lasting.Lasting.{Lasting}
+use Rattle.answer_judge_facts.specs.declared.validity.Validity.{Validity}
 use Rattle.resolution_tree.specs.Laws.{AreAlike}
 use Rattle.resolution_tree.specs.Tree.{Said, Leads, leads_on}
 use Rattle.resolution_step.specs.Proved.{IsCutProved, IsProved}
-pub use Rattle.resolution_step.specs.Proved.{IsWithin}
+pub use Rattle.resolution_step.specs.Proved.{IsWithinValidity}
 use Rattle.resolution_step.specs.Told.{StepSeen, at_cut}
 use Rattle.resolution_evidence.specs.Given.{Given, IsOf}
 use Rattle.resolution_evidence.specs.Truth.{IsOfTree, SignedZone}
@@ -60,13 +60,13 @@ pub data ProvesThrough (e : Given) (said : Said) : Asked → List Name → Type 
 -- through the same names.
 abbrev pub EvidenceStaysProved : Type 0
 EvidenceStaysProved =
-    (e : Given) (asked : Asked) (said : Said) (ns : List Name) (l : Lasting) (later : ℕ)
-    → HasOctets e → Follows e said asked ns (Some l) → IsWithin e.at later l → ProvesThrough (at_time later e) said asked ns
+    (e : Given) (asked : Asked) (said : Said) (ns : List Name) (l : Validity) (later : ℕ)
+    → HasOctets e → Follows e said asked ns (Some l) → IsWithinValidity e.at later l → ProvesThrough (at_time later e) said asked ns
 
 -- Two pieces of evidence of one tree, at whatever moments, tell no two things: they tell the same through the same names, or are both
 -- insecure.
 abbrev pub EvidenceAgrees : Type 0
 EvidenceAgrees =
-    (e f : Given) (zones : List SignedZone) (anchor : SignedZone) (asked : Asked) (said other : Said) (ns ms : List Name) (l m : Option Lasting)
+    (e f : Given) (zones : List SignedZone) (anchor : SignedZone) (asked : Asked) (said other : Said) (ns ms : List Name) (l m : Option Validity)
     → IsOfTree e asked.class zones anchor → IsOfTree f asked.class zones anchor → f.algorithms ≡ e.algorithms
     → Follows e said asked ns l → Follows f other asked ms m → (ns ≡ ms) × AreAlike said other

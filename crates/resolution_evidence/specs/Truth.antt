@@ -7,7 +7,7 @@ use Rattle.definitions.specs.Zone.{cut, data_at}
 use Rattle.messages.specs.Message.{Asked}
 use Rattle.resolution_step.specs.Versions.{Version}
 use Rattle.answer_judge.specs.Judging.{JudgeInput}
-use Rattle.answer_judge_facts.specs.declared.lasting.Lasting.{Lasting}
+use Rattle.answer_judge_facts.specs.declared.validity.Validity.{Validity}
 use Rattle.resolution_step.specs.Table.{AreTrue, Tried, answers_with, passes_in}
 use Rattle.resolution_step.specs.Truth.{AreHonestBeside}
 use Rattle.resolution_tree.specs.Tree.{Tree, TreeZone, Said, Resolves, is_bound, zone_at}
@@ -58,6 +58,6 @@ pub record IsOfTree (e : Given) (class : ℕ) (zones : List SignedZone) (anchor 
 -- What evidence of a tree tells, through aliases, is what the tree says, through the aliases that the tree has, however long it lasts.
 abbrev pub EvidenceTellsTruly : Type 0
 EvidenceTellsTruly =
-    (e : Given) (zones : List SignedZone) (anchor : SignedZone) (asked : Asked) (said : Said) (ns : List Name) (lasting : Option Lasting)
-    → IsOfTree e asked.class zones anchor → Follows e said asked ns lasting
+    (e : Given) (zones : List SignedZone) (anchor : SignedZone) (asked : Asked) (said : Said) (ns : List Name) (validity : Option Validity)
+    → IsOfTree e asked.class zones anchor → Follows e said asked ns validity
     → Resolves (knows e.algorithms) (tree_of zones) (zone_of anchor) asked.rtype said asked.name ns

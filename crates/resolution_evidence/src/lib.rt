@@ -1,11 +1,10 @@
-//! Evidence for what is said of a name: a trust anchor, and messages of zones with the questions
-//! that they answer. Where it leads, from the anchor down and through aliases, and that this is
-//! what the tree of zones says (RFC 4035, 5). No message is judged here.
+//! Evidence about a name: a trust anchor and messages of zones, and where these lead (RFC 4035, 5).
+//! It is proved that this is what the tree of zones says. No message is judged here.
 #![tactic(auto)]
 
 pub mod laws;
 
 pub use resolution_step::{
-    Ask, Case, CheckedSignature, Counts, DataList, Lasting, Lead, Refusal, Step, Telling, Verdict,
-    cut_step, least_of, step,
+    Ask, Case, CheckedSignature, Counts, DataList, JudgedStep, Lead, Refusal, Step, Validity,
+    Verdict, cut_step, least_of, step,
 };

@@ -11,7 +11,7 @@ use Rattle.resolution_evidence.specs.Given.{Message}
 use Rattle.resolution_octets.specs.ReadMessages.{message_of}
 use Rattle.resolution_octets.specs.Sent.{FitsSent, Sent, sent_octets}
 use Rattle.resolution_octets.specs.Spelling.{AreRead, IsRead, IsUnread, SomeUnread, Unread}
-use Rattle.resolution_octets.specs.declared.handed.ReadMessage.{ReadMessage}
+use Rattle.resolution_octets.specs.declared.received.ReadMessage.{ReadMessage}
 use Rattle.resolution_octets.specs.declared.octets.OctetEvidence.{OctetEvidence}
 
 one_more : (ss : List Sent) (ms : List Message) (s : Sent) (m : Message) → AreRead ss ms → IsRead s m → AreRead (ss ++ s ∷ []) (ms ++ m ∷ [])

@@ -2,11 +2,11 @@
 use Rattle.std.proofs.Common.{◌≡◌, ℕ, ◌+◌, ◌*◌, ◌≤◌, Some, sym, ap, subst, ◌∙◌, arith}
 use Rattle.std.specs.Prelude.{min}
 use Rattle.messages.specs.Message.{Asked}
-use Rattle.answer_judge_facts.specs.declared.lasting.Lasting.{Lasting}
+use Rattle.answer_judge_facts.specs.declared.validity.Validity.{Validity}
 use Rattle.answer_judge_octets.specs.Replying.{Replied, until_of}
 use Rattle.resolution_tree.specs.Tree.{Said}
 use Rattle.resolution_evidence.specs.Given.{Given}
-use Rattle.resolution_evidence.specs.Staying.{IsWithin}
+use Rattle.resolution_evidence.specs.Staying.{IsWithinValidity}
 use Rattle.resolution_walk.specs.Ended.{said_of}
 use Rattle.resolution_walk.specs.Laws.{WalksStayProved}
 use Rattle.resolution_walk.specs.declared.ending.Ending.{Ending}
@@ -15,11 +15,11 @@ use Rattle.resolution_walk.specs.declared.ending.Walk.{Walk}
 use Rattle.resolution_octets.specs.Laws.{RepliesStayProved}
 use Rattle.resolution_octets.specs.Saying.{IsEndReplied, IsEndSaid}
 
-replied_until : (second : ℕ) (e : Given) (asked : Asked) (w : Walk) (said : Replied) → IsEndReplied second e asked w said → said.until ≡ until_of second w.lasting
+replied_until : (second : ℕ) (e : Given) (asked : Asked) (w : Walk) (said : Replied) → IsEndReplied second e asked w said → said.until ≡ until_of second w.validity
 replied_until second e asked w said k = ap (λ (r : Replied). r.until) k.is
 
 -- the last second that is said with what is secure or insecure
-said_until : (second most checked : ℕ) (e : Given) (asked : Asked) (w : Walk) (ending : Ending) (said : Replied) (x : Said) → said_of ending ≡ Some x → IsEndSaid second most checked e asked w ending said → said.until ≡ until_of second w.lasting
+said_until : (second most checked : ℕ) (e : Given) (asked : Asked) (w : Walk) (ending : Ending) (said : Replied) (x : Said) → said_of ending ≡ Some x → IsEndSaid second most checked e asked w ending said → said.until ≡ until_of second w.validity
 said_until second most checked e asked w (ends.Secure of v) said x says k = replied_until second e asked w said k
 said_until second most checked e asked w (ends.Leads lead) said x says k = replied_until second e asked w said k
 said_until second most checked e asked w (ends.Unsigned c datas) said x says k = replied_until second e asked w said k
@@ -32,7 +32,7 @@ said_until second most checked e asked w ends.TooManyAliases said x says k = abs
 said_until second most checked e asked w ends.TooManyMessages said x says k = absurd cc
 said_until second most checked e asked w ends.Outside said x says k = absurd cc
 
-within_seconds : (moment second : ℕ) (l : Lasting) → moment ≤ second → second ≤ min (moment + l.seconds) 18446744073709551615 → IsWithin (moment * 1000000000) (second * 1000000000) l
+within_seconds : (moment second : ℕ) (l : Validity) → moment ≤ second → second ≤ min (moment + l.seconds) 18446744073709551615 → IsWithinValidity (moment * 1000000000) (second * 1000000000) l
 within_seconds moment second l after few = let some : second ≤ moment + l.seconds = omega (arith, few) in (omega (arith, after), omega (arith, some))
 
 pub replies_stay_proved : WalksStayProved → RepliesStayProved
@@ -40,5 +40,5 @@ replies_stay_proved stays case e asked said walked x l second spelled octets say
     let until : said.until ≡ until_of case.moment (Some l) =
     said_until case.moment case.max_signatures _ e asked walked.walk walked.walk.ending said x says walked.is_said ∙ ap (until_of case.moment) lasts in
     let some : second ≤ min (case.moment + l.seconds) 18446744073709551615 = subst (λ n. second ≤ n) until few in
-    let within : IsWithin e.at (second * 1000000000) l = subst (λ n. IsWithin n (second * 1000000000) l) (sym spelled.at) (within_seconds case.moment second l after some) in
+    let within : IsWithinValidity e.at (second * 1000000000) l = subst (λ n. IsWithinValidity n (second * 1000000000) l) (sym spelled.at) (within_seconds case.moment second l after some) in
     stays e asked walked.walk x l (second * 1000000000) octets walked.is_walk.walked says lasts within

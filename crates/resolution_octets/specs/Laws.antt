@@ -1,7 +1,7 @@
 -- What octets of evidence spell is one thing; what is replied to them stays proved.
 use Rattle.std.specs.Prelude.{◌≡◌, ℕ, ◌*◌, ◌≤◌, Some}
 use Rattle.messages.specs.Message.{Asked}
-use Rattle.answer_judge_facts.specs.declared.lasting.Lasting.{Lasting}
+use Rattle.answer_judge_facts.specs.declared.validity.Validity.{Validity}
 use Rattle.answer_judge_octets.specs.Replying.{Replied}
 use Rattle.resolution_tree.specs.Tree.{Said}
 use Rattle.resolution_evidence.specs.Given.{Given}
@@ -19,6 +19,6 @@ OctetsSpellOneEvidence = (case : OctetEvidence) (e g : Given) (asked other : Ask
 -- the names of the walk.
 abbrev pub RepliesStayProved : Type 0
 RepliesStayProved =
-    (case : OctetEvidence) (e : Given) (asked : Asked) (said : Replied) (walked : SaysWalked case e asked said) (x : Said) (l : Lasting) (second : ℕ)
-    → Spells case e asked → HasOctets e → said_of walked.walk.ending ≡ Some x → walked.walk.lasting ≡ Some l → case.moment ≤ second → second ≤ said.until
+    (case : OctetEvidence) (e : Given) (asked : Asked) (said : Replied) (walked : SaysWalked case e asked said) (x : Said) (l : Validity) (second : ℕ)
+    → Spells case e asked → HasOctets e → said_of walked.walk.ending ≡ Some x → walked.walk.validity ≡ Some l → case.moment ≤ second → second ≤ said.until
     → ProvesThrough (at_time (second * 1000000000) e) x asked walked.walk.through.items

@@ -2,7 +2,7 @@
 use Rattle.std.specs.Cow.{cow_slice_items}
 use Rattle.messages.specs.Questions.{asked_of}
 use Rattle.resolution_evidence.specs.Given.{Message}
-use Rattle.resolution_octets.specs.declared.handed.ReadMessage.{ReadMessage}
+use Rattle.resolution_octets.specs.declared.received.ReadMessage.{ReadMessage}
 
 abbrev pub message_of : ReadMessage → Message
 message_of m = record { zone = m.zone; asked = asked_of m.question; octets = cow_slice_items m.octets }

@@ -8,7 +8,7 @@ use Rattle.messages.specs.Message.{Asked}
 use Rattle.answer_judge.specs.Judging.{JudgeInput}
 use Rattle.answer_judge.specs.declared.verdict.Refusal.{Refusal}
 use Rattle.answer_judge_rules.specs.Rules.{verdict_of}
-use Rattle.answer_shared.specs.declared.redirection.Lead.TheVariants as lead
+use Rattle.answer_terms.specs.declared.redirection.Lead.TheVariants as lead
 use Rattle.answer_extended_errors.specs.Codes.{code_of}
 use Rattle.answer_extended_errors.specs.declared.error.ExtendedError.{ExtendedError}
 use Rattle.answer_extended_errors.specs.declared.error.ExtendedError.TheVariants as x
@@ -106,8 +106,8 @@ end_reply second w error = record {
   octets = names_octets w.through.items ++ octets_of_end w.ending;
   verifications = w.counts.verifications;
   hashes = w.counts.hashes;
-  ttl = ttl_of w.lasting;
-  until = until_of second w.lasting;
+  ttl = ttl_of w.validity;
+  until = until_of second w.validity;
   ede = ede_of_end w.ending error;
   delegates = 0;
 }

@@ -1,12 +1,12 @@
-//! Walking from octets: evidence that octets spell, what a walk from a trust anchor down says of a
-//! question, and the reply to it in octets, for callers in other languages.
+//! Walking from bytes to bytes, for callers in other languages: evidence, a question, and the
+//! reply.
 #![tactic(auto)]
 
 mod cuts;
-mod handed;
 pub mod laws;
 pub mod octets;
-mod said;
+mod received;
 mod sent;
+mod walk_reply;
 
 pub use crate::octets::{OctetEvidence, resolve_octets};

@@ -7,8 +7,8 @@ ghost use Rattle.resolution_octets.specs.Replying.{Answers, Replies, Says, SaysW
 ghost use Rattle.resolution_octets.specs.Spelling.{HasDs, IsAnchor, LacksDs, Unread, flag_in};
 ghost use Rattle.resolution_octets.specs.ReadEvidence.{ReadsAs, asked_in, given_of};
 
-use crate::handed::{IN, ReadMessage, are_crowded, handed, read_messages};
-use crate::said::{SignatureCounts, reply_of_walk};
+use crate::received::{IN, ReadMessage, are_crowded, read_messages, walk_messages};
+use crate::walk_reply::{SignatureCounts, reply_of_walk};
 use answer_judge_octets::ds::judged_ds;
 use answer_judge_octets::list::read_list;
 use answer_judge_octets::octets::{REPORT_SIZE, hand_out, read_name};
@@ -171,7 +171,7 @@ fn resolved(
     ensures { let e = given_of handed_in.now read.now in let asked = asked_in read.now in
         IfOk result (λ r. SaysWalked handed_in.now e asked (reply_seen r)) }
 {
-    let messages = handed(alloc, &read.messages)?;
+    let messages = walk_messages(alloc, &read.messages)?;
     let evidence = Evidence {
         anchor: &read.anchor,
         ds: &read.ds,

@@ -8,7 +8,7 @@ use Rattle.definitions.specs.Zone.{Verdict, Records, NoType, NoName, StarRecords
 use Rattle.definitions.proofs.ZoneNames.{lowered_above}
 use Rattle.messages.specs.Message.{AreOctets, Asked}
 use Rattle.answer_judge.specs.Judging.{JudgeInput}
-use Rattle.answer_judge_facts.specs.declared.lasting.Lasting.{Lasting}
+use Rattle.answer_judge_facts.specs.declared.validity.Validity.{Validity}
 use Rattle.answer_judge.specs.Lasts.{at_moment}
 use Rattle.answer_findings.specs.Judgements.{aside, asking, cut_question}
 use Rattle.answer_findings.specs.Seen.{Seen, SeesVerdict, SeesDelegated, SeesNoDs, SeesAlias, SeesStarAlias, SeesOpen, SeesDname, SeesReferral}
@@ -16,7 +16,7 @@ use Rattle.answer_findings.specs.Table.{Checked}
 use Rattle.answer_findings.proofs.Beside.{SeeksCut, cut_above, seeks_cut}
 use Rattle.resolution_step.specs.KnownDs.{known_ds}
 use Rattle.resolution_step.specs.Told.{StepSeen, TellsVerdict, TellsLead, TellsDown, TellsUnsigned, TellsOpen, TellsNoCut, TellsNoneBelow, TellsNothing, AsksFor, IsCutTold, IsTold, at_cut, bound_told, by_known, cut_said, cut_told, referral_told, seen_told, verdict_told}
-use Rattle.resolution_step.specs.declared.telling.Counts.{Counts}
+use Rattle.resolution_step.specs.declared.judged_step.Counts.{Counts}
 use Rattle.resolution_step.specs.Proved.{IsCutProved, IsProved, IsSeenProved, Proves}
 use Rattle.resolution_step.proofs.Staying.{LastsFor, cut_told_stays, told_stays}
 
@@ -115,11 +115,11 @@ module _ (algorithms : List ℕ) (c : Name) where
 
 -- ---- as it is told
 
-no_seconds : (l : Option Lasting) → LastsFor 0 l
+no_seconds : (l : Option Validity) → LastsFor 0 l
 no_seconds None = tt
 no_seconds (Some l) = omega arith
 
-module _ (algorithms : List ℕ) (table : List Checked) (at : ℕ) (h : JudgeInput) (keys : AreOctets h.dnskey_bytes) (answer : AreOctets h.answer_bytes) (c : Name) (ds : List Ds) (l : Option Lasting) (counts : Counts) where
+module _ (algorithms : List ℕ) (table : List Checked) (at : ℕ) (h : JudgeInput) (keys : AreOctets h.dnskey_bytes) (answer : AreOctets h.answer_bytes) (c : Name) (ds : List Ds) (l : Option Validity) (counts : Counts) where
   pub told_down : IsTold algorithms table (at_moment at h) (TellsDown c ds) l counts → at_or_above c h.asked.name ≡ true
   told_down is = proved_down algorithms c table (at_moment at h) (TellsDown c ds) (told_stays algorithms table at at 0 (omega arith) (omega arith) h keys answer (TellsDown c ds) l counts is refl (no_seconds l)) refl
 

@@ -12,34 +12,34 @@ use Rattle.messages.specs.declared.error.MessageError.{MessageError}
 use Rattle.answer_scheme.specs.Answers.{Answers}
 use Rattle.answer_judge.specs.Judging.{Answer, Says, Refuses, JudgeInput, answer_of, first_refusal}
 use Rattle.answer_judge.specs.declared.verdict.Judgement.{Judgement}
-use Rattle.answer_judge_facts.specs.declared.lasting.Lasting.{Lasting}
+use Rattle.answer_judge_facts.specs.declared.validity.Validity.{Validity}
 use Rattle.answer_judge.specs.declared.verdict.Refusal.{Refusal}
 use Rattle.answer_judge.specs.declared.verdict.Refusal.TheVariants as r
 use Rattle.answer_judge.specs.declared.verdict.Refused.{Refused}
 use Rattle.answer_judge.specs.Judged.{judged, judged_bytes, judged_messages}
-use Rattle.answer_judge.specs.Lasts.{at_moment, lasting_in_messages}
+use Rattle.answer_judge.specs.Lasts.{at_moment, validity_in_messages}
 use Rattle.answer_judge.specs.Lasts as facts
 use Rattle.answer_judge.proofs.StayAlike.{verdicts_last}
 use Rattle.answer_judge_table.specs.Outcomes.{IsJudgedBy}
 use Rattle.answer_findings.specs.Table.{AgreesWith, Checked, answers_with, passes_in}
 use Rattle.answer_findings.specs.Found.{IsFound, IsFoundBy}
 use Rattle.answer_findings.specs.Judgements.{IsMade, alias_hint, alias_question, aside, asked_in, asking, cut_question, ds_question, is_delegated, is_not_proven, ns_question, question_of, says_delegated, seeks_delegation}
-use Rattle.answer_findings.specs.Lasts.{lasting_by, lasting_in, lasting_of, lastings_of, least_of}
+use Rattle.answer_findings.specs.Lasts.{validity_by, validity_in, validity_of, validities_of, least_of}
 use Rattle.answer_findings.specs.Seen.{Seen, SeesVerdict, SeesDelegated, SeesNoDs, SeesAlias, SeesStarAlias, SeesOpen, SeesDname, SeesReferral, answer_found, answers_ds, cut_found, delegates_found, delegates_said, first_found, found_or, lead_found, lead_said, named_lead, no_ds_found, one_name, open_lead, own_lead, referral_found, referral_said, seen, star_lead, verdict_found}
-use Rattle.answer_findings.specs.declared.finding.Found.{Found}
-use Rattle.answer_findings.specs.declared.finding.Found.TheVariants as f
+use Rattle.answer_findings.specs.declared.meaning.AnswerOutcome.{AnswerOutcome}
+use Rattle.answer_findings.specs.declared.meaning.AnswerOutcome.TheVariants as f
 use Rattle.resolution_step.specs.Told.{StepSeen, TellsNothing, AsksFor, Search, Sees, Wants, IsCutTold, IsSearched, IsSearchTold, IsSeenTold, IsTold, IsToldAt, at_cut, cut_searched, cut_told, search_of, seen_told}
 use Rattle.resolution_step.specs.Told as tells_of
-use Rattle.resolution_step.specs.declared.telling.Counts.{Counts}
+use Rattle.resolution_step.specs.declared.judged_step.Counts.{Counts}
 use Rattle.resolution_step.specs.Proved.{IsSaid, IsSaidAside, IsLeadProved, IsWhetherProved, Proves, IsCutProved, IsProvedAt, IsProved, tells, ToldStaysProved, CutToldStaysProved}
 
 -- ---- so many seconds
 
 -- what says how long it lasts, lasts so many seconds
-abbrev pub LastsFor : ℕ → Option Lasting → Type 0
-LastsFor n lasting = IfSome lasting (λ l. n ≤ l.seconds)
+abbrev pub LastsFor : ℕ → Option Validity → Type 0
+LastsFor n validity = IfSome validity (λ l. n ≤ l.seconds)
 
-pub both_last : (n : ℕ) (a b : Option Lasting) → LastsFor n (least_of a b) → LastsFor n a × LastsFor n b
+pub both_last : (n : ℕ) (a b : Option Validity) → LastsFor n (least_of a b) → LastsFor n a × LastsFor n b
 both_last n (Some a) (Some b) lasts = let few : n ≤ min a.seconds b.seconds = lasts in (omega (arith, few), omega (arith, few))
 both_last n (Some a) None lasts = (lasts, tt)
 both_last n None (Some b) lasts = (tt, lasts)
@@ -62,7 +62,7 @@ has_ds a k h v is signed = go (first_refusal k h) (nat_eq (length h.ds) 0) refl 
     go None true same is = absurd (signed (let both : Says Unsigned ≡ Says v = is in cc))
 
 -- what is said there lasts
-said_lasts : (a : Answers) (k : ℕ) (h : JudgeInput) (v : Verdict) → judged a k h ≡ Says v → nat_eq (length h.ds) 0 ≡ false → (l : Lasting) × (facts.lasting_of a k h ≡ Some l)
+said_lasts : (a : Answers) (k : ℕ) (h : JudgeInput) (v : Verdict) → judged a k h ≡ Says v → nat_eq (length h.ds) 0 ≡ false → (l : Validity) × (facts.validity_of_input a k h ≡ Some l)
 said_lasts a k h v is some = go (first_refusal k h) (nat_eq (length h.ds) 0) some (message k h.dnskey_bytes) (message k h.answer_bytes) is
   where
     go : (o : Option Refusal) (b : Bool) → b ≡ false → (x y : Result Message MessageError)
@@ -73,15 +73,15 @@ said_lasts a k h v is some = go (first_refusal k h) (nat_eq (length h.ds) 0) som
             | Ok keys ↦ elim y as (λ _. Answer) [ Err e ↦ Refuses r.BadAnswerMessage | Ok answer ↦ judged_messages a k h keys answer ]
           ])
         ] ≡ Says v
-        → (l : Lasting) × ((if b then None else (elim x as (λ _. Option Lasting) [
+        → (l : Validity) × ((if b then None else (elim x as (λ _. Option Validity) [
           | Err e ↦ None
-          | Ok keys ↦ elim y as (λ _. Option Lasting) [ Err e ↦ None | Ok answer ↦ Some (lasting_in_messages a k h keys answer) ]
+          | Ok keys ↦ elim y as (λ _. Option Validity) [ Err e ↦ None | Ok answer ↦ Some (validity_in_messages a k h keys answer) ]
         ])) ≡ Some l)
     go o true none x y is = absurd (false≢true (sym none))
     go (Some e) false none x y is = absurd cc
     go None false none (Err e) y is = absurd cc
     go None false none (Ok keys) (Err e) is = absurd cc
-    go None false none (Ok keys) (Ok answer) is = (lasting_in_messages a k h keys answer, refl)
+    go None false none (Ok keys) (Ok answer) is = (validity_in_messages a k h keys answer, refl)
 
 said_now : (table : List Checked) (h : JudgeInput) (said : Result Judgement Refused) (v : Verdict) → IsJudgedBy table h said → answer_of said ≡ Says v → IsSaid table h v
 said_now table h said v is e = λ passes agrees. elim ((is.by_table passes agrees).exact) [
@@ -160,13 +160,13 @@ lead_proves table h (SeesReferral c ds) k p = absurd (false≢true k)
 module _ (table : List Checked) (at later n : ℕ) (after : at ≤ later) (late : later / 1000000000 ≤ at / 1000000000 + n) where
   -- what a judgement says that lasts
   stays : (h : JudgeInput) (said : Result Judgement Refused) (v : Verdict) → AreOctets h.dnskey_bytes → AreOctets h.answer_bytes → IsJudgedBy table (at_moment at h) said
-      → answer_of said ≡ Says v → nat_eq (length h.ds) 0 ≡ false → LastsFor n (lasting_of said) → IsSaid table (at_moment later h) v
+      → answer_of said ≡ Says v → nat_eq (length h.ds) 0 ≡ false → LastsFor n (validity_of said) → IsSaid table (at_moment later h) v
   stays h (Err refused) v keys answer is e some lasts = absurd cc
   stays h (Ok j) v keys answer is e some lasts = λ passes agrees.
       let a : Answers = answers_with passes in
       let now : judged a pointer_limit (at_moment at h) ≡ Says v = said_now table (at_moment at h) (Ok j) v is e passes agrees in
       let k = said_lasts a pointer_limit (at_moment at h) v now some in
-      let l_is : j.lasting ≡ Some k.0 = is.lasts passes agrees ∙ k.1 in
+      let l_is : j.validity ≡ Some k.0 = is.lasts passes agrees ∙ k.1 in
       let few : n ≤ k.0.seconds = subst (LastsFor n) l_is lasts in
       verdicts_last a pointer_limit h at later k.0 keys answer k.1 after (omega (arith, few, late)) ∙ now
 
@@ -179,7 +179,7 @@ module _ (table : List Checked) (at later n : ℕ) (after : at ≤ later) (late 
 
     -- of another question
     aside_stays : (q : Asked) (said : Result Judgement Refused) (wanted : Option Asked) (v : Verdict) → IsJudgedBy table (aside now q) said → Some q ≡ wanted → answer_of said ≡ Says v → (v ≡ Unsigned → ⊥)
-        → LastsFor n (lasting_of said) → IsSaidAside table moved wanted q v
+        → LastsFor n (validity_of said) → IsSaidAside table moved wanted q v
     aside_stays q said wanted v is asked e signed lasts = record {
       is = sym asked;
       said = stays (aside h q) said v keys answer is e (ds_there table (aside now q) said v is e signed) lasts;
@@ -190,7 +190,7 @@ module _ (table : List Checked) (at later n : ℕ) (after : at ≤ later) (late 
     kind_of : (q : Asked) (said : Result Judgement Refused) (x : Seen) → IsJudgedBy table (aside now q) said → lead_said now q (answer_of said) ≡ Some x → is_lead x ≡ true
     kind_of q said x is e = said_leads now q (answer_of said) x e
 
-    lead_of : (q : Asked) (said : Result Judgement Refused) (x : Seen) → IsJudgedBy table (aside now q) said → Some q ≡ alias_hint pointer_limit h → lead_said now q (answer_of said) ≡ Some x → LastsFor n (lasting_of said)
+    lead_of : (q : Asked) (said : Result Judgement Refused) (x : Seen) → IsJudgedBy table (aside now q) said → Some q ≡ alias_hint pointer_limit h → lead_said now q (answer_of said) ≡ Some x → LastsFor n (validity_of said)
         → IsLeadProved table moved x
     lead_of q said x is asked e lasts = go (answer_of said) refl e
       where
@@ -206,7 +206,7 @@ module _ (table : List Checked) (at later n : ℕ) (after : at ≤ later) (late 
     -- ---- referrals
 
     referral_of : (q : Asked) (said : Result Judgement Refused) (x : Seen) → IsJudgedBy table (aside now q) said → Some q ≡ cut_question pointer_limit h 43 → referral_said q.name (answer_of said) ≡ Some x
-        → ((c : Name) (ds : List (List ℕ)) → SeesReferral c ds ≡ x → LastsFor n (lasting_of said)) → Proves table moved x
+        → ((c : Name) (ds : List (List ℕ)) → SeesReferral c ds ≡ x → LastsFor n (validity_of said)) → Proves table moved x
     referral_of q said x is asked e lasts = go (answer_of said) refl e
       where
         records : (ds : List (List ℕ)) → answer_of said ≡ Says (Records ds) → SeesReferral q.name ds ≡ x → Proves table moved x
@@ -244,18 +244,18 @@ module _ (table : List Checked) (at later n : ℕ) (after : at ≤ later) (late 
     delegated_is (Refuses e) k = absurd (false≢true k)
 
     -- how long a verdict lasts that a name is delegated, with its cut or without
-    abbrev cut_lasting : Option Lasting → Option Lasting → Option Lasting → Option Name → Option Lasting
-    cut_lasting own ns ds None = own
-    cut_lasting own ns ds (Some c) = least_of (least_of own ns) ds
+    abbrev cut_validity : Option Validity → Option Validity → Option Validity → Option Name → Option Validity
+    cut_validity own ns ds None = own
+    cut_validity own ns ds (Some c) = least_of (least_of own ns) ds
 
-    cut_of : (q p : Asked) (said ds_said : Result Judgement Refused) (own : Option Lasting) → IsJudgedBy table (aside now q) said → IsJudgedBy table (aside now p) ds_said
+    cut_of : (q p : Asked) (said ds_said : Result Judgement Refused) (own : Option Validity) → IsJudgedBy table (aside now q) said → IsJudgedBy table (aside now p) ds_said
         → Some q ≡ cut_question pointer_limit h 2 → Some p ≡ cut_question pointer_limit h 43 → IsSaid table moved Delegated → (b : Bool) → (says_delegated (answer_of said) && answers_ds (answer_of ds_said)) ≡ b
-        → LastsFor n (cut_lasting own (lasting_of said) (lasting_of ds_said) (if b then Some q.name else None)) → Proves table moved (SeesDelegated (if b then Some q.name else None))
+        → LastsFor n (cut_validity own (validity_of said) (validity_of ds_said) (if b then Some q.name else None)) → Proves table moved (SeesDelegated (if b then Some q.name else None))
     cut_of q p said ds_said own is ds_is asked ds_asked delegated false e lasts = delegated
     cut_of q p said ds_said own is ds_is asked ds_asked delegated true e lasts =
         let both = and_parts (says_delegated (answer_of said)) (answers_ds (answer_of ds_said)) e in
-        let outer = both_last n (least_of own (lasting_of said)) (lasting_of ds_said) lasts in
-        let inner = both_last n own (lasting_of said) outer.0 in
+        let outer = both_last n (least_of own (validity_of said)) (validity_of ds_said) lasts in
+        let inner = both_last n own (validity_of said) outer.0 in
         let v = answered (answer_of ds_said) both.1 in
         let k : answers_ds (Says v.0) ≡ true = subst (λ x. answers_ds x ≡ true) v.1 both.1 in (
           delegated,
@@ -280,7 +280,7 @@ module _ (table : List Checked) (at later n : ℕ) (after : at ≤ later) (late 
     sought_is q false e = absurd cc
 
     whether_of : (q : Asked) (said : Result Judgement Refused) (seeks : Bool) (d : Bool) → nat_eq (length h.ds) 0 ≡ false → IsJudgedBy table (aside now q) said → Some q ≡ sought_ns seeks
-        → delegates_said (answer_of said) ≡ Some d → LastsFor n (lasting_of said) → IsWhetherProved table moved d
+        → delegates_said (answer_of said) ≡ Some d → LastsFor n (validity_of said) → IsWhetherProved table moved d
     whether_of q said seeks d some is asked e lasts = go (answer_of said) refl e
       where
         go : (a : Answer) → answer_of said ≡ a → delegates_said a ≡ Some d → IsWhetherProved table moved d
@@ -292,20 +292,20 @@ module _ (table : List Checked) (at later n : ℕ) (after : at ≤ later) (late 
 
     -- ---- what is found
 
-    module _ (found : Result Seen Refusal) (l : Option Lasting) (verifications hashes : ℕ) (is : IsFoundBy table now found l verifications hashes) where
-      own_stays : (v : Verdict) → answer_of is.judgements.own ≡ Says v → (v ≡ Unsigned → ⊥) → LastsFor n (lasting_of is.judgements.own) → IsSaid table moved v
+    module _ (found : Result Seen Refusal) (l : Option Validity) (verifications hashes : ℕ) (is : IsFoundBy table now found l verifications hashes) where
+      own_stays : (v : Verdict) → answer_of is.judgements.own ≡ Says v → (v ≡ Unsigned → ⊥) → LastsFor n (validity_of is.judgements.own) → IsSaid table moved v
       own_stays v e signed lasts = stays h is.judgements.own v keys answer is.are.own e (ds_there table now is.judgements.own v is.are.own e signed) lasts
 
       -- where a lead lasts, so does the judgement that proves it
-      lead_lasting : (x : Seen) → is_lead x ≡ true → LastsFor n (lasting_by (lastings_of is.judgements) x) → LastsFor n (lasting_in is.judgements.alias)
-      lead_lasting (SeesAlias target) k lasts = lasts
-      lead_lasting (SeesStarAlias target) k lasts = lasts
-      lead_lasting SeesOpen k lasts = lasts
-      lead_lasting (SeesDname owner lead) k lasts = lasts
-      lead_lasting (SeesVerdict v) k lasts = absurd (false≢true k)
-      lead_lasting (SeesDelegated c) k lasts = absurd (false≢true k)
-      lead_lasting (SeesNoDs d) k lasts = absurd (false≢true k)
-      lead_lasting (SeesReferral c ds) k lasts = absurd (false≢true k)
+      lead_validity : (x : Seen) → is_lead x ≡ true → LastsFor n (validity_by (validities_of is.judgements) x) → LastsFor n (validity_in is.judgements.alias)
+      lead_validity (SeesAlias target) k lasts = lasts
+      lead_validity (SeesStarAlias target) k lasts = lasts
+      lead_validity SeesOpen k lasts = lasts
+      lead_validity (SeesDname owner lead) k lasts = lasts
+      lead_validity (SeesVerdict v) k lasts = absurd (false≢true k)
+      lead_validity (SeesDelegated c) k lasts = absurd (false≢true k)
+      lead_validity (SeesNoDs d) k lasts = absurd (false≢true k)
+      lead_validity (SeesReferral c ds) k lasts = absurd (false≢true k)
 
       lead_is : (x : Seen) → lead_found now is.judgements.alias ≡ Some x → is_lead x ≡ true
       lead_is x = (elim (is.judgements.alias) as (λ o. IfSome o (IsMade table now) → lead_found now o ≡ Some x → is_lead x ≡ true) [
@@ -313,45 +313,45 @@ module _ (table : List Checked) (at later n : ℕ) (after : at ≤ later) (late 
         | Some m ↦ λ made e. kind_of (question_of m) _ x made e
       ]) is.are.alias.judged
 
-      lead_stays : (x : Seen) → asked_in is.judgements.alias ≡ alias_hint pointer_limit h → lead_found now is.judgements.alias ≡ Some x → LastsFor n (lasting_in is.judgements.alias) → IsLeadProved table moved x
-      lead_stays x = (elim (is.judgements.alias) as (λ o. IfSome o (IsMade table now) → asked_in o ≡ alias_hint pointer_limit h → lead_found now o ≡ Some x → LastsFor n (lasting_in o) → IsLeadProved table moved x) [
+      lead_stays : (x : Seen) → asked_in is.judgements.alias ≡ alias_hint pointer_limit h → lead_found now is.judgements.alias ≡ Some x → LastsFor n (validity_in is.judgements.alias) → IsLeadProved table moved x
+      lead_stays x = (elim (is.judgements.alias) as (λ o. IfSome o (IsMade table now) → asked_in o ≡ alias_hint pointer_limit h → lead_found now o ≡ Some x → LastsFor n (validity_in o) → IsLeadProved table moved x) [
         | None ↦ λ made asked e lasts. absurd cc
         | Some m ↦ λ made asked e lasts. lead_of (question_of m) _ x made asked e lasts
       ]) is.are.alias.judged
 
-      referral_stays : (x : Seen) → asked_in is.judgements.ds ≡ cut_question pointer_limit h 43 → referral_found is.judgements.ds ≡ Some x → LastsFor n (lasting_by (lastings_of is.judgements) x) → Proves table moved x
+      referral_stays : (x : Seen) → asked_in is.judgements.ds ≡ cut_question pointer_limit h 43 → referral_found is.judgements.ds ≡ Some x → LastsFor n (validity_by (validities_of is.judgements) x) → Proves table moved x
       referral_stays x asked e lasts =
           (elim (is.judgements.ds) as (λ o. IfSome o (IsMade table now) → asked_in o ≡ cut_question pointer_limit h 43 → referral_found o ≡ Some x
-          → ((c : Name) (ds : List (List ℕ)) → SeesReferral c ds ≡ x → LastsFor n (lasting_in o)) → Proves table moved x) [
+          → ((c : Name) (ds : List (List ℕ)) → SeesReferral c ds ≡ x → LastsFor n (validity_in o)) → Proves table moved x) [
             | None ↦ λ made a k long. absurd cc
             | Some m ↦ λ made a k long. referral_of (question_of m) _ x made a k long
-          ]) is.are.ds.judged asked e (λ c ds k. subst (λ y. LastsFor n (lasting_by (lastings_of is.judgements) y)) (sym k) lasts)
+          ]) is.are.ds.judged asked e (λ c ds k. subst (λ y. LastsFor n (validity_by (validities_of is.judgements) y)) (sym k) lasts)
 
-      cut_lasts : (o : Option Name) → LastsFor n (lasting_by (lastings_of is.judgements) (SeesDelegated o)) → LastsFor n (cut_lasting (lasting_of is.judgements.own) (lasting_in is.judgements.ns) (lasting_in is.judgements.ds) o)
+      cut_lasts : (o : Option Name) → LastsFor n (validity_by (validities_of is.judgements) (SeesDelegated o)) → LastsFor n (cut_validity (validity_of is.judgements.own) (validity_in is.judgements.ns) (validity_in is.judgements.ds) o)
       cut_lasts None lasts = lasts
       cut_lasts (Some c) lasts = lasts
 
-      own_lasts : (own ns ds : Option Lasting) (o : Option Name) → LastsFor n (cut_lasting own ns ds o) → LastsFor n own
+      own_lasts : (own ns ds : Option Validity) (o : Option Name) → LastsFor n (cut_validity own ns ds o) → LastsFor n own
       own_lasts own ns ds None lasts = lasts
       own_lasts own ns ds (Some c) lasts = (both_last n own ns (both_last n (least_of own ns) ds lasts).0).0
 
-      cut_stays : (own : Option Lasting) → IsSaid table moved Delegated → asked_in is.judgements.ns ≡ cut_question pointer_limit h 2 → asked_in is.judgements.ds ≡ cut_question pointer_limit h 43
-          → LastsFor n (cut_lasting own (lasting_in is.judgements.ns) (lasting_in is.judgements.ds) (cut_found is.judgements.ns is.judgements.ds)) → Proves table moved (SeesDelegated (cut_found is.judgements.ns is.judgements.ds))
+      cut_stays : (own : Option Validity) → IsSaid table moved Delegated → asked_in is.judgements.ns ≡ cut_question pointer_limit h 2 → asked_in is.judgements.ds ≡ cut_question pointer_limit h 43
+          → LastsFor n (cut_validity own (validity_in is.judgements.ns) (validity_in is.judgements.ds) (cut_found is.judgements.ns is.judgements.ds)) → Proves table moved (SeesDelegated (cut_found is.judgements.ns is.judgements.ds))
       cut_stays own delegated =
           (elim (is.judgements.ns) as (λ o. IfSome o (IsMade table now) → asked_in o ≡ cut_question pointer_limit h 2 → asked_in is.judgements.ds ≡ cut_question pointer_limit h 43
-          → LastsFor n (cut_lasting own (lasting_in o) (lasting_in is.judgements.ds) (cut_found o is.judgements.ds)) → Proves table moved (SeesDelegated (cut_found o is.judgements.ds))) [
+          → LastsFor n (cut_validity own (validity_in o) (validity_in is.judgements.ds) (cut_found o is.judgements.ds)) → Proves table moved (SeesDelegated (cut_found o is.judgements.ds))) [
             | None ↦ λ made asked ds_asked lasts. delegated
             | Some m ↦ λ made asked ds_asked lasts.
                 (elim (is.judgements.ds) as (λ o. IfSome o (IsMade table now) → asked_in o ≡ cut_question pointer_limit h 43
-                → LastsFor n (cut_lasting own (lasting_in (Some m)) (lasting_in o) (cut_found (Some m) o)) → Proves table moved (SeesDelegated (cut_found (Some m) o))) [
+                → LastsFor n (cut_validity own (validity_in (Some m)) (validity_in o) (cut_found (Some m) o)) → Proves table moved (SeesDelegated (cut_found (Some m) o))) [
                   | None ↦ λ ds_made a long. delegated
                   | Some d ↦ λ ds_made a long. cut_of (question_of m) (question_of d) _ _ own made ds_made asked a delegated _ refl long
                 ]) is.are.ds.judged ds_asked lasts
           ]) is.are.ns.judged
 
-      whether_stays : (seeks d : Bool) → nat_eq (length h.ds) 0 ≡ false → asked_in is.judgements.ns ≡ sought_ns seeks → delegates_found now is.judgements.ns ≡ Some d → LastsFor n (lasting_in is.judgements.ns) → IsWhetherProved table moved d
+      whether_stays : (seeks d : Bool) → nat_eq (length h.ds) 0 ≡ false → asked_in is.judgements.ns ≡ sought_ns seeks → delegates_found now is.judgements.ns ≡ Some d → LastsFor n (validity_in is.judgements.ns) → IsWhetherProved table moved d
       whether_stays seeks d some =
-          (elim (is.judgements.ns) as (λ o. IfSome o (IsMade table now) → asked_in o ≡ sought_ns seeks → delegates_found now o ≡ Some d → LastsFor n (lasting_in o) → IsWhetherProved table moved d) [
+          (elim (is.judgements.ns) as (λ o. IfSome o (IsMade table now) → asked_in o ≡ sought_ns seeks → delegates_found now o ≡ Some d → LastsFor n (validity_in o) → IsWhetherProved table moved d) [
             | None ↦ λ made asked e lasts. at_apex (same h.asked.name h.apex) refl None e (λ k. absurd cc)
             | Some m ↦ λ made asked e lasts. at_apex (same h.asked.name h.apex) refl _ e (λ k. whether_of (question_of m) _ seeks d some made asked k lasts)
           ]) is.are.ns.judged
@@ -361,30 +361,30 @@ module _ (table : List Checked) (at later n : ℕ) (after : at ≤ later) (late 
           at_apex false apex other k f = f k
 
       no_ds_stays : (seeks : Bool) → answer_of is.judgements.own ≡ Says NoType → asked_in is.judgements.ns ≡ sought_ns seeks → (o : Option Bool) → delegates_found now is.judgements.ns ≡ o
-          → LastsFor n (lasting_by (lastings_of is.judgements) (no_ds_found o)) → Proves table moved (no_ds_found o)
+          → LastsFor n (validity_by (validities_of is.judgements) (no_ds_found o)) → Proves table moved (no_ds_found o)
       no_ds_stays seeks s asked None e lasts = own_stays NoType s (λ u. cc) lasts
       no_ds_stays seeks s asked (Some d) e lasts =
-          let both = both_last n (lasting_of is.judgements.own) (lasting_in is.judgements.ns) lasts in
+          let both = both_last n (validity_of is.judgements.own) (validity_in is.judgements.ns) lasts in
           let some = ds_there table now is.judgements.own NoType is.are.own s (λ u. cc) in
           (own_stays NoType s (λ u. cc) both.0, whether_stays seeks d some asked e both.1)
 
       no_type_stays : (b : Bool) → answer_of is.judgements.own ≡ Says NoType
-          → LastsFor n (lasting_by (lastings_of is.judgements) (if b then no_ds_found (delegates_found now is.judgements.ns) else SeesVerdict NoType))
+          → LastsFor n (validity_by (validities_of is.judgements) (if b then no_ds_found (delegates_found now is.judgements.ns) else SeesVerdict NoType))
           → Proves table moved (if b then no_ds_found (delegates_found now is.judgements.ns) else SeesVerdict NoType)
       no_type_stays true s lasts = no_ds_stays (seeks_delegation now (Says NoType)) s (is.are.ns.asked ∙ ap (ns_question pointer_limit now) s) (delegates_found now is.judgements.ns) refl lasts
       no_type_stays false s lasts = own_stays NoType s (λ u. cc) lasts
 
-      delegated_stays : answer_of is.judgements.own ≡ Says Delegated → LastsFor n (lasting_by (lastings_of is.judgements) (SeesDelegated (cut_found is.judgements.ns is.judgements.ds)))
+      delegated_stays : answer_of is.judgements.own ≡ Says Delegated → LastsFor n (validity_by (validities_of is.judgements) (SeesDelegated (cut_found is.judgements.ns is.judgements.ds)))
           → Proves table moved (SeesDelegated (cut_found is.judgements.ns is.judgements.ds))
       delegated_stays s lasts =
           let long = cut_lasts (cut_found is.judgements.ns is.judgements.ds) lasts in
           let asked : asked_in is.judgements.ns ≡ cut_question pointer_limit h 2 = is.are.ns.asked ∙ ap (ns_question pointer_limit now) s in
           let ds_asked : asked_in is.judgements.ds ≡ cut_question pointer_limit h 43 = is.are.ds.asked ∙ ap (λ a. ds_question pointer_limit now a (is_some (lead_found now is.judgements.alias))) s in
-          let own = own_stays Delegated s (λ u. cc) (own_lasts (lasting_of is.judgements.own) (lasting_in is.judgements.ns) (lasting_in is.judgements.ds) (cut_found is.judgements.ns is.judgements.ds) long) in
-          cut_stays (lasting_of is.judgements.own) own asked ds_asked long
+          let own = own_stays Delegated s (λ u. cc) (own_lasts (validity_of is.judgements.own) (validity_in is.judgements.ns) (validity_in is.judgements.ds) (cut_found is.judgements.ns is.judgements.ds) long) in
+          cut_stays (validity_of is.judgements.own) own asked ds_asked long
 
       verdict_stays : (w : Verdict) → answer_of is.judgements.own ≡ Says w → (w ≡ Unsigned → ⊥)
-          → LastsFor n (lasting_by (lastings_of is.judgements) (verdict_found now is.judgements.ns is.judgements.ds w)) → Proves table moved (verdict_found now is.judgements.ns is.judgements.ds w)
+          → LastsFor n (validity_by (validities_of is.judgements) (verdict_found now is.judgements.ns is.judgements.ds w)) → Proves table moved (verdict_found now is.judgements.ns is.judgements.ds w)
       verdict_stays (Records ds) s signed lasts = own_stays (Records ds) s signed lasts
       verdict_stays NoName s signed lasts = own_stays NoName s signed lasts
       verdict_stays (StarRecords ds) s signed lasts = own_stays (StarRecords ds) s signed lasts
@@ -395,12 +395,12 @@ module _ (table : List Checked) (at later n : ℕ) (after : at ≤ later) (late 
       verdict_stays NoType s signed lasts = no_type_stays (h.asked.rtype == 43) s lasts
 
       -- where the case itself proves nothing
-      module _ (x : Seen) (lasts : LastsFor n (lasting_by (lastings_of is.judgements) x)) where
+      module _ (x : Seen) (lasts : LastsFor n (validity_by (validities_of is.judgements) x)) where
         by_lead : (t : Seen) → asked_in is.judgements.alias ≡ alias_hint pointer_limit h → lead_found now is.judgements.alias ≡ Some t → t ≡ x → Proves table moved x
         by_lead t asked led same =
             let at_x : lead_found now is.judgements.alias ≡ Some x = led ∙ ap (λ (y : Seen). Some y) same in
             let kind : is_lead x ≡ true = lead_is x at_x in
-            lead_proves table moved x kind (lead_stays x asked at_x (lead_lasting x kind lasts))
+            lead_proves table moved x kind (lead_stays x asked at_x (lead_validity x kind lasts))
 
         by_referral : (o : Option Seen) (e : Refusal) → referral_found is.judgements.ds ≡ o → asked_in is.judgements.ds ≡ cut_question pointer_limit h 43 → found_or e o ≡ Ok x → Proves table moved x
         by_referral None e led asked k = absurd cc
@@ -422,30 +422,30 @@ module _ (table : List Checked) (at later n : ℕ) (after : at ≤ later) (late 
         by_answer signed (Says w) s k =
             let same : verdict_found now is.judgements.ns is.judgements.ds w ≡ x = (let both : Ok (verdict_found now is.judgements.ns is.judgements.ds w) ≡ Ok x = k in cc) in
             let unsigned : w ≡ Unsigned → ⊥ = λ u. signed (sym same ∙ ap (verdict_found now is.judgements.ns is.judgements.ds) u) in
-            subst (Proves table moved) same (verdict_stays w s unsigned (subst (λ y. LastsFor n (lasting_by (lastings_of is.judgements) y)) (sym same) lasts))
+            subst (Proves table moved) same (verdict_stays w s unsigned (subst (λ y. LastsFor n (validity_by (validities_of is.judgements) y)) (sym same) lasts))
         by_answer signed (Refuses e) s k =
             by_refusal (is_not_proven e) e (is.are.alias.asked ∙ ap (alias_question pointer_limit now) s)
             (is.are.ds.asked ∙ ap (λ a. ds_question pointer_limit now a (is_some (lead_found now is.judgements.alias))) s) k
 
     -- what is found
-    pub found_stays : (x : Seen) (l : Option Lasting) (verifications hashes : ℕ) → IsFoundBy table now (Ok x) l verifications hashes → (x ≡ SeesVerdict Unsigned → ⊥) → LastsFor n l → Proves table moved x
+    pub found_stays : (x : Seen) (l : Option Validity) (verifications hashes : ℕ) → IsFoundBy table now (Ok x) l verifications hashes → (x ≡ SeesVerdict Unsigned → ⊥) → LastsFor n l → Proves table moved x
     found_stays x l verifications hashes is signed lasts =
         by_answer (Ok x) l verifications hashes is x (subst (LastsFor n) is.lasts lasts) signed (answer_of is.judgements.own) refl (sym is.says)
 
     -- ---- searches
 
-    searched_stays : (x : Seen) (l : Option Lasting) (counts : Counts) → IsSearched table now (Sees x) l counts → (x ≡ SeesVerdict Unsigned → ⊥) → LastsFor n l → Proves table moved x
+    searched_stays : (x : Seen) (l : Option Validity) (counts : Counts) → IsSearched table now (Sees x) l counts → (x ≡ SeesVerdict Unsigned → ⊥) → LastsFor n l → Proves table moved x
     searched_stays x l counts s signed lasts = go s.found s.is_found s.is s.lasts
       where
-        go : (found : Found) → IsFound table now found → Sees x ≡ search_of found → l ≡ tells_of.lasting_of found → Proves table moved x
-        go (f.Finds finding lasting verifications hashes) is e same =
-            let x_is : seen finding ≡ x = (let both : Sees x ≡ Sees (seen finding) = e in cc) in
-            subst (Proves table moved) x_is (found_stays (seen finding) lasting verifications hashes is (λ u. signed (sym x_is ∙ u)) (subst (LastsFor n) same lasts))
+        go : (found : AnswerOutcome) → IsFound table now found → Sees x ≡ search_of found → l ≡ tells_of.validity_of_outcome found → Proves table moved x
+        go (f.Means meaning validity verifications hashes) is e same =
+            let x_is : seen meaning ≡ x = (let both : Sees x ≡ Sees (seen meaning) = e in cc) in
+            subst (Proves table moved) x_is (found_stays (seen meaning) validity verifications hashes is (λ u. signed (sym x_is ∙ u)) (subst (LastsFor n) same lasts))
         go (f.Refused refusal verifications hashes) is e same = absurd cc
         go (f.Asks asks verifications hashes) is e same = absurd cc
 
     -- what is told of a delegation
-    pub cut_told_stays : (algorithms : List ℕ) (said : StepSeen) (l : Option Lasting) (counts : Counts) → IsCutTold algorithms table now said l counts → tells said ≡ true → LastsFor n l → IsCutProved algorithms table moved said
+    pub cut_told_stays : (algorithms : List ℕ) (said : StepSeen) (l : Option Validity) (counts : Counts) → IsCutTold algorithms table now said l counts → tells said ≡ true → LastsFor n l → IsCutProved algorithms table moved said
     cut_told_stays algorithms said l counts is some lasts = go is.came is.searched is.is
       where
         go : (came : Search) → IsSearched table now came l counts → said ≡ cut_searched algorithms h.asked.name came → IsCutProved algorithms table moved said
@@ -463,33 +463,33 @@ at_cut_tells _ k = refl
 
 -- what is told of the question
 module _ (algorithms : List ℕ) (table : List Checked) (at later n : ℕ) (after : at ≤ later) (late : later / 1000000000 ≤ at / 1000000000 + n) (h : JudgeInput) (keys : AreOctets h.dnskey_bytes) (answer : AreOctets h.answer_bytes) where
-  told_at_stays : (c : Name) (lasting : Option Lasting) (counts : Counts) (said : StepSeen) (l : Option Lasting) (m : Counts) → IsToldAt algorithms table (at_moment at h) c lasting counts said l m
+  told_at_stays : (c : Name) (validity : Option Validity) (counts : Counts) (said : StepSeen) (l : Option Validity) (m : Counts) → IsToldAt algorithms table (at_moment at h) c validity counts said l m
       → tells said ≡ true → LastsFor n l → IsProvedAt algorithms table (at_moment later h) c said
-  told_at_stays c lasting counts said l m is some lasts =
-      let long = both_last n lasting is.below_lasting (subst (LastsFor n) is.lasts lasts) in
+  told_at_stays c validity counts said l m is some lasts =
+      let long = both_last n validity is.below_validity (subst (LastsFor n) is.lasts lasts) in
       let tells_it : tells is.below ≡ true = at_cut_tells is.below (ap tells (sym is.is) ∙ some) in
       record {
         below = is.below;
-        proved = cut_told_stays table at later n after late (aside h (asking h c 43)) keys answer algorithms is.below is.below_lasting is.below_counts is.told_is tells_it long.1;
+        proved = cut_told_stays table at later n after late (aside h (asking h c 43)) keys answer algorithms is.below is.below_validity is.below_counts is.told_is tells_it long.1;
         is = is.is;
       }
 
-  pub told_stays : (said : StepSeen) (l : Option Lasting) (counts : Counts) → IsTold algorithms table (at_moment at h) said l counts → tells said ≡ true → LastsFor n l → IsProved algorithms table (at_moment later h) said
+  pub told_stays : (said : StepSeen) (l : Option Validity) (counts : Counts) → IsTold algorithms table (at_moment at h) said l counts → tells said ≡ true → LastsFor n l → IsProved algorithms table (at_moment later h) said
   told_stays said l counts is some lasts = go is.came is.searched is.is
     where
-      alone : (x : Seen) → IsSearched table (at_moment at h) (Sees x) is.found_lasting is.found_counts → said ≡ seen_told algorithms h.asked x → l ≡ is.found_lasting → Proves table (at_moment later h) x
+      alone : (x : Seen) → IsSearched table (at_moment at h) (Sees x) is.found_validity is.found_counts → said ≡ seen_told algorithms h.asked x → l ≡ is.found_validity → Proves table (at_moment later h) x
       alone x s e same =
           let signed : x ≡ SeesVerdict Unsigned → ⊥ = λ u. false≢true (ap tells (sym (e ∙ ap (seen_told algorithms h.asked) u)) ∙ some) in
-          searched_stays table at later n after late h keys answer x is.found_lasting is.found_counts s signed (subst (LastsFor n) same lasts)
+          searched_stays table at later n after late h keys answer x is.found_validity is.found_counts s signed (subst (LastsFor n) same lasts)
 
-      by_seen : (x : Seen) → IsSearched table (at_moment at h) (Sees x) is.found_lasting is.found_counts → IsSeenTold algorithms table (at_moment at h) x is.found_lasting is.found_counts said l counts
+      by_seen : (x : Seen) → IsSearched table (at_moment at h) (Sees x) is.found_validity is.found_counts → IsSeenTold algorithms table (at_moment at h) x is.found_validity is.found_counts said l counts
           → IsProved algorithms table (at_moment later h) said
       by_seen (SeesDelegated (Some c)) s to =
-          let long = both_last n is.found_lasting to.below_lasting (subst (LastsFor n) to.lasts lasts) in
+          let long = both_last n is.found_validity to.below_validity (subst (LastsFor n) to.lasts lasts) in
           record {
             seen = SeesDelegated (Some c);
-            proves = searched_stays table at later n after late h keys answer (SeesDelegated (Some c)) is.found_lasting is.found_counts s (λ u. cc) long.0;
-            is = told_at_stays c is.found_lasting is.found_counts said l counts to some lasts;
+            proves = searched_stays table at later n after late h keys answer (SeesDelegated (Some c)) is.found_validity is.found_counts s (λ u. cc) long.0;
+            is = told_at_stays c is.found_validity is.found_counts said l counts to some lasts;
           }
       by_seen (SeesDelegated None) s to = record { seen = SeesDelegated None; proves = alone (SeesDelegated None) s to.0 to.1; is = to.0 }
       by_seen (SeesVerdict v) s to = record { seen = SeesVerdict v; proves = alone (SeesVerdict v) s to.0 to.1; is = to.0 }
@@ -500,8 +500,8 @@ module _ (algorithms : List ℕ) (table : List Checked) (at later n : ℕ) (afte
       by_seen (SeesDname owner lead) s to = record { seen = SeesDname owner lead; proves = alone (SeesDname owner lead) s to.0 to.1; is = to.0 }
       by_seen (SeesReferral c datas) s to = record { seen = SeesReferral c datas; proves = alone (SeesReferral c datas) s to.0 to.1; is = to.0 }
 
-      go : (came : Search) → IsSearched table (at_moment at h) came is.found_lasting is.found_counts
-          → IsSearchTold algorithms table (at_moment at h) came is.found_lasting is.found_counts said l counts → IsProved algorithms table (at_moment later h) said
+      go : (came : Search) → IsSearched table (at_moment at h) came is.found_validity is.found_counts
+          → IsSearchTold algorithms table (at_moment at h) came is.found_validity is.found_counts said l counts → IsProved algorithms table (at_moment later h) said
       go (Sees x) s to = by_seen x s to
       go (tells_of.Refuses refusal) s to = absurd (false≢true (ap tells (sym to.0) ∙ some))
       go (Wants asks) s to = absurd (false≢true (ap tells (sym to.0) ∙ some))

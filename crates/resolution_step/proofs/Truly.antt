@@ -18,10 +18,10 @@ use Rattle.denial_laws.proofs.ZoneCuts as cuts
 use Rattle.answer_findings.specs.Honest.{IsSaidByOne}
 use Rattle.answer_findings.specs.Versions.{Version, zone_in}
 use Rattle.answer_judge.specs.Judging.{JudgeInput}
-use Rattle.answer_judge_facts.specs.declared.lasting.Lasting.{Lasting}
+use Rattle.answer_judge_facts.specs.declared.validity.Validity.{Validity}
 use Rattle.answer_findings.specs.Table.{Checked}
-use Rattle.answer_findings.specs.declared.finding.Found.{Found}
-use Rattle.answer_findings.specs.declared.finding.Found.TheVariants as f
+use Rattle.answer_findings.specs.declared.meaning.AnswerOutcome.{AnswerOutcome}
+use Rattle.answer_findings.specs.declared.meaning.AnswerOutcome.TheVariants as f
 use Rattle.answer_findings.specs.Found.{IsFound}
 use Rattle.answer_findings.specs.Judgements.{aside, asking}
 use Rattle.answer_findings.specs.Laws.{HasRecords}
@@ -33,10 +33,10 @@ use Rattle.resolution_tree.specs.Orderly.{IsOrderlyZone}
 use Rattle.resolution_tree.proofs.Trees.{lead_uncut, no_data, referred, refers}
 use Rattle.resolution_tree.proofs.Verdicts.{cut_down, delegated_refers, ds_cut, no_ds_cut, no_ds_uncut, open_down, own_cut, own_verdict, unaliased_down, unbound, verdict_told}
 use Rattle.resolution_step.specs.KnownDs.{knows}
-use Rattle.resolution_step.specs.Told.{StepSeen, TellsVerdict, TellsLead, TellsDown, TellsUnsigned, TellsOpen, TellsNoCut, TellsNoneBelow, TellsNothing, AsksFor, Search, Sees, Refuses, Wants, IsCutFound, IsCutTelling, IsCutTold, IsFoundTelling, IsSearched, IsSearchTold, IsSeenTold, IsTelling, IsTold, IsToldAt, at_cut, counts_of, cut_said, cut_searched, cut_told, lasting_of, referral_told, search_of, seen_told, told, bound_told}
+use Rattle.resolution_step.specs.Told.{StepSeen, TellsVerdict, TellsLead, TellsDown, TellsUnsigned, TellsOpen, TellsNoCut, TellsNoneBelow, TellsNothing, AsksFor, Search, Sees, Refuses, Wants, IsCutFound, IsJudgedCut, IsCutTold, IsStepOfOutcome, IsSearched, IsSearchTold, IsSeenTold, IsJudgedStep, IsTold, IsToldAt, at_cut, counts_of, cut_said, cut_searched, cut_told, validity_of_outcome, referral_told, search_of, seen_told, told, bound_told}
 use Rattle.resolution_step.specs.Told as tells
-use Rattle.resolution_step.specs.declared.telling.Counts.{Counts}
-use Rattle.resolution_step.specs.declared.telling.Telling.{Telling}
+use Rattle.resolution_step.specs.declared.judged_step.Counts.{Counts}
+use Rattle.resolution_step.specs.declared.judged_step.JudgedStep.{JudgedStep}
 use Rattle.resolution_step.specs.Truth.{AreOfZone, HasNoCutBelow, IsCutSo, IsToldSo, TellsCutTruly, TellsTruly, zone_of_version}
 use Rattle.resolution_step.proofs.Bound.{bound_at_cut, bound_below}
 
@@ -189,18 +189,18 @@ module _ (algorithms : List ℕ) (h : JudgeInput) (v : Version) (o : IsOrderlyZo
 
 -- ---- searches
 
-sees_so : (table : List Checked) (h : JudgeInput) (v : Version) (x : Seen) (l : Option Lasting) (n : Counts) → IsSearched table h (Sees x) l n → AreOfZone table h v → IsSo h (v ∷ []) x
+sees_so : (table : List Checked) (h : JudgeInput) (v : Version) (x : Seen) (l : Option Validity) (n : Counts) → IsSearched table h (Sees x) l n → AreOfZone table h v → IsSo h (v ∷ []) x
 sees_so table h v x l n s of = go s.found s.is_found s.is
   where
-    go : (found : Found) → IsFound table h found → Sees x ≡ search_of found → IsSo h (v ∷ []) x
-    go (f.Finds finding lasting verifications hashes) is e =
-        let same_is : seen finding ≡ x = (let both : Sees x ≡ Sees (seen finding) = e in cc) in
-        subst (IsSo h (v ∷ [])) same_is (found_truly table h (f.Finds finding lasting verifications hashes) is of.passes (v ∷ []) of.true_are of.honest)
+    go : (found : AnswerOutcome) → IsFound table h found → Sees x ≡ search_of found → IsSo h (v ∷ []) x
+    go (f.Means meaning validity verifications hashes) is e =
+        let same_is : seen meaning ≡ x = (let both : Sees x ≡ Sees (seen meaning) = e in cc) in
+        subst (IsSo h (v ∷ [])) same_is (found_truly table h (f.Means meaning validity verifications hashes) is of.passes (v ∷ []) of.true_are of.honest)
     go (f.Refused refusal verifications hashes) is e = absurd cc
     go (f.Asks asks verifications hashes) is e = absurd cc
 
 -- what is so of a delegation
-pub cut_truly : (algorithms : List ℕ) (table : List Checked) (h : JudgeInput) (said : StepSeen) (l : Option Lasting) (n : Counts) → IsCutTold algorithms table h said l n → TellsCutTruly algorithms table h said
+pub cut_truly : (algorithms : List ℕ) (table : List Checked) (h : JudgeInput) (said : StepSeen) (l : Option Validity) (n : Counts) → IsCutTold algorithms table h said l n → TellsCutTruly algorithms table h said
 cut_truly algorithms table h said l n is v ds of = subst (IsCutSo algorithms (zone_of_version h.apex v) h.asked.name) (sym is.is) (go is.came is.searched)
   where
     go : (came : Search) → IsSearched table h came l n → IsCutSo algorithms (zone_of_version h.apex v) h.asked.name (cut_searched algorithms h.asked.name came)
@@ -220,8 +220,8 @@ aside_of table h v c above inside of = record {
   in_order = of.in_order;
 }
 
-module _ (algorithms : List ℕ) (table : List Checked) (h : JudgeInput) (v : Version) (lasting : Option Lasting) (counts : Counts) (said : StepSeen) (l : Option Lasting) (n : Counts) where
-  told_at_cut : (c : Name) → IsSo h (v ∷ []) (SeesDelegated (Some c)) → AreOfZone table h v → IsToldAt algorithms table h c lasting counts said l n
+module _ (algorithms : List ℕ) (table : List Checked) (h : JudgeInput) (v : Version) (validity : Option Validity) (counts : Counts) (said : StepSeen) (l : Option Validity) (n : Counts) where
+  told_at_cut : (c : Name) → IsSo h (v ∷ []) (SeesDelegated (Some c)) → AreOfZone table h v → IsToldAt algorithms table h c validity counts said l n
       → IsToldSo algorithms (zone_of_version h.apex v) h.asked.name h.asked.rtype said
   told_at_cut c s of is =
       let z : TreeZone = zone_of_version h.apex v in
@@ -233,14 +233,14 @@ module _ (algorithms : List ℕ) (table : List Checked) (h : JudgeInput) (v : Ve
       let inside : at_or_above h.apex c ≡ true = sym (above-low h.apex c) ∙ strictly_at (apex_of z.zone) (low c) below in
       let refer : refers_to z.zone q h.asked.rtype ≡ Some (low c) = delegated_refers z.zone z.optout q h.asked.rtype (low c) (said_is algorithms h v of.in_order Delegated s.0) at in
       let other : (same c q && (h.asked.rtype == 43)) ≡ false = (referred z.zone q h.asked.rtype (low c) refer).other in
-      let so : IsCutSo algorithms z c is.below = cut_truly algorithms table (aside h (asking h c 43)) is.below is.below_lasting is.below_counts is.told_is v refl (aside_of table h v c above inside of) in
+      let so : IsCutSo algorithms z c is.below = cut_truly algorithms table (aside h (asking h c 43)) is.below is.below_validity is.below_counts is.told_is v refl (aside_of table h v c above inside of) in
       subst (IsToldSo algorithms z q h.asked.rtype) (sym is.is) (lowered_so algorithms h v of.in_order c is.below (lowered_above h.apex c ∙ inside) above other so)
 
   by_seen : (x : Seen) → IsSo h (v ∷ []) x → IsOrderlyZone (zone_of_version h.apex v) → said ≡ seen_told algorithms h.asked x
       → IsToldSo algorithms (zone_of_version h.apex v) h.asked.name h.asked.rtype said
   by_seen x s o is = subst (IsToldSo algorithms (zone_of_version h.apex v) h.asked.name h.asked.rtype) (sym is) (seen_so algorithms h v o x s)
 
-  seen_truly : (x : Seen) → IsSo h (v ∷ []) x → AreOfZone table h v → IsSeenTold algorithms table h x lasting counts said l n
+  seen_truly : (x : Seen) → IsSo h (v ∷ []) x → AreOfZone table h v → IsSeenTold algorithms table h x validity counts said l n
       → IsToldSo algorithms (zone_of_version h.apex v) h.asked.name h.asked.rtype said
   seen_truly (SeesDelegated (Some c)) s of is = told_at_cut c s of is
   seen_truly (SeesDelegated None) s of is = by_seen (SeesDelegated None) s of.in_order is.0
@@ -253,47 +253,47 @@ module _ (algorithms : List ℕ) (table : List Checked) (h : JudgeInput) (v : Ve
   seen_truly (SeesReferral c datas) s of is = by_seen (SeesReferral c datas) s of.in_order is.0
 
 -- what is so of a question
-pub told_truly : (algorithms : List ℕ) (table : List Checked) (h : JudgeInput) (said : StepSeen) (l : Option Lasting) (n : Counts) → IsTold algorithms table h said l n → TellsTruly algorithms table h said
+pub told_truly : (algorithms : List ℕ) (table : List Checked) (h : JudgeInput) (said : StepSeen) (l : Option Validity) (n : Counts) → IsTold algorithms table h said l n → TellsTruly algorithms table h said
 told_truly algorithms table h said l n is v of = go is.came is.searched is.is
   where
-    go : (came : Search) → IsSearched table h came is.found_lasting is.found_counts → IsSearchTold algorithms table h came is.found_lasting is.found_counts said l n → IsToldSo algorithms (zone_of_version h.apex v) h.asked.name h.asked.rtype said
-    go (Sees x) s to = seen_truly algorithms table h v is.found_lasting is.found_counts said l n x (sees_so table h v x is.found_lasting is.found_counts s of) of to
+    go : (came : Search) → IsSearched table h came is.found_validity is.found_counts → IsSearchTold algorithms table h came is.found_validity is.found_counts said l n → IsToldSo algorithms (zone_of_version h.apex v) h.asked.name h.asked.rtype said
+    go (Sees x) s to = seen_truly algorithms table h v is.found_validity is.found_counts said l n x (sees_so table h v x is.found_validity is.found_counts s of) of to
     go (Refuses e) s to = subst (IsToldSo algorithms (zone_of_version h.apex v) h.asked.name h.asked.rtype) (sym to.0) tt
     go (Wants asks) s to = subst (IsToldSo algorithms (zone_of_version h.apex v) h.asked.name h.asked.rtype) (sym to.0) tt
 
 -- ---- as it is kept
 
-found_searched : (table : List Checked) (h : JudgeInput) (found : Found) → IsFound table h found → IsSearched table h (search_of found) (lasting_of found) (counts_of found)
+found_searched : (table : List Checked) (h : JudgeInput) (found : AnswerOutcome) → IsFound table h found → IsSearched table h (search_of found) (validity_of_outcome found) (counts_of found)
 found_searched table h found is = record { found = found; is_found = is; is = refl; lasts = refl; counted = refl }
 
 -- what a search found, as how long it lasts and its counts are kept
-kept_searched : (table : List Checked) (h : JudgeInput) (found : Found) (l : Option Lasting) (n : Counts) → IsFound table h found → l ≡ lasting_of found → n ≡ counts_of found → IsSearched table h (search_of found) l n
+kept_searched : (table : List Checked) (h : JudgeInput) (found : AnswerOutcome) (l : Option Validity) (n : Counts) → IsFound table h found → l ≡ validity_of_outcome found → n ≡ counts_of found → IsSearched table h (search_of found) l n
 kept_searched table h found l n is lasts counted = record { found = found; is_found = is; is = refl; lasts = lasts; counted = counted }
 
-pub cut_in : (algorithms : List ℕ) (table : List Checked) (h : JudgeInput) (found : Found) → IsFound table h found → (n : Name) → n ≡ h.asked.name → (r : Result Telling AllocError)
-    → IfOk r (IsCutFound algorithms n found) → IfOk r (IsCutTelling algorithms table h)
+pub cut_in : (algorithms : List ℕ) (table : List Checked) (h : JudgeInput) (found : AnswerOutcome) → IsFound table h found → (n : Name) → n ≡ h.asked.name → (r : Result JudgedStep AllocError)
+    → IfOk r (IsCutFound algorithms n found) → IfOk r (IsJudgedCut algorithms table h)
 cut_in algorithms table h found is n at (Ok t) e = record {
   came = search_of found;
-  searched = kept_searched table h found t.lasting t.counts is e.1 e.2;
+  searched = kept_searched table h found t.validity t.counts is e.1 e.2;
   is = e.0 ∙ ap (λ m. cut_searched algorithms m (search_of found)) at;
 }
 cut_in algorithms table h found is n at (Err e) k = tt
 
-pub cut_honest : (algorithms : List ℕ) (table : List Checked) (h : JudgeInput) (r : Result Telling AllocError) → IfOk r (IsCutTelling algorithms table h) → IfOk r (λ t. TellsCutTruly algorithms table h (told t.step))
-cut_honest algorithms table h (Ok t) is = cut_truly algorithms table h (told t.step) t.lasting t.counts is
+pub cut_honest : (algorithms : List ℕ) (table : List Checked) (h : JudgeInput) (r : Result JudgedStep AllocError) → IfOk r (IsJudgedCut algorithms table h) → IfOk r (λ t. TellsCutTruly algorithms table h (told t.step))
+cut_honest algorithms table h (Ok t) is = cut_truly algorithms table h (told t.step) t.validity t.counts is
 cut_honest algorithms table h (Err e) is = tt
 
-pub told_in : (algorithms : List ℕ) (table : List Checked) (h : JudgeInput) (found : Found) → IsFound table h found → (r : Result Telling AllocError)
-    → IfOk r (IsFoundTelling algorithms table h found) → IfOk r (IsTelling algorithms table h)
+pub told_in : (algorithms : List ℕ) (table : List Checked) (h : JudgeInput) (found : AnswerOutcome) → IsFound table h found → (r : Result JudgedStep AllocError)
+    → IfOk r (IsStepOfOutcome algorithms table h found) → IfOk r (IsJudgedStep algorithms table h)
 told_in algorithms table h found is (Ok t) e = record {
   came = search_of found;
-  found_lasting = lasting_of found;
+  found_validity = validity_of_outcome found;
   found_counts = counts_of found;
   searched = found_searched table h found is;
   is = e;
 }
 told_in algorithms table h found is (Err e) k = tt
 
-pub told_honest : (algorithms : List ℕ) (table : List Checked) (h : JudgeInput) (r : Result Telling AllocError) → IfOk r (IsTelling algorithms table h) → IfOk r (λ t. TellsTruly algorithms table h (told t.step))
-told_honest algorithms table h (Ok t) is = told_truly algorithms table h (told t.step) t.lasting t.counts is
+pub told_honest : (algorithms : List ℕ) (table : List Checked) (h : JudgeInput) (r : Result JudgedStep AllocError) → IfOk r (IsJudgedStep algorithms table h) → IfOk r (λ t. TellsTruly algorithms table h (told t.step))
+told_honest algorithms table h (Ok t) is = told_truly algorithms table h (told t.step) t.validity t.counts is
 told_honest algorithms table h (Err e) is = tt

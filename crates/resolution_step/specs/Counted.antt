@@ -1,6 +1,6 @@
 -- How often was verified and hashed, over several judgements.
 use Rattle.std.specs.Prelude.{ℕ, ◌+◌, min}
-use Rattle.resolution_step.specs.declared.telling.Counts.{Counts}
+use Rattle.resolution_step.specs.declared.judged_step.Counts.{Counts}
 
 abbrev pub no_counts : Counts
 no_counts = record { verifications = 0; hashes = 0 }

@@ -6,5 +6,5 @@ pub mod Proved
 pub use Rattle.answer_findings.specs.Table
 pub use Rattle.answer_findings.specs.Versions
 pub use Rattle.answer_findings.specs.Seen
-pub use Rattle.answer_shared.specs.Redirection
+pub use Rattle.answer_terms.specs.Redirection
 pub use Rattle.answer_findings.specs.Lasts

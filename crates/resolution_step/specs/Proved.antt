@@ -5,14 +5,14 @@ use Rattle.definitions.specs.Name.{Name, same}
 use Rattle.definitions.specs.Zone.{Verdict, Records, NoType, Delegated}
 use Rattle.messages.specs.Message.{AreOctets, Asked}
 use Rattle.answer_judge.specs.Judging.{JudgeInput, Says}
-use Rattle.answer_judge_facts.specs.declared.lasting.Lasting.{Lasting}
+use Rattle.answer_judge_facts.specs.declared.validity.Validity.{Validity}
 use Rattle.answer_judge.specs.Judged.{judged}
 use Rattle.answer_judge.specs.Lasts.{at_moment}
 use Rattle.answer_findings.specs.Judgements.{alias_hint, aside, asking, cut_question, is_delegated}
 use Rattle.answer_findings.specs.Seen.{Seen, SeesVerdict, SeesDelegated, SeesNoDs, SeesAlias, SeesStarAlias, SeesOpen, SeesDname, SeesReferral, answers_ds, lead_said}
 use Rattle.answer_findings.specs.Table.{AgreesWith, Checked, Tried, answers_with}
 use Rattle.resolution_step.specs.Told.{StepSeen, TellsNothing, AsksFor, IsCutTold, IsTold, at_cut, cut_told, seen_told}
-use Rattle.resolution_step.specs.declared.telling.Counts.{Counts}
+use Rattle.resolution_step.specs.declared.judged_step.Counts.{Counts}
 
 -- ---- what judgements say
 
@@ -99,21 +99,21 @@ tells (AsksFor asks) = false
 tells _ = true
 
 -- a moment, in nanoseconds, from one on up to the last second that this lasts from there
-abbrev pub IsWithin : ℕ → ℕ → Lasting → Type 0
-IsWithin at later l = (at ≤ later) × (later / 1000000000 ≤ at / 1000000000 + l.seconds)
+abbrev pub IsWithinValidity : ℕ → ℕ → Validity → Type 0
+IsWithinValidity at later l = (at ≤ later) × (later / 1000000000 ≤ at / 1000000000 + l.seconds)
 
 -- What a message tells at a moment is proved by the same octets at each moment from there up to the last second that it lasts.
 abbrev pub ToldStaysProved : Type 0
 ToldStaysProved =
-    (algorithms : List ℕ) (table : List Checked) (h : JudgeInput) (said : StepSeen) (l : Lasting) (counts : Counts) (at later : ℕ)
+    (algorithms : List ℕ) (table : List Checked) (h : JudgeInput) (said : StepSeen) (l : Validity) (counts : Counts) (at later : ℕ)
     → AreOctets h.dnskey_bytes → AreOctets h.answer_bytes
-    → IsTold algorithms table (at_moment at h) said (Some l) counts → tells said ≡ true → IsWithin at later l
+    → IsTold algorithms table (at_moment at h) said (Some l) counts → tells said ≡ true → IsWithinValidity at later l
     → IsProved algorithms table (at_moment later h) said
 
 -- so it is of a delegation at a name
 abbrev pub CutToldStaysProved : Type 0
 CutToldStaysProved =
-    (algorithms : List ℕ) (table : List Checked) (h : JudgeInput) (said : StepSeen) (l : Lasting) (counts : Counts) (at later : ℕ)
+    (algorithms : List ℕ) (table : List Checked) (h : JudgeInput) (said : StepSeen) (l : Validity) (counts : Counts) (at later : ℕ)
     → AreOctets h.dnskey_bytes → AreOctets h.answer_bytes
-    → IsCutTold algorithms table (at_moment at h) said (Some l) counts → tells said ≡ true → IsWithin at later l
+    → IsCutTold algorithms table (at_moment at h) said (Some l) counts → tells said ≡ true → IsWithinValidity at later l
     → IsCutProved algorithms table (at_moment later h) said

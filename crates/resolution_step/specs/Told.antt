@@ -7,22 +7,22 @@ use Rattle.denial_laws.specs.Leading.{Lead, To}
 use Rattle.messages.specs.Message.{Asked}
 use Rattle.answer_judge_rules.specs.Rules.{verdict_of}
 use Rattle.answer_judge.specs.Judging.{JudgeInput}
-use Rattle.answer_judge_facts.specs.declared.lasting.Lasting.{Lasting}
+use Rattle.answer_judge_facts.specs.declared.validity.Validity.{Validity}
 use Rattle.answer_judge.specs.declared.verdict.Refusal.{Refusal}
 use Rattle.answer_findings.specs.Table.{Checked, Tried}
-use Rattle.answer_findings.specs.declared.finding.Found.{Found}
-use Rattle.answer_findings.specs.declared.finding.Found.TheVariants as f
+use Rattle.answer_findings.specs.declared.meaning.AnswerOutcome.{AnswerOutcome}
+use Rattle.answer_findings.specs.declared.meaning.AnswerOutcome.TheVariants as f
 use Rattle.answer_findings.specs.Found.{IsFound}
 use Rattle.answer_findings.specs.Judgements.{aside, asking}
 use Rattle.answer_findings.specs.Lasts.{least_of}
 use Rattle.answer_findings.specs.Seen.{Seen, SeesVerdict, SeesDelegated, SeesNoDs, SeesAlias, SeesStarAlias, SeesOpen, SeesDname, SeesReferral, seen}
-use Rattle.answer_shared.specs.Redirection.{lead_seen}
+use Rattle.answer_terms.specs.Redirection.{lead_seen}
 use Rattle.resolution_step.specs.Counted.{plus}
 use Rattle.resolution_step.specs.KnownDs.{known_ds}
-use Rattle.resolution_step.specs.declared.telling.Counts.{Counts}
-use Rattle.resolution_step.specs.declared.telling.Step.{Step}
-use Rattle.resolution_step.specs.declared.telling.Step.TheVariants as s
-use Rattle.resolution_step.specs.declared.telling.Telling.{Telling}
+use Rattle.resolution_step.specs.declared.judged_step.Counts.{Counts}
+use Rattle.resolution_step.specs.declared.judged_step.Step.{Step}
+use Rattle.resolution_step.specs.declared.judged_step.Step.TheVariants as s
+use Rattle.resolution_step.specs.declared.judged_step.JudgedStep.{JudgedStep}
 
 -- a step, without how it is kept
 pub data StepSeen : Type 0 where
@@ -55,29 +55,29 @@ pub data Search : Type 0 where
   Refuses : Refusal → Search
   Wants : List Tried → Search
 
-abbrev pub search_of : Found → Search
-search_of (f.Finds finding lasting verifications hashes) = Sees (seen finding)
+abbrev pub search_of : AnswerOutcome → Search
+search_of (f.Means meaning validity verifications hashes) = Sees (seen meaning)
 search_of (f.Refused refusal verifications hashes) = Refuses refusal
 search_of (f.Asks asks verifications hashes) = Wants asks.items
 
 -- how long what is found lasts; where nothing is found nothing lasts
-abbrev pub lasting_of : Found → Option Lasting
-lasting_of (f.Finds finding lasting verifications hashes) = lasting
-lasting_of (f.Refused refusal verifications hashes) = None
-lasting_of (f.Asks asks verifications hashes) = None
+abbrev pub validity_of_outcome : AnswerOutcome → Option Validity
+validity_of_outcome (f.Means meaning validity verifications hashes) = validity
+validity_of_outcome (f.Refused refusal verifications hashes) = None
+validity_of_outcome (f.Asks asks verifications hashes) = None
 
 -- how often was verified and hashed for it; where signatures are asked for, by the judgements that were made before
-abbrev pub counts_of : Found → Counts
-counts_of (f.Finds finding lasting verifications hashes) = record { verifications = verifications; hashes = hashes }
+abbrev pub counts_of : AnswerOutcome → Counts
+counts_of (f.Means meaning validity verifications hashes) = record { verifications = verifications; hashes = hashes }
 counts_of (f.Refused refusal verifications hashes) = record { verifications = verifications; hashes = hashes }
 counts_of (f.Asks asks verifications hashes) = record { verifications = verifications; hashes = hashes }
 
 -- A search of a case's messages comes to this, which lasts so long and for which so often was verified and hashed.
-pub record IsSearched (table : List Checked) (h : JudgeInput) (came : Search) (lasting : Option Lasting) (counts : Counts) : Type 0 where
-  pub found : Found
+pub record IsSearched (table : List Checked) (h : JudgeInput) (came : Search) (validity : Option Validity) (counts : Counts) : Type 0 where
+  pub found : AnswerOutcome
   pub is_found : IsFound table h found
   pub is : came ≡ search_of found
-  pub lasts : lasting ≡ lasting_of found
+  pub lasts : validity ≡ validity_of_outcome found
   pub counted : counts ≡ counts_of found
 
 -- ---- DS at a name
@@ -117,9 +117,9 @@ cut_searched algorithms n (Refuses e) = TellsNothing (Some e)
 cut_searched algorithms n (Wants asks) = AsksFor asks
 
 -- what a message tells of a delegation at the name whose DS it is judged for
-pub record IsCutTold (algorithms : List ℕ) (table : List Checked) (h : JudgeInput) (said : StepSeen) (lasting : Option Lasting) (counts : Counts) : Type 0 where
+pub record IsCutTold (algorithms : List ℕ) (table : List Checked) (h : JudgeInput) (said : StepSeen) (validity : Option Validity) (counts : Counts) : Type 0 where
   pub came : Search
-  pub searched : IsSearched table h came lasting counts
+  pub searched : IsSearched table h came validity counts
   pub is : said ≡ cut_searched algorithms h.asked.name came
 
 -- ---- the question itself
@@ -154,53 +154,53 @@ at_cut (AsksFor asks) = AsksFor asks
 at_cut _ = TellsNothing None
 
 -- What is told at a delegation that is proved rests on what is told of its DS too: it lasts as long as both, and both are counted.
-pub record IsToldAt (algorithms : List ℕ) (table : List Checked) (h : JudgeInput) (c : Name) (lasting : Option Lasting) (counts : Counts) (said : StepSeen) (both : Option Lasting) (sums : Counts) : Type 0 where
+pub record IsToldAt (algorithms : List ℕ) (table : List Checked) (h : JudgeInput) (c : Name) (validity : Option Validity) (counts : Counts) (said : StepSeen) (both : Option Validity) (sums : Counts) : Type 0 where
   pub below : StepSeen
-  pub below_lasting : Option Lasting
+  pub below_validity : Option Validity
   pub below_counts : Counts
-  pub told_is : IsCutTold algorithms table (aside h (asking h c 43)) below below_lasting below_counts
+  pub told_is : IsCutTold algorithms table (aside h (asking h c 43)) below below_validity below_counts
   pub is : said ≡ at_cut below
-  pub lasts : both ≡ least_of lasting below_lasting
+  pub lasts : both ≡ least_of validity below_validity
   pub counted : sums ≡ plus counts below_counts
 
 -- the same, as what was found alone
-abbrev pub IsAlone : StepSeen → Option Lasting → Counts → StepSeen → Option Lasting → Counts → Type 0
-IsAlone x lasting counts said l n = (said ≡ x) × (l ≡ lasting) × (n ≡ counts)
+abbrev pub IsAlone : StepSeen → Option Validity → Counts → StepSeen → Option Validity → Counts → Type 0
+IsAlone x validity counts said l n = (said ≡ x) × (l ≡ validity) × (n ≡ counts)
 
 -- The message of a name that is delegated is judged for DS at the delegation.
-abbrev pub IsSeenTold : List ℕ → List Checked → JudgeInput → Seen → Option Lasting → Counts → StepSeen → Option Lasting → Counts → Type 0
-IsSeenTold algorithms table h (SeesDelegated (Some c)) lasting counts said l n = IsToldAt algorithms table h c lasting counts said l n
-IsSeenTold algorithms table h x lasting counts said l n = IsAlone (seen_told algorithms h.asked x) lasting counts said l n
+abbrev pub IsSeenTold : List ℕ → List Checked → JudgeInput → Seen → Option Validity → Counts → StepSeen → Option Validity → Counts → Type 0
+IsSeenTold algorithms table h (SeesDelegated (Some c)) validity counts said l n = IsToldAt algorithms table h c validity counts said l n
+IsSeenTold algorithms table h x validity counts said l n = IsAlone (seen_told algorithms h.asked x) validity counts said l n
 
-abbrev pub IsSearchTold : List ℕ → List Checked → JudgeInput → Search → Option Lasting → Counts → StepSeen → Option Lasting → Counts → Type 0
-IsSearchTold algorithms table h (Sees x) lasting counts said l n = IsSeenTold algorithms table h x lasting counts said l n
-IsSearchTold algorithms table h (Refuses e) lasting counts said l n = IsAlone (TellsNothing (Some e)) lasting counts said l n
-IsSearchTold algorithms table h (Wants asks) lasting counts said l n = IsAlone (AsksFor asks) lasting counts said l n
+abbrev pub IsSearchTold : List ℕ → List Checked → JudgeInput → Search → Option Validity → Counts → StepSeen → Option Validity → Counts → Type 0
+IsSearchTold algorithms table h (Sees x) validity counts said l n = IsSeenTold algorithms table h x validity counts said l n
+IsSearchTold algorithms table h (Refuses e) validity counts said l n = IsAlone (TellsNothing (Some e)) validity counts said l n
+IsSearchTold algorithms table h (Wants asks) validity counts said l n = IsAlone (AsksFor asks) validity counts said l n
 
 -- What a message tells of the question that it is judged for, how long that lasts, and how often was verified and hashed for it.
-pub record IsTold (algorithms : List ℕ) (table : List Checked) (h : JudgeInput) (said : StepSeen) (lasting : Option Lasting) (counts : Counts) : Type 0 where
+pub record IsTold (algorithms : List ℕ) (table : List Checked) (h : JudgeInput) (said : StepSeen) (validity : Option Validity) (counts : Counts) : Type 0 where
   pub came : Search
-  pub found_lasting : Option Lasting
+  pub found_validity : Option Validity
   pub found_counts : Counts
-  pub searched : IsSearched table h came found_lasting found_counts
-  pub is : IsSearchTold algorithms table h came found_lasting found_counts said lasting counts
+  pub searched : IsSearched table h came found_validity found_counts
+  pub is : IsSearchTold algorithms table h came found_validity found_counts said validity counts
 
 -- ---- as it is kept
 
-abbrev pub IsTelling : List ℕ → List Checked → JudgeInput → Telling → Type 0
-IsTelling algorithms table h t = IsTold algorithms table h (told t.step) t.lasting t.counts
+abbrev pub IsJudgedStep : List ℕ → List Checked → JudgeInput → JudgedStep → Type 0
+IsJudgedStep algorithms table h t = IsTold algorithms table h (told t.step) t.validity t.counts
 
-abbrev pub IsCutTelling : List ℕ → List Checked → JudgeInput → Telling → Type 0
-IsCutTelling algorithms table h t = IsCutTold algorithms table h (told t.step) t.lasting t.counts
+abbrev pub IsJudgedCut : List ℕ → List Checked → JudgeInput → JudgedStep → Type 0
+IsJudgedCut algorithms table h t = IsCutTold algorithms table h (told t.step) t.validity t.counts
 
-abbrev pub IsFoundTelling : List ℕ → List Checked → JudgeInput → Found → Telling → Type 0
-IsFoundTelling algorithms table h found t = IsSearchTold algorithms table h (search_of found) (lasting_of found) (counts_of found) (told t.step) t.lasting t.counts
+abbrev pub IsStepOfOutcome : List ℕ → List Checked → JudgeInput → AnswerOutcome → JudgedStep → Type 0
+IsStepOfOutcome algorithms table h found t = IsSearchTold algorithms table h (search_of found) (validity_of_outcome found) (counts_of found) (told t.step) t.validity t.counts
 
-abbrev pub IsSeenTelling : List ℕ → List Checked → JudgeInput → Seen → Option Lasting → Counts → Telling → Type 0
-IsSeenTelling algorithms table h x lasting counts t = IsSeenTold algorithms table h x lasting counts (told t.step) t.lasting t.counts
+abbrev pub IsStepOfMeaning : List ℕ → List Checked → JudgeInput → Seen → Option Validity → Counts → JudgedStep → Type 0
+IsStepOfMeaning algorithms table h x validity counts t = IsSeenTold algorithms table h x validity counts (told t.step) t.validity t.counts
 
-abbrev pub IsTellingAt : List ℕ → List Checked → JudgeInput → Name → Option Lasting → Counts → Telling → Type 0
-IsTellingAt algorithms table h c lasting counts t = IsToldAt algorithms table h c lasting counts (told t.step) t.lasting t.counts
+abbrev pub IsStepAtCut : List ℕ → List Checked → JudgeInput → Name → Option Validity → Counts → JudgedStep → Type 0
+IsStepAtCut algorithms table h c validity counts t = IsToldAt algorithms table h c validity counts (told t.step) t.validity t.counts
 
-abbrev pub IsCutFound : List ℕ → Name → Found → Telling → Type 0
-IsCutFound algorithms n found t = IsAlone (cut_searched algorithms n (search_of found)) (lasting_of found) (counts_of found) (told t.step) t.lasting t.counts
+abbrev pub IsCutFound : List ℕ → Name → AnswerOutcome → JudgedStep → Type 0
+IsCutFound algorithms n found t = IsAlone (cut_searched algorithms n (search_of found)) (validity_of_outcome found) (counts_of found) (told t.step) t.validity t.counts

@@ -3,14 +3,16 @@ ghost use Rattle.std.specs.Prelude.{◌≡◌, [], IfOk};
 ghost use Rattle.definitions.specs.Name.{low};
 ghost use Rattle.answer_judge_rules.specs.Rules.{verdict_of};
 ghost use Rattle.answer_findings.specs.Seen.{seen};
-ghost use Rattle.resolution_step.specs.Told.{IsCutFound, IsCutTelling, TellsUnsigned};
+ghost use Rattle.resolution_step.specs.Told.{IsCutFound, IsJudgedCut, TellsUnsigned};
 ghost use Rattle.resolution_step.specs.Told.{cut_said, cut_told, told};
 ghost use Rattle.resolution_step.specs.Truth.{TellsCutTruly};
 
 use crate::canonical::canonical_name;
+use crate::judged_step::{Counts, JudgedStep, Step, lasts};
 use crate::known::bound;
-use crate::telling::{Counts, Step, Telling, lasts};
-use answer_findings::{Case, CheckedSignature, DataList, Finding, Found, Verdict, find};
+use answer_findings::{
+    AnswerOutcome, Case, CheckedSignature, DataList, Meaning, Verdict, judge_answer,
+};
 use messages::names::Name;
 use std::alloc::{AllocError, Global};
 
@@ -30,39 +32,39 @@ pub fn cut_step(
     case: &Case,
     table: &[CheckedSignature],
     algorithms: &[u8],
-) -> Result<Telling, AllocError>
-    ensures told { IfOk result (IsCutTelling algorithms.now table.now case.now) }
+) -> Result<JudgedStep, AllocError>
+    ensures told { IfOk result (IsJudgedCut algorithms.now table.now case.now) }
     ensures honest { let h = case.now in
         IfOk result (λ t. TellsCutTruly algorithms.now table.now h (told t.step)) }
 {
-    let found = find(alloc, case, table)?;
-    searched_cut(alloc, algorithms, &case.question.name, found)
+    let found = judge_answer(alloc, case, table)?;
+    cut_of_outcome(alloc, algorithms, &case.question.name, found)
 }
 
 /// What a search for DS at a name comes to tells this of a delegation there.
-fn searched_cut(
+fn cut_of_outcome(
     alloc: Global,
     algorithms: &[u8],
     name: &Name<Vec<u8>>,
-    found: Found,
-) -> Result<Telling, AllocError>
+    found: AnswerOutcome,
+) -> Result<JudgedStep, AllocError>
     ensures { IfOk result (IsCutFound algorithms.now name.now found) }
 {
     match found {
-        Found::Finds {
-            finding,
-            lasting,
+        AnswerOutcome::Means {
+            meaning,
+            validity,
             verifications,
             hashes,
         } => {
-            let step = cut_found(alloc, algorithms, name, finding)?;
+            let step = cut_found(alloc, algorithms, name, meaning)?;
             let counts = Counts {
                 verifications,
                 hashes,
             };
-            Ok(lasts(step, lasting, counts))
+            Ok(lasts(step, validity, counts))
         }
-        Found::Refused {
+        AnswerOutcome::Refused {
             refusal,
             verifications,
             hashes,
@@ -73,7 +75,7 @@ fn searched_cut(
             };
             Ok(lasts(Step::Untold(Some(refusal)), None, counts))
         }
-        Found::Asks {
+        AnswerOutcome::Asks {
             asks,
             verifications,
             hashes,
@@ -92,17 +94,17 @@ fn cut_found(
     alloc: Global,
     algorithms: &[u8],
     name: &Name<Vec<u8>>,
-    finding: Finding,
+    meaning: Meaning,
 ) -> Result<Step, AllocError>
-    ensures { IfOk result (λ s. told s ≡ cut_told algorithms.now name.now (seen finding)) }
+    ensures { IfOk result (λ s. told s ≡ cut_told algorithms.now name.now (seen meaning)) }
 {
-    match finding {
-        Finding::Verdict(verdict) => cut_said(alloc, algorithms, name, verdict),
-        Finding::NoDs(true) => without_ds(alloc, name),
-        Finding::NoDs(false) | Finding::Alias(_) => Ok(Step::NoCut),
-        Finding::LeftOpen => Ok(Step::LeftOpen),
-        Finding::WildcardAlias(_) | Finding::Dname { .. } => Ok(Step::NoneBelow),
-        Finding::Delegated(_) | Finding::Referral { .. } => Ok(Step::Untold(None)),
+    match meaning {
+        Meaning::Verdict(verdict) => cut_said(alloc, algorithms, name, verdict),
+        Meaning::NoDs(true) => without_ds(alloc, name),
+        Meaning::NoDs(false) | Meaning::Alias(_) => Ok(Step::NoCut),
+        Meaning::LeftOpen => Ok(Step::LeftOpen),
+        Meaning::WildcardAlias(_) | Meaning::Dname { .. } => Ok(Step::NoneBelow),
+        Meaning::Delegated(_) | Meaning::Referral { .. } => Ok(Step::Untold(None)),
     }
 }
 

@@ -4,7 +4,7 @@ ghost use Rattle.resolution_step.specs.KnownDs.{is_known, known_ds, known_in};
 ghost use Rattle.resolution_step.specs.Told.{bound_told, told};
 
 use crate::canonical::canonical_name;
-use crate::telling::Step;
+use crate::judged_step::Step;
 use answer_findings::DataList;
 use denial_data::Ds;
 use messages::names::Name;

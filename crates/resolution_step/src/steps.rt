@@ -4,16 +4,16 @@ ghost use Rattle.messages.specs.Questions.{asked_of};
 ghost use Rattle.answer_judge_rules.specs.Rules.{verdict_of};
 ghost use Rattle.answer_findings.specs.Judgements.{asking, aside};
 ghost use Rattle.answer_findings.specs.Seen.{seen};
-ghost use Rattle.resolution_step.specs.Told.{IsCutTelling, IsFoundTelling, IsSeenTelling};
-ghost use Rattle.resolution_step.specs.Told.{IsTelling, IsTellingAt, at_cut, referral_told, told};
+ghost use Rattle.resolution_step.specs.Told.{IsJudgedCut, IsStepOfOutcome, IsStepOfMeaning};
+ghost use Rattle.resolution_step.specs.Told.{IsJudgedStep, IsStepAtCut, at_cut, referral_told, told};
 ghost use Rattle.resolution_step.specs.Told.{verdict_told};
 ghost use Rattle.resolution_step.specs.Truth.{TellsTruly};
 
 use crate::cuts::cut_step;
+use crate::judged_step::{Counts, JudgedStep, Step, lasts, least_of};
 use crate::known::bound;
-use crate::telling::{Counts, Step, Telling, lasts, least_of};
 use answer_findings::{
-    Case, CheckedSignature, DataList, Finding, Found, Lasting, Lead, Verdict, find,
+    AnswerOutcome, Case, CheckedSignature, DataList, Lead, Meaning, Validity, Verdict, judge_answer,
 };
 use messages::names::{Name, ToName};
 use messages::question::Question;
@@ -43,30 +43,30 @@ pub fn step(
     case: &Case,
     table: &[CheckedSignature],
     algorithms: &[u8],
-) -> Result<Telling, AllocError>
-    ensures told { IfOk result (IsTelling algorithms.now table.now case.now) }
+) -> Result<JudgedStep, AllocError>
+    ensures told { IfOk result (IsJudgedStep algorithms.now table.now case.now) }
     ensures honest { let h = case.now in
         IfOk result (λ t. TellsTruly algorithms.now table.now h (told t.step)) }
 {
-    let found = find(alloc, case, table)?;
+    let found = judge_answer(alloc, case, table)?;
     let checks = SignatureChecks { table, algorithms };
-    searched_step(alloc, case, &checks, found)
+    step_of_outcome(alloc, case, &checks, found)
 }
 
 /// What a search comes to tells this of its question.
-fn searched_step(
+fn step_of_outcome(
     alloc: Global,
     case: &Case,
     checks: &SignatureChecks,
-    found: Found,
-) -> Result<Telling, AllocError>
+    found: AnswerOutcome,
+) -> Result<JudgedStep, AllocError>
     ensures { let k = checks.now in
-        IfOk result (IsFoundTelling k.algorithms.now k.table.now case.now found) }
+        IfOk result (IsStepOfOutcome k.algorithms.now k.table.now case.now found) }
 {
     match found {
-        Found::Finds {
-            finding,
-            lasting,
+        AnswerOutcome::Means {
+            meaning,
+            validity,
             verifications,
             hashes,
         } => {
@@ -74,9 +74,9 @@ fn searched_step(
                 verifications,
                 hashes,
             };
-            finding_step(alloc, case, checks, finding, lasting, counts)
+            step_of_meaning(alloc, case, checks, meaning, validity, counts)
         }
-        Found::Refused {
+        AnswerOutcome::Refused {
             refusal,
             verifications,
             hashes,
@@ -87,7 +87,7 @@ fn searched_step(
             };
             Ok(lasts(Step::Untold(Some(refusal)), None, counts))
         }
-        Found::Asks {
+        AnswerOutcome::Asks {
             asks,
             verifications,
             hashes,
@@ -103,31 +103,35 @@ fn searched_step(
 
 /// What is found tells this of the question; at a delegation that is proved, what the message tells
 /// of its DS records.
-fn finding_step(
+fn step_of_meaning(
     alloc: Global,
     case: &Case,
     checks: &SignatureChecks,
-    finding: Finding,
-    lasting: Option<Lasting>,
+    meaning: Meaning,
+    validity: Option<Validity>,
     counts: Counts,
-) -> Result<Telling, AllocError>
-    ensures { let k = checks.now in let x = seen finding in
-        IfOk result (IsSeenTelling k.algorithms.now k.table.now case.now x lasting counts) }
+) -> Result<JudgedStep, AllocError>
+    ensures { let k = checks.now in let x = seen meaning in
+        IfOk result (IsStepOfMeaning k.algorithms.now k.table.now case.now x validity counts) }
 {
-    match finding {
-        Finding::Delegated(Some(cut)) => {
-            delegated_step(alloc, case, checks, cut, lasting, counts)
+    match meaning {
+        Meaning::Delegated(Some(cut)) => {
+            delegated_step(alloc, case, checks, cut, validity, counts)
         }
-        Finding::Delegated(None) => Ok(lasts(Step::Untold(None), lasting, counts)),
-        Finding::Verdict(verdict) => Ok(lasts(verdict_step(verdict), lasting, counts)),
-        Finding::NoDs(_) => Ok(lasts(Step::Answer(Verdict::NoType), lasting, counts)),
-        Finding::Alias(target) => Ok(lasts(Step::Leads(Lead::To(target)), lasting, counts)),
-        Finding::WildcardAlias(target) => Ok(lasts(Step::Leads(Lead::To(target)), lasting, counts)),
-        Finding::LeftOpen => Ok(lasts(Step::LeftOpen, lasting, counts)),
-        Finding::Dname { leads, .. } => Ok(lasts(Step::Leads(leads), lasting, counts)),
-        Finding::Referral { cut, ds } => {
+        Meaning::Delegated(None) => Ok(lasts(Step::Untold(None), validity, counts)),
+        Meaning::Verdict(verdict) => Ok(lasts(verdict_step(verdict), validity, counts)),
+        Meaning::NoDs(_) => Ok(lasts(Step::Answer(Verdict::NoType), validity, counts)),
+        Meaning::Alias(target) => Ok(lasts(Step::Leads(Lead::To(target)), validity, counts)),
+        Meaning::WildcardAlias(target) => Ok(lasts(
+            Step::Leads(Lead::To(target)),
+            validity,
+            counts,
+        )),
+        Meaning::LeftOpen => Ok(lasts(Step::LeftOpen, validity, counts)),
+        Meaning::Dname { leads, .. } => Ok(lasts(Step::Leads(leads), validity, counts)),
+        Meaning::Referral { cut, ds } => {
             let step = referral_step(alloc, case.question, checks.algorithms, &cut, ds)?;
-            Ok(lasts(step, lasting, counts))
+            Ok(lasts(step, validity, counts))
         }
     }
 }
@@ -138,14 +142,14 @@ fn delegated_step(
     case: &Case,
     checks: &SignatureChecks,
     cut: Name<Vec<u8>>,
-    lasting: Option<Lasting>,
+    validity: Option<Validity>,
     counts: Counts,
-) -> Result<Telling, AllocError>
+) -> Result<JudgedStep, AllocError>
     ensures { let k = checks.now in
-        IfOk result (IsTellingAt k.algorithms.now k.table.now case.now cut lasting counts) }
+        IfOk result (IsStepAtCut k.algorithms.now k.table.now case.now cut validity counts) }
 {
     let below = ds_step(alloc, case, checks, cut)?;
-    let both = least_of(lasting, below.lasting);
+    let both = least_of(validity, below.validity);
     let sums = counts.plus(below.counts);
     Ok(lasts(at_cut(below.step), both, sums))
 }
@@ -156,9 +160,9 @@ fn ds_step(
     case: &Case,
     checks: &SignatureChecks,
     name: Name<Vec<u8>>,
-) -> Result<Telling, AllocError>
+) -> Result<JudgedStep, AllocError>
     ensures { let h = aside case.now (asking case.now name 43) in let k = checks.now in
-        IfOk result (IsCutTelling k.algorithms.now k.table.now h) }
+        IfOk result (IsJudgedCut k.algorithms.now k.table.now h) }
 {
     let question = Question {
         name,

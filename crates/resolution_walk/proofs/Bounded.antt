@@ -121,9 +121,9 @@ module _ (e : Given) (asked : Asked) (zone : Name) (ds : List Ds) where
 module _ (e : Given) (octets : HasOctets e) (ws : Vec Wanted) where
   wants_few : (asked : Asked) (cuts : ℕ) (zone : Name) (ds : List Ds) (before after : Counts) → Stops e asked (ends.Wants ws) cuts zone ds before after → at_or_above zone asked.name ≡ true → AreFewOf e asked ws.items
   wants_few asked cuts zone ds before after (Here judged stops) above = few_of e asked zone ds ws.items above stops
-  wants_few asked cuts zone ds before after (Below {cuts = less} {c = c} {below = below} {between = between} lasting judged way more) above =
-      wants_few asked less c below between after more (onward_down e octets asked zone ds c below lasting way)
-  wants_few asked cuts zone ds before after (TooDeep lasting judged way is) above = absurd cc
+  wants_few asked cuts zone ds before after (Below {cuts = less} {c = c} {below = below} {between = between} validity judged way more) above =
+      wants_few asked less c below between after more (onward_down e octets asked zone ds c below validity way)
+  wants_few asked cuts zone ds before after (TooDeep validity judged way is) above = absurd cc
 
   asked_above : (asked : Asked) → is_asked_of e.anchor asked ≡ true → at_or_above e.anchor asked.name ≡ true
   asked_above asked w = (and_parts (at_or_above e.anchor asked.name) (not (same e.anchor asked.name && (asked.rtype == 43))) w).0

@@ -5,7 +5,7 @@ use Rattle.definitions.specs.Dnskey.{Ds}
 use Rattle.definitions.specs.Name.{Name, low}
 use Rattle.definitions.specs.Zone.{Verdict, Records, NoType, NoName, StarRecords, StarNoType, Delegated, Open, Unsigned}
 use Rattle.messages.specs.Message.{Asked}
-use Rattle.answer_judge_facts.specs.declared.lasting.Lasting.{Lasting}
+use Rattle.answer_judge_facts.specs.declared.validity.Validity.{Validity}
 use Rattle.resolution_evidence.specs.Counts.{Counts}
 use Rattle.resolution_evidence.specs.Given.{Given}
 use Rattle.resolution_evidence.specs.KnownDs.{known_ds}
@@ -49,5 +49,5 @@ module _ (algorithms : List ℕ) (n : Name) where
   searched_cut (Refuses refusal) other = refl
   searched_cut (Wants asks) other = refl
 
-pub name_cut : (e : Given) (zone : Name) (ds : List Ds) (sought : Asked) (said : StepSeen) (l : Option Lasting) (m : Counts) → IsNameStep e zone ds sought said l m → is_uncut said ≡ false → said ≡ at_cut said
+pub name_cut : (e : Given) (zone : Name) (ds : List Ds) (sought : Asked) (said : StepSeen) (l : Option Validity) (m : Counts) → IsNameStep e zone ds sought said l m → is_uncut said ≡ false → said ≡ at_cut said
 name_cut e zone ds sought said l m k = subst IsOfCut (sym k.told_is.is) (searched_cut e.algorithms k.judged.asked.name k.told_is.came)

@@ -12,10 +12,10 @@ use Rattle.resolution_walk.specs.Laws.{WalksAgree, WalksStayProved}
 use Rattle.resolution_walk.specs.declared.ending.Walk.{Walk}
 
 -- what a walk says is where its evidence leads, through the names of the walk
-walked_follows : (e : Given) (asked : Asked) (w : Walk) (said : Said) → IsWalked e asked [] w → said_of w.ending ≡ Some said → Follows e said asked w.through.items w.lasting
+walked_follows : (e : Given) (asked : Asked) (w : Walk) (said : Said) → IsWalked e asked [] w → said_of w.ending ≡ Some said → Follows e said asked w.through.items w.validity
 walked_follows e asked w said is says =
-    let k : IsFollowed e asked [] w.through.items w.lasting said = subst (λ (o : Option Said). IfSome o (IsFollowed e asked [] w.through.items w.lasting)) says is in
-    subst (λ (ns : List Name). Follows e said asked ns w.lasting) (sym k.through_are) k.follows
+    let k : IsFollowed e asked [] w.through.items w.validity said = subst (λ (o : Option Said). IfSome o (IsFollowed e asked [] w.through.items w.validity)) says is in
+    subst (λ (ns : List Name). Follows e said asked ns w.validity) (sym k.through_are) k.follows
 
 pub walks_stay_proved : EvidenceStaysProved → WalksStayProved
 walks_stay_proved stays e asked w said l later octets is says lasts within =
@@ -23,4 +23,4 @@ walks_stay_proved stays e asked w said l later octets is says lasts within =
 
 pub walks_agree : EvidenceAgrees → WalksAgree
 walks_agree agrees e f zones anchor asked v w said other of of_f same v_is w_is v_says w_says =
-    agrees e f zones anchor asked said other v.through.items w.through.items v.lasting w.lasting of of_f same (walked_follows e asked v said v_is v_says) (walked_follows f asked w other w_is w_says)
+    agrees e f zones anchor asked said other v.through.items w.through.items v.validity w.validity of of_f same (walked_follows e asked v said v_is v_says) (walked_follows f asked w other w_is w_says)

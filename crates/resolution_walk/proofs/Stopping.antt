@@ -6,27 +6,27 @@ use Rattle.definitions.specs.Dnskey.{Ds}
 use Rattle.definitions.specs.Name.{Name, strictly_above}
 use Rattle.messages.specs.Message.{Asked}
 use Rattle.answer_judge.specs.Judging.{JudgeInput}
-use Rattle.answer_judge_facts.specs.declared.lasting.Lasting.{Lasting}
+use Rattle.answer_judge_facts.specs.declared.validity.Validity.{Validity}
 use Rattle.answer_judge.specs.declared.verdict.Refusal.{Refusal}
 use Rattle.resolution_evidence.specs.Counted.{no_counts, plus}
 use Rattle.resolution_evidence.specs.Counts.{Counts}
 use Rattle.resolution_evidence.specs.Given.{Given, IsOf}
-use Rattle.resolution_evidence.specs.Telling.{Telling}
-use Rattle.resolution_evidence.specs.Told.{StepSeen, TellsNoneBelow, IsCutTelling, IsTelling, at_cut, told}
+use Rattle.resolution_evidence.specs.JudgedStep.{JudgedStep}
+use Rattle.resolution_evidence.specs.Told.{StepSeen, TellsNoneBelow, IsJudgedCut, IsJudgedStep, at_cut, told}
 use Rattle.resolution_evidence.specs.Walking.{GoesDown, IsNameStep, IsOnward, IsOwnStep, ds_at, renamed}
-use Rattle.resolution_walk.specs.Ended.{IsTurn, IsWay, onward_of}
+use Rattle.resolution_walk.specs.Ended.{IsHop, IsWay, onward_of}
 use Rattle.resolution_walk.specs.Between.{AreAllUncut, DownToName, DownToMissing, AreUncut, AreUncutBelow, AtZone, Itself, Next, IsAnswerUntold, IsBetween, IsNothing, IsReached, IsToldFor, IsUnanswered, LiesBetween, is_itself}
 use Rattle.resolution_walk.specs.Judged.{AreJudged, NotJudged, ByAnswer, Between, AreJudgedBetween, UpTo, AndNext, IsCountedBetween, IsJudgedAt, IsJudgedFor, IsLast, IsToldCut, IsToldWay, IsUncut, IsUncutTold, counts_in, counts_of, is_nothing, is_uncut}
-use Rattle.resolution_walk.specs.Stopping.{EndsAt, IsCounted, IsLed, IsStop, IsStopped, IsTurnUntold, IsTurnedTo, Stops, Here, Below, TooDeep, StopsBehind, TooMany, Led, StopsBelow, NoneLeft, OneLess, StopsBelowIn, StopsIn, StopsWithin, TurnStops, WantsLacking, ending_within}
+use Rattle.resolution_walk.specs.Stopping.{EndsAt, IsCounted, IsLed, IsStop, IsStopped, IsHopUntold, IsHopTo, Stops, Here, Below, TooDeep, StopsBehind, TooMany, Led, StopsBelow, NoneLeft, OneLess, StopsBelowIn, StopsIn, StopsWithin, HopStops, WantsLacking, ending_within}
 use Rattle.resolution_walk.specs.Query.{Query}
 use Rattle.resolution_walk.specs.Wanted.{is_lacking}
 use Rattle.resolution_walk.specs.declared.ending.End.{End}
 use Rattle.resolution_walk.specs.declared.ending.Ending.{Ending}
 use Rattle.resolution_walk.specs.declared.ending.Ending.TheVariants as ends
-use Rattle.resolution_walk.specs.declared.ending.Taken.{Taken}
+use Rattle.resolution_walk.specs.declared.ending.JudgedHop.{JudgedHop}
 use Rattle.resolution_walk.specs.declared.ending.Target.{Target}
-use Rattle.resolution_walk.specs.declared.ending.Turn.{Turn}
-use Rattle.resolution_walk.specs.declared.ending.Turn.TheVariants as turns
+use Rattle.resolution_walk.specs.declared.ending.Hop.{Hop}
+use Rattle.resolution_walk.specs.declared.ending.Hop.TheVariants as hops
 use Rattle.resolution_walk.specs.declared.ending.Uncut.{Uncut}
 use Rattle.resolution_walk.specs.declared.ending.Uncut.TheVariants as uncut
 use Rattle.resolution_walk.specs.declared.ending.Walk.{Walk}
@@ -40,43 +40,43 @@ suc_of n some = omega arith
 module _ (e : Given) (q : Query) where
   -- ---- what is wanted
 
-  wants_own : (t : Turn) → is_lacking e q.zone q.asked ≡ true → WantsLacking e q.zone q.asked t → TurnStops e q t
-  wants_own (turns.Ends (ends.Wants ws)) lacks k = record { sought = q.asked; is_sought = inl refl; some = lacks; are = k }
+  wants_own : (t : Hop) → is_lacking e q.zone q.asked ≡ true → WantsLacking e q.zone q.asked t → HopStops e q t
+  wants_own (hops.Ends (ends.Wants ws)) lacks k = record { sought = q.asked; is_sought = inl refl; some = lacks; are = k }
   wants_own _ lacks k = absurd k
 
-  wants_at : (sought : Asked) (t : Turn) → IsBetween e q.asked q.zone q.ds sought → is_lacking e q.zone sought ≡ true → WantsLacking e q.zone sought t → TurnStops e q t
-  wants_at sought (turns.Ends (ends.Wants ws)) between lacks k = record { sought = sought; is_sought = inr between; some = lacks; are = k }
+  wants_at : (sought : Asked) (t : Hop) → IsBetween e q.asked q.zone q.ds sought → is_lacking e q.zone sought ≡ true → WantsLacking e q.zone sought t → HopStops e q t
+  wants_at sought (hops.Ends (ends.Wants ws)) between lacks k = record { sought = sought; is_sought = inr between; some = lacks; are = k }
   wants_at sought _ between lacks k = absurd k
 
   -- a turn that wants messages leads nowhere
-  leads_nowhere : (sought : Asked) (t : Turn) (l : Option Lasting) → WantsLacking e q.zone sought t → IsWay e q (onward_of t) l
-  leads_nowhere sought (turns.Ends (ends.Wants ws)) l k = tt
+  leads_nowhere : (sought : Asked) (t : Hop) (l : Option Validity) → WantsLacking e q.zone sought t → IsWay e q (onward_of t) l
+  leads_nowhere sought (hops.Ends (ends.Wants ws)) l k = tt
   leads_nowhere sought _ l k = absurd k
 
-  pub wants_own_in : (r : Result Taken AllocError) → is_lacking e q.zone q.asked ≡ true → IfOk r (λ t. WantsLacking e q.zone q.asked t.turn) → IfOk r (IsStop e q)
-  wants_own_in (Ok t) lacks k = wants_own t.turn lacks k
+  pub wants_own_in : (r : Result JudgedHop AllocError) → is_lacking e q.zone q.asked ≡ true → IfOk r (λ t. WantsLacking e q.zone q.asked t.hop) → IfOk r (IsStop e q)
+  wants_own_in (Ok t) lacks k = wants_own t.hop lacks k
   wants_own_in (Err x) lacks k = tt
 
-  pub stops_in : (r : Result Taken AllocError) → IfOk r (λ t. WantsLacking e q.zone q.asked t.turn) → IfOk r (IsTurn e q)
-  stops_in (Ok t) k = leads_nowhere q.asked t.turn t.lasting k
+  pub stops_in : (r : Result JudgedHop AllocError) → IfOk r (λ t. WantsLacking e q.zone q.asked t.hop) → IfOk r (IsHop e q)
+  stops_in (Ok t) k = leads_nowhere q.asked t.hop t.validity k
   stops_in (Err x) k = tt
 
-  pub not_judged_in : (before : Counts) (r : Result Taken AllocError) → is_lacking e q.zone q.asked ≡ true → IfOk r (λ t. t.counts ≡ before) → IfOk r (IsCounted e q before)
+  pub not_judged_in : (before : Counts) (r : Result JudgedHop AllocError) → is_lacking e q.zone q.asked ≡ true → IfOk r (λ t. t.counts ≡ before) → IfOk r (IsCounted e q before)
   not_judged_in before (Ok t) lacks k = NotJudged lacks k
   not_judged_in before (Err x) lacks k = tt
 
-  pub wants_there : (sought : Asked) (r : Result (Result Taken Uncut) AllocError) → IsBetween e q.asked q.zone q.ds sought → is_lacking e q.zone sought ≡ true
-      → IfOk r (λ x. MatchResult x (λ t. WantsLacking e q.zone sought t.turn) (λ n. ⊥)) → IfOk r (λ x. IfOk x (IsStop e q))
-  wants_there sought (Ok (Ok t)) between lacks k = wants_at sought t.turn between lacks k
+  pub wants_there : (sought : Asked) (r : Result (Result JudgedHop Uncut) AllocError) → IsBetween e q.asked q.zone q.ds sought → is_lacking e q.zone sought ≡ true
+      → IfOk r (λ x. MatchResult x (λ t. WantsLacking e q.zone sought t.hop) (λ n. ⊥)) → IfOk r (λ x. IfOk x (IsStop e q))
+  wants_there sought (Ok (Ok t)) between lacks k = wants_at sought t.hop between lacks k
   wants_there sought (Ok (Err n)) between lacks k = tt
   wants_there sought (Err x) between lacks k = tt
 
-  pub stops_there : (sought : Asked) (r : Result (Result Taken Uncut) AllocError) → IfOk r (λ x. MatchResult x (λ t. WantsLacking e q.zone sought t.turn) (λ n. ⊥)) → IfOk r (λ x. IfOk x (IsTurn e q))
-  stops_there sought (Ok (Ok t)) k = leads_nowhere sought t.turn t.lasting k
+  pub stops_there : (sought : Asked) (r : Result (Result JudgedHop Uncut) AllocError) → IfOk r (λ x. MatchResult x (λ t. WantsLacking e q.zone sought t.hop) (λ n. ⊥)) → IfOk r (λ x. IfOk x (IsHop e q))
+  stops_there sought (Ok (Ok t)) k = leads_nowhere sought t.hop t.validity k
   stops_there sought (Ok (Err n)) k = tt
   stops_there sought (Err x) k = tt
 
-  pub lacking_there : (sought : Asked) (before : Counts) (r : Result (Result Taken Uncut) AllocError) → IfOk r (λ x. MatchResult x (λ t. WantsLacking e q.zone sought t.turn) (λ n. ⊥)) → IfOk r (λ x. counts_in x ≡ before)
+  pub lacking_there : (sought : Asked) (before : Counts) (r : Result (Result JudgedHop Uncut) AllocError) → IfOk r (λ x. MatchResult x (λ t. WantsLacking e q.zone sought t.hop) (λ n. ⊥)) → IfOk r (λ x. counts_in x ≡ before)
       → IfOk r (IsJudgedFor e q sought before)
   lacking_there sought before (Ok (Ok t)) wants k = inl k
   lacking_there sought before (Ok (Err u)) wants k = absurd wants
@@ -84,73 +84,73 @@ module _ (e : Given) (q : Query) where
 
   -- ---- by the answer to the question
 
-  own_step : (h : JudgeInput) (t : Telling) → IsOf e q.zone q.ds q.asked h → IsTelling e.algorithms e.table h t → IsOwnStep e q.zone q.ds q.asked (told t.step) t.lasting t.counts
+  own_step : (h : JudgeInput) (t : JudgedStep) → IsOf e q.zone q.ds q.asked h → IsJudgedStep e.algorithms e.table h t → IsOwnStep e q.zone q.ds q.asked (told t.step) t.validity t.counts
   own_step h t of is = record { judged = h; of = of; told_is = is }
 
-  pub own_stops_in : (h : JudgeInput) (t : Telling) (now : StepSeen) (r : Result Taken AllocError) → IsOf e q.zone q.ds q.asked h → IsTelling e.algorithms e.table h t → IsToldWay (told t.step) now
-      → IfOk r (λ x. IsTurnedTo q now x.turn) → IfOk r (IsStop e q)
+  pub own_stops_in : (h : JudgeInput) (t : JudgedStep) (now : StepSeen) (r : Result JudgedHop AllocError) → IsOf e q.zone q.ds q.asked h → IsJudgedStep e.algorithms e.table h t → IsToldWay (told t.step) now
+      → IfOk r (λ x. IsHopTo q now x.hop) → IfOk r (IsStop e q)
   own_stops_in h t now (Ok x) of is way k =
       let tells = ap is_nothing (sym way.0) ∙ way.1 in
-      own_stop e q (told t.step) t.lasting t.counts x.turn tells (own_step h t of is) (subst (λ (y : StepSeen). IsTurnedTo q y x.turn) way.0 k)
+      own_stop e q (told t.step) t.validity t.counts x.hop tells (own_step h t of is) (subst (λ (y : StepSeen). IsHopTo q y x.hop) way.0 k)
   own_stops_in h t now (Err x) of is way k = tt
 
-  pub own_counted_in : (h : JudgeInput) (t : Telling) (before sums : Counts) (r : Result Taken AllocError) → IsOf e q.zone q.ds q.asked h → IsTelling e.algorithms e.table h t → sums ≡ plus before t.counts
+  pub own_counted_in : (h : JudgeInput) (t : JudgedStep) (before sums : Counts) (r : Result JudgedHop AllocError) → IsOf e q.zone q.ds q.asked h → IsJudgedStep e.algorithms e.table h t → sums ≡ plus before t.counts
       → IfOk r (λ x. x.counts ≡ sums) → IfOk r (IsCounted e q before)
-  own_counted_in h t before sums (Ok x) of is sum k = ByAnswer (told t.step) t.lasting t.counts (own_step h t of is) (k ∙ sum)
+  own_counted_in h t before sums (Ok x) of is sum k = ByAnswer (told t.step) t.validity t.counts (own_step h t of is) (k ∙ sum)
   own_counted_in h t before sums (Err x) of is sum k = tt
 
-  pub untold_own : (h : JudgeInput) (t : Telling) (refusal : Option Refusal) → IsOf e q.zone q.ds q.asked h → IsTelling e.algorithms e.table h t → IsNothing (told t.step) refusal → IsAnswerUntold e q.asked q.zone q.ds refusal t.counts
-  untold_own h t refusal of is nothing = record { said = told t.step; nothing = nothing; lasting = t.lasting; step = own_step h t of is }
+  pub untold_own : (h : JudgeInput) (t : JudgedStep) (refusal : Option Refusal) → IsOf e q.zone q.ds q.asked h → IsJudgedStep e.algorithms e.table h t → IsNothing (told t.step) refusal → IsAnswerUntold e q.asked q.zone q.ds refusal t.counts
+  untold_own h t refusal of is nothing = record { said = told t.step; nothing = nothing; validity = t.validity; step = own_step h t of is }
 
   pub unanswered : (refusal : Option Refusal) (own : Counts) → IsAnswerUntold e q.asked q.zone q.ds refusal own → IsUnanswered e q.asked q.zone q.ds
   unanswered refusal own k = record { refusal = refusal; counts = own; untold = k }
 
-  pub untold_stops_in : (refusal : Option Refusal) (own : Counts) (r : Result Taken AllocError) → IsAnswerUntold e q.asked q.zone q.ds refusal own → IsLast e q.asked q.zone q.ds refusal
-      → IfOk r (λ x. IsTurnUntold q refusal x.turn) → IfOk r (IsStop e q)
-  untold_stops_in refusal own (Ok x) k last turns = untold_stop e q refusal own x.turn k last turns
-  untold_stops_in refusal own (Err x) k last turns = tt
+  pub untold_stops_in : (refusal : Option Refusal) (own : Counts) (r : Result JudgedHop AllocError) → IsAnswerUntold e q.asked q.zone q.ds refusal own → IsLast e q.asked q.zone q.ds refusal
+      → IfOk r (λ x. IsHopUntold q refusal x.hop) → IfOk r (IsStop e q)
+  untold_stops_in refusal own (Ok x) k last hops = untold_stop e q refusal own x.hop k last hops
+  untold_stops_in refusal own (Err x) k last hops = tt
 
   pub between_counted : (refusal : Option Refusal) (own before sums after : Counts) → IsAnswerUntold e q.asked q.zone q.ds refusal own → sums ≡ plus before own → AreJudgedBetween e q.asked q.zone q.ds sums after → AreJudged e q.asked q.zone q.ds before after
   between_counted refusal own before sums after k sum below = Between refusal own k (subst (λ (n : Counts). AreJudgedBetween e q.asked q.zone q.ds n after) sum below)
 
-  pub untold_counted_in : (refusal : Option Refusal) (own before sums after : Counts) (r : Result Taken AllocError) → IsAnswerUntold e q.asked q.zone q.ds refusal own → sums ≡ plus before own → AreJudgedBetween e q.asked q.zone q.ds sums after
+  pub untold_counted_in : (refusal : Option Refusal) (own before sums after : Counts) (r : Result JudgedHop AllocError) → IsAnswerUntold e q.asked q.zone q.ds refusal own → sums ≡ plus before own → AreJudgedBetween e q.asked q.zone q.ds sums after
       → IfOk r (λ x. x.counts ≡ after) → IfOk r (IsCounted e q before)
   untold_counted_in refusal own before sums after (Ok x) k sum below is = between_counted refusal own before sums x.counts k sum (subst (AreJudgedBetween e q.asked q.zone q.ds sums) (sym is) below)
   untold_counted_in refusal own before sums after (Err x) k sum below is = tt
 
   -- ---- by an answer for DS
 
-  name_step : (sought : Asked) (h : JudgeInput) (t : Telling) → IsOf e q.zone q.ds sought h → IsCutTelling e.algorithms e.table h t → IsNameStep e q.zone q.ds sought (told t.step) t.lasting t.counts
+  name_step : (sought : Asked) (h : JudgeInput) (t : JudgedStep) → IsOf e q.zone q.ds sought h → IsJudgedCut e.algorithms e.table h t → IsNameStep e q.zone q.ds sought (told t.step) t.validity t.counts
   name_step sought h t of is = record { judged = h; of = of; told_is = is }
 
-  pub name_stops_in : (sought : Asked) (h : JudgeInput) (t : Telling) (now : StepSeen) (r : Result (Result Taken Uncut) AllocError) → IsBetween e q.asked q.zone q.ds sought → IsOf e q.zone q.ds sought h → IsCutTelling e.algorithms e.table h t
-      → now ≡ told t.step → now ≡ at_cut (told t.step) → IfOk r (λ x. MatchResult x (λ y. IsTurnedTo (asking q sought) now y.turn) (λ n. ⊥)) → IfOk r (λ x. IfOk x (IsStop e q))
-  name_stops_in sought h t now (Ok (Ok x)) between of is same cut k = name_stop e q sought (told t.step) now t.lasting t.counts x.turn between (name_step sought h t of is) same cut k
+  pub name_stops_in : (sought : Asked) (h : JudgeInput) (t : JudgedStep) (now : StepSeen) (r : Result (Result JudgedHop Uncut) AllocError) → IsBetween e q.asked q.zone q.ds sought → IsOf e q.zone q.ds sought h → IsJudgedCut e.algorithms e.table h t
+      → now ≡ told t.step → now ≡ at_cut (told t.step) → IfOk r (λ x. MatchResult x (λ y. IsHopTo (asking q sought) now y.hop) (λ n. ⊥)) → IfOk r (λ x. IfOk x (IsStop e q))
+  name_stops_in sought h t now (Ok (Ok x)) between of is same cut k = name_stop e q sought (told t.step) now t.validity t.counts x.hop between (name_step sought h t of is) same cut k
   name_stops_in sought h t now (Ok (Err n)) between of is same cut k = tt
   name_stops_in sought h t now (Err x) between of is same cut k = tt
 
   -- what is told of a delegation, as contracts see it
-  pub cut_at : (sought : Asked) (h : JudgeInput) (t : Telling) (now : StepSeen) → IsOf e q.zone q.ds sought h → IsCutTelling e.algorithms e.table h t → IsToldCut (told t.step) now → now ≡ at_cut (told t.step)
-  cut_at sought h t now of is cut = cut.0 ∙ name_cut e q.zone q.ds sought (told t.step) t.lasting t.counts (name_step sought h t of is) (ap is_uncut (sym cut.0) ∙ cut.1)
+  pub cut_at : (sought : Asked) (h : JudgeInput) (t : JudgedStep) (now : StepSeen) → IsOf e q.zone q.ds sought h → IsJudgedCut e.algorithms e.table h t → IsToldCut (told t.step) now → now ≡ at_cut (told t.step)
+  cut_at sought h t now of is cut = cut.0 ∙ name_cut e q.zone q.ds sought (told t.step) t.validity t.counts (name_step sought h t of is) (ap is_uncut (sym cut.0) ∙ cut.1)
 
-  told_for : (sought : Asked) (h : JudgeInput) (t : Telling) (before after : Counts) → IsOf e q.zone q.ds sought h → IsCutTelling e.algorithms e.table h t → after ≡ plus before t.counts → IsToldFor e q.zone q.ds sought (told t.step) before after
-  told_for sought h t before after of is sum = record { lasting = t.lasting; counts = t.counts; step = name_step sought h t of is; sum = sum }
+  told_for : (sought : Asked) (h : JudgeInput) (t : JudgedStep) (before after : Counts) → IsOf e q.zone q.ds sought h → IsJudgedCut e.algorithms e.table h t → after ≡ plus before t.counts → IsToldFor e q.zone q.ds sought (told t.step) before after
+  told_for sought h t before after of is sum = record { validity = t.validity; counts = t.counts; step = name_step sought h t of is; sum = sum }
 
-  pub name_judged_in : (sought : Asked) (h : JudgeInput) (t : Telling) (now : StepSeen) (before sums : Counts) (r : Result (Result Taken Uncut) AllocError) → IsOf e q.zone q.ds sought h → IsCutTelling e.algorithms e.table h t → sums ≡ plus before t.counts
-      → IfOk r (λ x. MatchResult x (λ y. IsTurnedTo (asking q sought) now y.turn) (λ n. ⊥)) → IfOk r (λ x. counts_in x ≡ sums) → IfOk r (IsJudgedFor e q sought before)
-  name_judged_in sought h t now before sums (Ok (Ok x)) of is sum turns k = inr (told t.step, told_for sought h t before x.counts of is (k ∙ sum))
-  name_judged_in sought h t now before sums (Ok (Err u)) of is sum turns k = absurd turns
-  name_judged_in sought h t now before sums (Err x) of is sum turns k = tt
+  pub name_judged_in : (sought : Asked) (h : JudgeInput) (t : JudgedStep) (now : StepSeen) (before sums : Counts) (r : Result (Result JudgedHop Uncut) AllocError) → IsOf e q.zone q.ds sought h → IsJudgedCut e.algorithms e.table h t → sums ≡ plus before t.counts
+      → IfOk r (λ x. MatchResult x (λ y. IsHopTo (asking q sought) now y.hop) (λ n. ⊥)) → IfOk r (λ x. counts_in x ≡ sums) → IfOk r (IsJudgedFor e q sought before)
+  name_judged_in sought h t now before sums (Ok (Ok x)) of is sum hops k = inr (told t.step, told_for sought h t before x.counts of is (k ∙ sum))
+  name_judged_in sought h t now before sums (Ok (Err u)) of is sum hops k = absurd hops
+  name_judged_in sought h t now before sums (Err x) of is sum hops k = tt
 
-  pub uncut_judged : (sought : Asked) (h : JudgeInput) (t : Telling) (before sums : Counts) (u : Uncut) → IsOf e q.zone q.ds sought h → IsCutTelling e.algorithms e.table h t → sums ≡ plus before t.counts → IsUncutTold (told t.step) sums u
+  pub uncut_judged : (sought : Asked) (h : JudgeInput) (t : JudgedStep) (before sums : Counts) (u : Uncut) → IsOf e q.zone q.ds sought h → IsJudgedCut e.algorithms e.table h t → sums ≡ plus before t.counts → IsUncutTold (told t.step) sums u
       → IsJudgedFor e q sought before (Err u)
   uncut_judged sought h t before sums (uncut.SoFar n) of is sum k = subst (λ (y : StepSeen). IsToldFor e q.zone q.ds sought y before n) k.1 (told_for sought h t before n of is (k.0 ∙ sum))
-  uncut_judged sought h t before sums (uncut.AtAll n) of is sum k = subst (λ (y : StepSeen). IsToldFor e q.zone q.ds sought y before n) k.1 (told_for sought h t before n of is (k.0 ∙ sum))
+  uncut_judged sought h t before sums (uncut.Throughout n) of is sum k = subst (λ (y : StepSeen). IsToldFor e q.zone q.ds sought y before n) k.1 (told_for sought h t before n of is (k.0 ∙ sum))
 
-  pub judged_at : (sought : Asked) (n : Name) (before : Counts) (r : Result (Result Taken Uncut) AllocError) → sought ≡ ds_at q.asked n → IfOk r (IsJudgedFor e q sought before) → IfOk r (IsJudgedFor e q (ds_at q.asked n) before)
+  pub judged_at : (sought : Asked) (n : Name) (before : Counts) (r : Result (Result JudgedHop Uncut) AllocError) → sought ≡ ds_at q.asked n → IfOk r (IsJudgedFor e q sought before) → IfOk r (IsJudgedFor e q (ds_at q.asked n) before)
   judged_at sought n before r is k = subst (λ (p : Asked). IfOk r (IsJudgedFor e q p before)) is k
 
-  pub other_at : (n : Name) (before : Counts) (r : Result (Result Taken Uncut) AllocError) → IfOk r (IsJudgedFor e q (ds_at q.asked n) before) → IfOk r (IsJudgedAt e q n before)
+  pub other_at : (n : Name) (before : Counts) (r : Result (Result JudgedHop Uncut) AllocError) → IfOk r (IsJudgedFor e q (ds_at q.asked n) before) → IfOk r (IsJudgedAt e q n before)
   other_at n before (Ok x) k = inr k
   other_at n before (Err x) k = tt
 
@@ -173,14 +173,14 @@ module _ (e : Given) (q : Query) where
 
   uncut_counted : (n : Name) (before : Counts) (u : Uncut) → IsUncut e q before n u → AreJudgedBetween e q.asked q.zone q.ds before (counts_of u)
   uncut_counted n before (uncut.SoFar after) k = UpTo n k
-  uncut_counted n before (uncut.AtAll after) k = below_counted before after k
+  uncut_counted n before (uncut.Throughout after) k = below_counted before after k
 
   -- no delegation is at any name between: so it is where the question's name is reached
   all_uncut : (before : Counts) (u : Uncut) → IsUncut e q before q.asked.name u → AreAllUncut e q.asked q.zone q.ds
   all_uncut before (uncut.SoFar after) k = DownToName k
-  all_uncut before (uncut.AtAll after) k = DownToMissing k
+  all_uncut before (uncut.Throughout after) k = DownToMissing k
 
-  pub all_last : (refusal : Option Refusal) (before : Counts) (r : Result (Result Taken Uncut) AllocError) → IfOk r (λ x. IfErr x (IsUncut e q before q.asked.name)) → IfOk r (λ x. IfErr x (λ u. IsLast e q.asked q.zone q.ds refusal))
+  pub all_last : (refusal : Option Refusal) (before : Counts) (r : Result (Result JudgedHop Uncut) AllocError) → IfOk r (λ x. IfErr x (IsUncut e q before q.asked.name)) → IfOk r (λ x. IfErr x (λ u. IsLast e q.asked q.zone q.ds refusal))
   all_last refusal before (Ok (Ok t)) k = tt
   all_last refusal before (Ok (Err u)) k = inr (all_uncut before u k)
   all_last refusal before (Err x) k = tt
@@ -197,20 +197,20 @@ module _ (e : Given) (q : Query) where
         let same : after ≡ sums = (let both : Err (uncut.SoFar after) ≡ Err (uncut.SoFar sums) = itself.1 in cc) in
         Itself itself.0 (subst (AreUncut e q.asked q.zone q.ds before (drop 1 n)) (sym same) above)
     one_uncut (uncut.SoFar after) (inr told) = Next lies above told
-    one_uncut (uncut.AtAll after) (inl itself) = let both : Err (uncut.AtAll after) ≡ Err (uncut.SoFar sums) = itself.1 in absurd cc
-    one_uncut (uncut.AtAll after) (inr told) = record { name = n; lies = lies; between = sums; above = above; told = told }
+    one_uncut (uncut.Throughout after) (inl itself) = let both : Err (uncut.Throughout after) ≡ Err (uncut.SoFar sums) = itself.1 in absurd cc
+    one_uncut (uncut.Throughout after) (inr told) = record { name = n; lies = lies; between = sums; above = above; told = told }
 
-    one_counted : (t : Taken) → IsJudgedAt e q n sums (Ok t) → AreJudgedBetween e q.asked q.zone q.ds before t.counts
+    one_counted : (t : JudgedHop) → IsJudgedAt e q n sums (Ok t) → AreJudgedBetween e q.asked q.zone q.ds before t.counts
     one_counted t (inl itself) = let both : Ok t ≡ Err (uncut.SoFar sums) = itself.1 in absurd cc
     one_counted t (inr (inl same)) = UpTo (drop 1 n) (subst (AreUncut e q.asked q.zone q.ds before (drop 1 n)) (sym same) above)
     one_counted t (inr (inr (said, told))) = AndNext n said lies above told
 
-    pub uncut_in : (r : Result (Result Taken Uncut) AllocError) → IfOk r (IsJudgedAt e q n sums) → IfOk r (λ x. IfErr x (IsUncut e q before n))
+    pub uncut_in : (r : Result (Result JudgedHop Uncut) AllocError) → IfOk r (IsJudgedAt e q n sums) → IfOk r (λ x. IfErr x (IsUncut e q before n))
     uncut_in (Ok (Ok t)) at = tt
     uncut_in (Ok (Err u)) at = one_uncut u at
     uncut_in (Err x) at = tt
 
-    pub judged_in : (r : Result (Result Taken Uncut) AllocError) → IfOk r (IsJudgedAt e q n sums) → IfOk r (λ x. IsCountedBetween e q before x)
+    pub judged_in : (r : Result (Result JudgedHop Uncut) AllocError) → IfOk r (IsJudgedAt e q n sums) → IfOk r (λ x. IsCountedBetween e q before x)
     judged_in (Ok (Ok t)) at = one_counted t at
     judged_in (Ok (Err u)) at = uncut_counted n before u (one_uncut u at)
     judged_in (Err x) at = tt
@@ -220,12 +220,12 @@ module _ (e : Given) (q : Query) where
   pub stops_here : (ending : Ending) (cuts : ℕ) (before after : Counts) → AreJudged e q.asked q.zone q.ds before after → EndsAt e q.asked q.zone q.ds ending → Stops e q.asked ending cuts q.zone q.ds before after
   stops_here ending cuts before after counted stops = Here counted stops
 
-  one_below : (ending : Ending) (cuts : ℕ) (c : Name) (below : List Ds) (l : Option Lasting) (before between after : Counts) → AreJudged e q.asked q.zone q.ds before between → IsOnward e q.asked q.zone q.ds (GoesDown c below) l
+  one_below : (ending : Ending) (cuts : ℕ) (c : Name) (below : List Ds) (l : Option Validity) (before between after : Counts) → AreJudged e q.asked q.zone q.ds before between → IsOnward e q.asked q.zone q.ds (GoesDown c below) l
       → StopsBelow e q.asked ending cuts c below between after → Stops e q.asked ending cuts q.zone q.ds before after
   one_below ending cuts c below l before between after counted way (NoneLeft same is) = TooDeep l (subst (AreJudged e q.asked q.zone q.ds before) (sym is) counted) way same
   one_below ending cuts c below l before between after counted way (OneLess stops) = Below l counted way stops
 
-  pub stops_below : (cuts : ℕ) (c : Name) (below : List Ds) (l : Option Lasting) (before between : Counts) (end all : End) → AreJudged e q.asked q.zone q.ds before between → IsOnward e q.asked q.zone q.ds (GoesDown c below) l
+  pub stops_below : (cuts : ℕ) (c : Name) (below : List Ds) (l : Option Validity) (before between : Counts) (end all : End) → AreJudged e q.asked q.zone q.ds before between → IsOnward e q.asked q.zone q.ds (GoesDown c below) l
       → StopsBelowIn e (delegated q c below) cuts between end → all.ending ≡ end.ending → all.counts ≡ end.counts → StopsIn e q cuts before all
   stops_below cuts c below l before between end all counted way stops same counts =
       let by_end : Stops e q.asked end.ending cuts q.zone q.ds before end.counts = one_below end.ending cuts c below l before between end.counts counted way stops in

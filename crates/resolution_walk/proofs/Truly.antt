@@ -26,10 +26,10 @@ says_so : (e : Given) (asked : Asked) (w : Walk) → IsWalked e asked [] w
     → IfSome (said_of w.ending) (λ said. (zones : List SignedZone) (anchor : SignedZone) → IsOfTree e asked.class zones anchor → Resolves (knows e.algorithms) (tree_of zones) (zone_of anchor) asked.rtype said asked.name w.through.items)
 says_so e asked w is = go (said_of w.ending) is
   where
-    go : (o : Option Said) → IfSome o (IsFollowed e asked [] w.through.items w.lasting)
+    go : (o : Option Said) → IfSome o (IsFollowed e asked [] w.through.items w.validity)
         → IfSome o (λ said. (zones : List SignedZone) (anchor : SignedZone) → IsOfTree e asked.class zones anchor → Resolves (knows e.algorithms) (tree_of zones) (zone_of anchor) asked.rtype said asked.name w.through.items)
     go None is = tt
-    go (Some said) is = λ zones anchor of. subst (Resolves (knows e.algorithms) (tree_of zones) (zone_of anchor) asked.rtype said asked.name) (sym is.through_are) (follows_so e asked.class zones anchor of said asked refl is.names w.lasting is.follows)
+    go (Some said) is = λ zones anchor of. subst (Resolves (knows e.algorithms) (tree_of zones) (zone_of anchor) asked.rtype said asked.name) (sym is.through_are) (follows_so e asked.class zones anchor of said asked refl is.names w.validity is.follows)
 
 -- ---- DS data of a delegation that is not signed
 
@@ -60,10 +60,10 @@ module _ (e : Given) (class : ℕ) (zones : List SignedZone) (anchor : SignedZon
   stops_ds : (asked : Asked) → asked.class ≡ class → (ending : Ending) (cuts : ℕ) (zone : Name) (ds : List Ds) (before after : Counts) (s : SignedZone) → s.apex ≡ zone → IsAnchored e zones anchor s ds
       → Stops e asked ending cuts zone ds before after → HasDs asked s ending
   stops_ds asked in_class ending cuts zone ds before after s at a (Here judged stops) = ends_ds asked in_class s ds ending a (subst (λ (n : Name). EndsAt e asked n ds ending) (sym at) stops)
-  stops_ds asked in_class ending cuts zone ds before after s at a (Below {cuts = less} {c = c} {below = below} {between = between} lasting judged way more) =
-      let d : IsDown e zones anchor asked s c below = down_so e class zones anchor of asked in_class zone c ds below lasting s at a way in
+  stops_ds asked in_class ending cuts zone ds before after s at a (Below {cuts = less} {c = c} {below = below} {between = between} validity judged way more) =
+      let d : IsDown e zones anchor asked s c below = down_so e class zones anchor of asked in_class zone c ds below validity s at a way in
       above_ds asked s d.child c ending d.refers d.bound d.found (stops_ds asked in_class ending less c below between after d.child d.child_is d.anchored more)
-  stops_ds asked in_class ending cuts zone ds before after s at a (TooDeep lasting judged way same) = subst (HasDs asked s) (sym same) tt
+  stops_ds asked in_class ending cuts zone ds before after s at a (TooDeep validity judged way same) = subst (HasDs asked s) (sym same) tt
 
   -- through aliases
   behind_ds : (cuts : ℕ) (ending : Ending) (aliases : ℕ) (asked : Asked) → asked.class ≡ class → (ns : List Name) (before after : Counts) → StopsBehind e cuts ending aliases asked ns before after

@@ -3,7 +3,7 @@ use Rattle.std.specs.Prelude.{◌≡◌, Bool, true, false, ◌&&◌, ◌==◌, 
 use Rattle.definitions.specs.Dnskey.{Ds}
 use Rattle.definitions.specs.Name.{Name, same, at_or_above, strictly_above}
 use Rattle.messages.specs.Message.{Asked}
-use Rattle.answer_judge_facts.specs.declared.lasting.Lasting.{Lasting}
+use Rattle.answer_judge_facts.specs.declared.validity.Validity.{Validity}
 use Rattle.answer_judge.specs.declared.verdict.Refusal.{Refusal}
 use Rattle.resolution_evidence.specs.Counted.{plus}
 use Rattle.resolution_evidence.specs.Counts.{Counts}
@@ -24,8 +24,8 @@ IsNothing _ refusal = ⊥
 pub record IsAnswerUntold (e : Given) (asked : Asked) (zone : Name) (ds : List Ds) (refusal : Option Refusal) (counts : Counts) : Type 0 where
   pub said : StepSeen
   pub nothing : IsNothing said refusal
-  pub lasting : Option Lasting
-  pub step : IsOwnStep e zone ds asked said lasting counts
+  pub validity : Option Validity
+  pub step : IsOwnStep e zone ds asked said validity counts
 
 pub record IsUnanswered (e : Given) (asked : Asked) (zone : Name) (ds : List Ds) : Type 0 where
   pub refusal : Option Refusal
@@ -44,9 +44,9 @@ is_itself asked n = same n asked.name && (asked.rtype == 43)
 
 -- a zone's answer for DS tells this of a delegation, with the counts before its judgement and after
 pub record IsToldFor (e : Given) (zone : Name) (ds : List Ds) (sought : Asked) (said : StepSeen) (before after : Counts) : Type 0 where
-  pub lasting : Option Lasting
+  pub validity : Option Validity
   pub counts : Counts
-  pub step : IsNameStep e zone ds sought said lasting counts
+  pub step : IsNameStep e zone ds sought said validity counts
   pub sum : after ≡ plus before counts
 
 -- No delegation is at the names between, from the topmost one down to this one: at each the zone's answer for DS tells so, unless

@@ -3,7 +3,7 @@ use Rattle.std.specs.Prelude.{◌≡◌, ◌⊎◌, ℕ, Bool, true, false, List
 use Rattle.definitions.specs.Dnskey.{Ds}
 use Rattle.definitions.specs.Name.{Name}
 use Rattle.messages.specs.Message.{Asked}
-use Rattle.answer_judge_facts.specs.declared.lasting.Lasting.{Lasting}
+use Rattle.answer_judge_facts.specs.declared.validity.Validity.{Validity}
 use Rattle.answer_judge.specs.declared.verdict.Refusal.{Refusal}
 use Rattle.answer_judge.specs.declared.verdict.Refusal.TheVariants as r
 use Rattle.resolution_evidence.specs.Counted.{plus}
@@ -14,7 +14,7 @@ use Rattle.resolution_evidence.specs.Walking.{IsNameStep, IsOwnStep, ds_at}
 use Rattle.resolution_walk.specs.Between.{AreAllUncut, AreUncut, AreUncutBelow, IsAnswerUntold, IsBetween, IsNothing, IsToldFor, LiesBetween, is_itself}
 use Rattle.resolution_walk.specs.Query.{Query}
 use Rattle.resolution_walk.specs.Wanted.{is_lacking}
-use Rattle.resolution_walk.specs.declared.ending.Taken.{Taken}
+use Rattle.resolution_walk.specs.declared.ending.JudgedHop.{JudgedHop}
 use Rattle.resolution_walk.specs.declared.ending.Uncut.{Uncut}
 use Rattle.resolution_walk.specs.declared.ending.Uncut.TheVariants as uncut
 
@@ -30,7 +30,7 @@ pub data AreJudgedBetween (e : Given) (asked : Asked) (zone : Name) (ds : List D
 -- Of a zone's answer to a question, if its messages are there; or of that, where it tells nothing, and behind it at the names between.
 pub data AreJudged (e : Given) (asked : Asked) (zone : Name) (ds : List Ds) (before after : Counts) : Type 0 where
   NotJudged : is_lacking e zone asked ≡ true → after ≡ before → AreJudged e asked zone ds before after
-  ByAnswer : (said : StepSeen) (lasting : Option Lasting) (counts : Counts) → IsOwnStep e zone ds asked said lasting counts → after ≡ plus before counts → AreJudged e asked zone ds before after
+  ByAnswer : (said : StepSeen) (validity : Option Validity) (counts : Counts) → IsOwnStep e zone ds asked said validity counts → after ≡ plus before counts → AreJudged e asked zone ds before after
   Between : (refusal : Option Refusal) (counts : Counts) → IsAnswerUntold e asked zone ds refusal counts → AreJudgedBetween e asked zone ds (plus before counts) after
       → AreJudged e asked zone ds before after
 
@@ -38,8 +38,8 @@ pub data AreJudged (e : Given) (asked : Asked) (zone : Name) (ds : List Ds) (bef
 
 -- What a zone tells on the way: by its answer to the question, or of a delegation by its answer for DS at a name between.
 pub data IsHeard (e : Given) (asked : Asked) (zone : Name) (ds : List Ds) (sought : Asked) (said : StepSeen) : Type 0 where
-  OfAnswer : (lasting : Option Lasting) (counts : Counts) → sought ≡ asked → IsOwnStep e zone ds asked said lasting counts → IsHeard e asked zone ds sought said
-  OfName : (lasting : Option Lasting) (counts : Counts) → IsBetween e asked zone ds sought → IsNameStep e zone ds sought said lasting counts
+  OfAnswer : (validity : Option Validity) (counts : Counts) → sought ≡ asked → IsOwnStep e zone ds asked said validity counts → IsHeard e asked zone ds sought said
+  OfName : (validity : Option Validity) (counts : Counts) → IsBetween e asked zone ds sought → IsNameStep e zone ds sought said validity counts
       → said ≡ at_cut said → IsHeard e asked zone ds sought said
 
 -- the zone's keys are refused, by which each of its messages is judged
@@ -79,29 +79,29 @@ pub record IsHeardThere (e : Given) (asked : Asked) (zone : Name) (ds : List Ds)
 
 abbrev pub counts_of : Uncut → Counts
 counts_of (uncut.SoFar counts) = counts
-counts_of (uncut.AtAll counts) = counts
+counts_of (uncut.Throughout counts) = counts
 
 -- counts behind a turn, or where there is none
-abbrev pub counts_in : Result Taken Uncut → Counts
+abbrev pub counts_in : Result JudgedHop Uncut → Counts
 counts_in (Ok t) = t.counts
 counts_in (Err u) = counts_of u
 
-abbrev pub IsCountedBetween : Given → Query → Counts → Result Taken Uncut → Type 0
+abbrev pub IsCountedBetween : Given → Query → Counts → Result JudgedHop Uncut → Type 0
 IsCountedBetween e q before r = AreJudgedBetween e q.asked q.zone q.ds before (counts_in r)
 
 -- no delegation is at the names between down to this one, or at any
 abbrev pub IsUncut : Given → Query → Counts → Name → Uncut → Type 0
 IsUncut e q before n (uncut.SoFar after) = AreUncut e q.asked q.zone q.ds before n after
-IsUncut e q before n (uncut.AtAll after) = AreUncutBelow e q.asked q.zone q.ds before after
+IsUncut e q before n (uncut.Throughout after) = AreUncutBelow e q.asked q.zone q.ds before after
 
 -- of a zone's answer for DS, if it is there; and what it tells, where there is no turn
-abbrev pub IsJudgedFor : Given → Query → Asked → Counts → Result Taken Uncut → Type 0
+abbrev pub IsJudgedFor : Given → Query → Asked → Counts → Result JudgedHop Uncut → Type 0
 IsJudgedFor e q sought before (Ok t) = (t.counts ≡ before) ⊎ ((said : StepSeen) × IsToldFor e q.zone q.ds sought said before t.counts)
 IsJudgedFor e q sought before (Err (uncut.SoFar after)) = IsToldFor e q.zone q.ds sought TellsNoCut before after
-IsJudgedFor e q sought before (Err (uncut.AtAll after)) = IsToldFor e q.zone q.ds sought TellsNoneBelow before after
+IsJudgedFor e q sought before (Err (uncut.Throughout after)) = IsToldFor e q.zone q.ds sought TellsNoneBelow before after
 
 -- at a name, unless DS there is the question itself
-abbrev pub IsJudgedAt : Given → Query → Name → Counts → Result Taken Uncut → Type 0
+abbrev pub IsJudgedAt : Given → Query → Name → Counts → Result JudgedHop Uncut → Type 0
 IsJudgedAt e q n before r = ((is_itself q.asked n ≡ true) × (r ≡ Err (uncut.SoFar before))) ⊎ IsJudgedFor e q (ds_at q.asked n) before r
 
 -- whether it is nothing of the way; and whether it is that no delegation is there
@@ -127,4 +127,4 @@ IsToldCut said s = (s ≡ said) × (is_uncut s ≡ false)
 -- that no delegation is there, with these counts
 abbrev pub IsUncutTold : StepSeen → Counts → Uncut → Type 0
 IsUncutTold said counts (uncut.SoFar n) = (n ≡ counts) × (said ≡ TellsNoCut)
-IsUncutTold said counts (uncut.AtAll n) = (n ≡ counts) × (said ≡ TellsNoneBelow)
+IsUncutTold said counts (uncut.Throughout n) = (n ≡ counts) × (said ≡ TellsNoneBelow)

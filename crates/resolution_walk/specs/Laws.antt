@@ -4,11 +4,11 @@ use Rattle.std.specs.Global.{Vec}
 use Rattle.std.specs.List.{AllByRecursion}
 use Rattle.definitions.specs.Name.{Name, at_or_above, same}
 use Rattle.messages.specs.Message.{Asked}
-use Rattle.answer_judge_facts.specs.declared.lasting.Lasting.{Lasting}
+use Rattle.answer_judge_facts.specs.declared.validity.Validity.{Validity}
 use Rattle.resolution_tree.specs.Laws.{AreAlike}
 use Rattle.resolution_tree.specs.Tree.{Said}
 use Rattle.resolution_evidence.specs.Given.{Given, Message, is_answer}
-use Rattle.resolution_evidence.specs.Staying.{HasOctets, IsWithin, ProvesThrough, at_time}
+use Rattle.resolution_evidence.specs.Staying.{HasOctets, IsWithinValidity, ProvesThrough, at_time}
 use Rattle.resolution_evidence.specs.Truth.{IsOfTree, SignedZone}
 use Rattle.resolution_evidence.specs.Walking.{renamed}
 use Rattle.resolution_walk.specs.Ended.{IsWalked, said_of}
@@ -25,8 +25,8 @@ use Rattle.resolution_walk.specs.declared.walk.Limits.{Limits}
 -- What a walk says, its evidence proves at each moment from there up to the last second that this lasts, through the same names.
 abbrev pub WalksStayProved : Type 0
 WalksStayProved =
-    (e : Given) (asked : Asked) (w : Walk) (said : Said) (l : Lasting) (later : ℕ)
-    → HasOctets e → IsWalked e asked [] w → said_of w.ending ≡ Some said → w.lasting ≡ Some l → IsWithin e.at later l
+    (e : Given) (asked : Asked) (w : Walk) (said : Said) (l : Validity) (later : ℕ)
+    → HasOctets e → IsWalked e asked [] w → said_of w.ending ≡ Some said → w.validity ≡ Some l → IsWithinValidity e.at later l
     → ProvesThrough (at_time later e) said asked w.through.items
 
 -- Two walks over evidence of one tree, at whatever moments, say no two things.

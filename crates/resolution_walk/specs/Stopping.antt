@@ -5,7 +5,7 @@ use Rattle.definitions.specs.Name.{Name}
 use Rattle.denial_laws.specs.Leading.{To}
 use Rattle.messages.specs.Message.{Asked}
 use Rattle.answer_judge_rules.specs.Rules.{verdict_of}
-use Rattle.answer_judge_facts.specs.declared.lasting.Lasting.{Lasting}
+use Rattle.answer_judge_facts.specs.declared.validity.Validity.{Validity}
 use Rattle.answer_judge.specs.declared.verdict.Refusal.{Refusal}
 use Rattle.resolution_tree.specs.Tree.{Said, Secure, Unsigned, LeftOpen, Leads}
 use Rattle.resolution_evidence.specs.Counted.{no_counts}
@@ -22,18 +22,18 @@ use Rattle.resolution_walk.specs.Wanted.{AreWantedOf, lacking}
 use Rattle.resolution_walk.specs.declared.ending.End.{End}
 use Rattle.resolution_walk.specs.declared.ending.Ending.{Ending}
 use Rattle.resolution_walk.specs.declared.ending.Ending.TheVariants as ends
-use Rattle.resolution_walk.specs.declared.ending.Taken.{Taken}
+use Rattle.resolution_walk.specs.declared.ending.JudgedHop.{JudgedHop}
 use Rattle.resolution_walk.specs.declared.ending.Target.{Target}
-use Rattle.resolution_walk.specs.declared.ending.Turn.{Turn}
-use Rattle.resolution_walk.specs.declared.ending.Turn.TheVariants as turns
+use Rattle.resolution_walk.specs.declared.ending.Hop.{Hop}
+use Rattle.resolution_walk.specs.declared.ending.Hop.TheVariants as hops
 use Rattle.resolution_walk.specs.declared.ending.Walk.{Walk}
 use Rattle.resolution_walk.specs.declared.walk.Limits.{Limits}
 use Rattle.resolution_walk.specs.declared.walk.Trail.{Trail}
 
 -- what a zone's messages tell ends the way, and says this
 pub record IsSaidIn (e : Given) (asked : Asked) (zone : Name) (ds : List Ds) (said : Said) : Type 0 where
-  pub lasting : Option Lasting
-  pub way : IsOnward e asked zone ds (EndsIn said) lasting
+  pub validity : Option Validity
+  pub way : IsOnward e asked zone ds (EndsIn said) validity
 
 -- An ending in a zone: what the zone's messages tell there, of a delegation that is not signed with its DS data; an answer that tells
 -- nothing is its own; the signatures that are asked for lack of an answer of it; and the messages that are wanted are exactly those that
@@ -52,15 +52,15 @@ EndsAt e asked zone ds _ = ⊥
 -- left. Each zone's messages are judged on the way.
 pub data Stops (e : Given) (asked : Asked) (ending : Ending) : ℕ → Name → List Ds → Counts → Counts → Type 0 where
   Here : {cuts : ℕ} {zone : Name} {ds : List Ds} {before after : Counts} → AreJudged e asked zone ds before after → EndsAt e asked zone ds ending → Stops e asked ending cuts zone ds before after
-  Below : {cuts : ℕ} {zone c : Name} {ds below : List Ds} {before between after : Counts} (lasting : Option Lasting) → AreJudged e asked zone ds before between
-      → IsOnward e asked zone ds (GoesDown c below) lasting → Stops e asked ending cuts c below between after → Stops e asked ending (suc cuts) zone ds before after
-  TooDeep : {zone c : Name} {ds below : List Ds} {before after : Counts} (lasting : Option Lasting) → AreJudged e asked zone ds before after
-      → IsOnward e asked zone ds (GoesDown c below) lasting → ending ≡ ends.TooManyCuts → Stops e asked ending 0 zone ds before after
+  Below : {cuts : ℕ} {zone c : Name} {ds below : List Ds} {before between after : Counts} (validity : Option Validity) → AreJudged e asked zone ds before between
+      → IsOnward e asked zone ds (GoesDown c below) validity → Stops e asked ending cuts c below between after → Stops e asked ending (suc cuts) zone ds before after
+  TooDeep : {zone c : Name} {ds below : List Ds} {before after : Counts} (validity : Option Validity) → AreJudged e asked zone ds before after
+      → IsOnward e asked zone ds (GoesDown c below) validity → ending ≡ ends.TooManyCuts → Stops e asked ending 0 zone ds before after
 
 -- an alias of a question of the anchor, and how often was verified and hashed for it
 pub record IsLed (e : Given) (asked : Asked) (cuts : ℕ) (before : Counts) (t : Target) : Type 0 where
   pub asked_of_it : is_asked_of e.anchor asked ≡ true
-  pub tells : Tells e asked (Leads (To t.name)) e.anchor e.ds t.lasting
+  pub tells : Tells e asked (Leads (To t.name)) e.anchor e.ds t.validity
   pub ending : Ending
   pub says : said_of ending ≡ Some (Leads (To t.name))
   pub stops : Stops e asked ending cuts e.anchor e.ds before t.counts
@@ -79,35 +79,35 @@ pub data StopsBehind (e : Given) (cuts : ℕ) (ending : Ending) : ℕ → Asked 
 
 -- ---- of one zone
 
-abbrev pub TurnStops : Given → Query → Turn → Type 0
-TurnStops e q (turns.Down c below) = Unit {0}
-TurnStops e q (turns.Ends ending) = EndsAt e q.asked q.zone q.ds ending
+abbrev pub HopStops : Given → Query → Hop → Type 0
+HopStops e q (hops.Down c below) = Unit {0}
+HopStops e q (hops.Ends ending) = EndsAt e q.asked q.zone q.ds ending
 
 -- a turn where the answer of a zone to a question tells nothing, and why it is refused, if it is
-abbrev pub IsTurnUntold : Query → Option Refusal → Turn → Type 0
-IsTurnUntold q refusal (turns.Ends (ends.Untold of by name t r)) = (of ≡ q.zone) × (by.items ≡ q.ds) × (name ≡ q.asked.name) × (t ≡ q.asked.rtype) × (r ≡ refusal)
-IsTurnUntold q refusal _ = ⊥
+abbrev pub IsHopUntold : Query → Option Refusal → Hop → Type 0
+IsHopUntold q refusal (hops.Ends (ends.Untold of by name t r)) = (of ≡ q.zone) × (by.items ≡ q.ds) × (name ≡ q.asked.name) × (t ≡ q.asked.rtype) × (r ≡ refusal)
+IsHopUntold q refusal _ = ⊥
 
 -- the turn by what a zone's answer to a question tells: that, and no other
-abbrev pub IsTurnedTo : Query → StepSeen → Turn → Type 0
-IsTurnedTo q said (turns.Down c below) = said ≡ TellsDown c below.items
-IsTurnedTo q said (turns.Ends (ends.Secure of v)) = (of ≡ q.zone) × (said ≡ TellsVerdict (verdict_of v))
-IsTurnedTo q said (turns.Ends (ends.Leads lead)) = said ≡ TellsLead (lead_seen lead)
-IsTurnedTo q said (turns.Ends (ends.Unsigned c datas)) = said ≡ TellsUnsigned c datas
-IsTurnedTo q said (turns.Ends (ends.LeftOpen of)) = (of ≡ q.zone) × (said ≡ TellsOpen)
-IsTurnedTo q said (turns.Ends (ends.Untold of by name t r)) = (of ≡ q.zone) × (by.items ≡ q.ds) × (name ≡ q.asked.name) × (t ≡ q.asked.rtype) × IsNothing said r
-IsTurnedTo q said (turns.Ends (ends.Asks asks)) = said ≡ AsksFor asks.items
-IsTurnedTo q said _ = ⊥
+abbrev pub IsHopTo : Query → StepSeen → Hop → Type 0
+IsHopTo q said (hops.Down c below) = said ≡ TellsDown c below.items
+IsHopTo q said (hops.Ends (ends.Secure of v)) = (of ≡ q.zone) × (said ≡ TellsVerdict (verdict_of v))
+IsHopTo q said (hops.Ends (ends.Leads lead)) = said ≡ TellsLead (lead_seen lead)
+IsHopTo q said (hops.Ends (ends.Unsigned c datas)) = said ≡ TellsUnsigned c datas
+IsHopTo q said (hops.Ends (ends.LeftOpen of)) = (of ≡ q.zone) × (said ≡ TellsOpen)
+IsHopTo q said (hops.Ends (ends.Untold of by name t r)) = (of ≡ q.zone) × (by.items ≡ q.ds) × (name ≡ q.asked.name) × (t ≡ q.asked.rtype) × IsNothing said r
+IsHopTo q said (hops.Ends (ends.Asks asks)) = said ≡ AsksFor asks.items
+IsHopTo q said _ = ⊥
 
 -- a turn that wants what lacks of a zone for a question
-abbrev pub WantsLacking : Given → Name → Asked → Turn → Type 0
-WantsLacking e zone asked (turns.Ends (ends.Wants ws)) = ws.items ≡ lacking e zone asked
+abbrev pub WantsLacking : Given → Name → Asked → Hop → Type 0
+WantsLacking e zone asked (hops.Ends (ends.Wants ws)) = ws.items ≡ lacking e zone asked
 WantsLacking e zone asked _ = ⊥
 
-abbrev pub IsStop : Given → Query → Taken → Type 0
-IsStop e q t = TurnStops e q t.turn
+abbrev pub IsStop : Given → Query → JudgedHop → Type 0
+IsStop e q t = HopStops e q t.hop
 
-abbrev pub IsCounted : Given → Query → Counts → Taken → Type 0
+abbrev pub IsCounted : Given → Query → Counts → JudgedHop → Type 0
 IsCounted e q before t = AreJudged e q.asked q.zone q.ds before t.counts
 
 -- ---- of one name
@@ -126,7 +126,7 @@ StopsBelowIn e q cuts before end = StopsBelow e q.asked end.ending cuts q.zone q
 -- an end that is an alias of this name, or the same end, which is none
 pub record IsAliasOf (end : End) (t : Target) : Type 0 where
   pub says : said_of end.ending ≡ Some (Leads (To t.name))
-  pub lasts : t.lasting ≡ end.lasting
+  pub lasts : t.validity ≡ end.validity
   pub counts_are : t.counts ≡ end.counts
 
 abbrev pub IsNoAlias : End → End → Type 0
@@ -134,7 +134,7 @@ IsNoAlias end x = (x ≡ end) × (leads_to (said_of x.ending) ≡ None)
 
 -- an ending of a walk with no aliases, however many are left
 pub record EndsHere (e : Given) (asked : Asked) (cuts : ℕ) (before : Counts) (end : End) : Type 0 where
-  pub says : IfSome (said_of end.ending) (λ s. Follows e s asked [] end.lasting)
+  pub says : IfSome (said_of end.ending) (λ s. Follows e s asked [] end.validity)
   pub stops : (aliases : ℕ) → StopsBehind e cuts end.ending aliases asked [] before end.counts
 
 -- ---- of a walk

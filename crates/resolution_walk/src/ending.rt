@@ -5,7 +5,7 @@ ghost use Rattle.resolution_walk.specs.Judged.{counts_of};
 use denial_data::Ds;
 use messages::names::Name;
 use names_rdata::rtype::Rtype;
-use resolution_evidence::{Ask, Counts, DataList, Lasting, Lead, Refusal, Verdict};
+use resolution_evidence::{Ask, Counts, DataList, Lead, Refusal, Validity, Verdict};
 
 /// A message that is wanted: of which zone, and the answer to which question.
 #[derive(Debug, Drop)]
@@ -58,7 +58,7 @@ pub enum Ending {
 
 /// Where a zone's messages lead.
 #[derive(Debug, Drop)]
-pub(crate) enum Turn {
+pub(crate) enum Hop {
     /// Down to this zone, with these DS records.
     Down {
         zone: Name<Vec<u8>>,
@@ -74,7 +74,7 @@ pub(crate) enum Uncut {
     /// One may be at a name further down.
     SoFar(Counts),
     /// None is further down, since a name does not exist.
-    AtAll(Counts),
+    Throughout(Counts),
 }
 
 impl Uncut {
@@ -84,16 +84,16 @@ impl Uncut {
     {
         match self {
             Uncut::SoFar(counts) => counts,
-            Uncut::AtAll(counts) => counts,
+            Uncut::Throughout(counts) => counts,
         }
     }
 }
 
 /// Where a zone's messages lead, how long that lasts, and how often was verified and hashed so far.
 #[derive(Debug, Drop)]
-pub(crate) struct Taken {
-    pub(crate) turn: Turn,
-    pub(crate) lasting: Option<Lasting>,
+pub(crate) struct JudgedHop {
+    pub(crate) hop: Hop,
+    pub(crate) validity: Option<Validity>,
     pub(crate) counts: Counts,
 }
 
@@ -102,7 +102,7 @@ pub(crate) struct Taken {
 #[derive(Debug, Drop)]
 pub(crate) struct End {
     pub(crate) ending: Ending,
-    pub(crate) lasting: Option<Lasting>,
+    pub(crate) validity: Option<Validity>,
     pub(crate) counts: Counts,
 }
 
@@ -111,7 +111,7 @@ pub(crate) struct End {
 #[derive(Debug, Drop)]
 pub(crate) struct Target {
     pub(crate) name: Name<Vec<u8>>,
-    pub(crate) lasting: Option<Lasting>,
+    pub(crate) validity: Option<Validity>,
     pub(crate) counts: Counts,
 }
 
@@ -122,7 +122,7 @@ pub struct Walk {
     pub through: Vec<Name<Vec<u8>>>,
     /// How long what the walk says lasts: the least of all that it rests on, zone by zone and alias
     /// by alias. None where it says neither secure nor insecure.
-    pub lasting: Option<Lasting>,
+    pub validity: Option<Validity>,
     /// How often was verified and hashed, in all judgements of the walk.
     pub counts: Counts,
 }

@@ -6,20 +6,20 @@ ghost use Rattle.resolution_evidence.specs.Told.{told};
 ghost use Rattle.resolution_evidence.specs.Given.{IsOf};
 ghost use Rattle.resolution_evidence.specs.Walking.{ds_at};
 ghost use Rattle.resolution_walk.specs.Between.{IsBetween, IsReached, IsUnanswered, is_itself};
-ghost use Rattle.resolution_walk.specs.Ended.{IsTurn};
+ghost use Rattle.resolution_walk.specs.Ended.{IsHop};
 ghost use Rattle.resolution_walk.specs.Judged.{IsCountedBetween, IsJudgedAt, IsJudgedFor};
 ghost use Rattle.resolution_walk.specs.Judged.{IsToldCut, IsUncut, IsUncutTold, counts_in};
-ghost use Rattle.resolution_walk.specs.Stopping.{IsStop, IsTurnedTo, WantsLacking};
+ghost use Rattle.resolution_walk.specs.Stopping.{IsStop, IsHopTo, WantsLacking};
 ghost use Rattle.resolution_walk.specs.Wanted.{IsParent};
 
-use crate::ending::{Taken, Uncut};
+use crate::ending::{JudgedHop, Uncut};
 use crate::evidence::Evidence;
-use crate::place::{case_of, name_step, taken, wanting};
+use crate::place::{case_of, judged_hop, name_step, wanting};
 use crate::query::ZoneQuery;
 use messages::names::{Name, ToName, copy_name, is_above};
 use messages::question::Question;
 use names_rdata::rtype::Rtype;
-use resolution_evidence::{Case, Counts, Step, Telling};
+use resolution_evidence::{Case, Counts, JudgedStep, Step};
 use std::alloc::{AllocError, Global};
 
 /// Where answers for DS lead, at the names below the zone down to a name, the topmost first; the
@@ -28,16 +28,16 @@ use std::alloc::{AllocError, Global};
 ///
 /// A server that holds parent and child answers from the child and sends no referral: so these
 /// questions alone show a delegation, and that an unsigned child is insecure.
-pub(crate) fn at_names(
+pub(crate) fn search_down_to(
     alloc: Global,
     evidence: &Evidence,
     query: &ZoneQuery,
     name: &Name<Vec<u8>>,
     counts: Counts,
-) -> Result<Result<Taken, Uncut>, AllocError>
+) -> Result<Result<JudgedHop, Uncut>, AllocError>
     requires above { at_or_above name.now query.now.asked.name ≡ true }
     requires untold { let q = query.now in IsUnanswered evidence.now q.asked q.zone q.ds }
-    ensures leads { IfOk result (λ r. IfOk r (IsTurn evidence.now query.now)) }
+    ensures leads { IfOk result (λ r. IfOk r (IsHop evidence.now query.now)) }
     ensures stops { IfOk result (λ r. IfOk r (IsStop evidence.now query.now)) }
     ensures counted { IfOk result (IsCountedBetween evidence.now query.now counts) }
     ensures uncut { let uncut = IsUncut evidence.now query.now counts name.now in
@@ -51,13 +51,13 @@ pub(crate) fn at_names(
         Some(parent) => parent,
         None => return Ok(Err(Uncut::SoFar(counts))),
     };
-    let way = at_names(alloc, evidence, query, &parent, counts)?;
+    let way = search_down_to(alloc, evidence, query, &parent, counts)?;
     let uncut = match way {
-        Ok(taken) => return Ok(Ok(taken)),
+        Ok(judged_hop) => return Ok(Ok(judged_hop)),
         Err(uncut) => uncut,
     };
     match uncut {
-        Uncut::AtAll(sums) => Ok(Err(Uncut::AtAll(sums))),
+        Uncut::Throughout(sums) => Ok(Err(Uncut::Throughout(sums))),
         Uncut::SoFar(sums) => at_name(alloc, evidence, query, name, sums),
     }
 }
@@ -87,9 +87,9 @@ fn at_name(
     query: &ZoneQuery,
     name: &Name<Vec<u8>>,
     counts: Counts,
-) -> Result<Result<Taken, Uncut>, AllocError>
+) -> Result<Result<JudgedHop, Uncut>, AllocError>
     requires { let q = query.now in IsReached evidence.now q.asked q.zone q.ds name.now }
-    ensures leads { IfOk result (λ r. IfOk r (IsTurn evidence.now query.now)) }
+    ensures leads { IfOk result (λ r. IfOk r (IsHop evidence.now query.now)) }
     ensures stops { IfOk result (λ r. IfOk r (IsStop evidence.now query.now)) }
     ensures judged { IfOk result (IsJudgedAt evidence.now query.now name.now counts) }
 {
@@ -114,10 +114,10 @@ fn at_other(
     query: &ZoneQuery,
     name: &Name<Vec<u8>>,
     counts: Counts,
-) -> Result<Result<Taken, Uncut>, AllocError>
+) -> Result<Result<JudgedHop, Uncut>, AllocError>
     requires reached { let q = query.now in IsReached evidence.now q.asked q.zone q.ds name.now }
     requires other { is_itself query.now.asked name.now ≡ false }
-    ensures leads { IfOk result (λ r. IfOk r (IsTurn evidence.now query.now)) }
+    ensures leads { IfOk result (λ r. IfOk r (IsHop evidence.now query.now)) }
     ensures stops { IfOk result (λ r. IfOk r (IsStop evidence.now query.now)) }
     ensures judged { let sought = ds_at query.now.asked name.now in
         IfOk result (IsJudgedFor evidence.now query.now sought counts) }
@@ -150,10 +150,10 @@ fn at_asked(
     query: &ZoneQuery,
     asked: &Question,
     counts: Counts,
-) -> Result<Result<Taken, Uncut>, AllocError>
+) -> Result<Result<JudgedHop, Uncut>, AllocError>
     requires { let q = query.now in let sought = asked_of asked.now in
         IsBetween evidence.now q.asked q.zone q.ds sought }
-    ensures leads { IfOk result (λ r. IfOk r (IsTurn evidence.now query.now)) }
+    ensures leads { IfOk result (λ r. IfOk r (IsHop evidence.now query.now)) }
     ensures stops { IfOk result (λ r. IfOk r (IsStop evidence.now query.now)) }
     ensures judged { let sought = asked_of asked.now in
         IfOk result (IsJudgedFor evidence.now query.now sought counts) }
@@ -171,13 +171,13 @@ fn wanting_there(
     zone: &Name<Vec<u8>>,
     asked: &Question,
     counts: Counts,
-) -> Result<Result<Taken, Uncut>, AllocError>
+) -> Result<Result<JudgedHop, Uncut>, AllocError>
     ensures wants { let wants = WantsLacking evidence.now zone.now (asked_of asked.now) in
-        IfOk result (λ r. MatchResult r (λ t. wants t.turn) (λ n. ⊥)) }
+        IfOk result (λ r. MatchResult r (λ t. wants t.hop) (λ n. ⊥)) }
     ensures counted { IfOk result (λ r. counts_in r ≡ counts) }
 {
-    let taken = wanting(alloc, evidence, zone, asked, counts)?;
-    Ok(Ok(taken))
+    let judged_hop = wanting(alloc, evidence, zone, asked, counts)?;
+    Ok(Ok(judged_hop))
 }
 
 /// Where a message that is judged for DS leads; the counts so far alone where it tells that no
@@ -188,30 +188,30 @@ fn by_cut(
     query: &ZoneQuery,
     case: &Case,
     counts: Counts,
-) -> Result<Result<Taken, Uncut>, AllocError>
+) -> Result<Result<JudgedHop, Uncut>, AllocError>
     requires between { let q = query.now in
         IsBetween evidence.now q.asked q.zone q.ds case.now.asked }
     requires of { let q = query.now in IsOf evidence.now q.zone q.ds case.now.asked case.now }
-    ensures leads { IfOk result (λ r. IfOk r (IsTurn evidence.now query.now)) }
+    ensures leads { IfOk result (λ r. IfOk r (IsHop evidence.now query.now)) }
     ensures stops { IfOk result (λ r. IfOk r (IsStop evidence.now query.now)) }
     ensures judged { IfOk result (IsJudgedFor evidence.now query.now case.now.asked counts) }
 {
-    let telling = name_step(alloc, evidence, case)?;
-    let lasting = telling.lasting;
-    let sums = counts.plus(telling.counts);
-    match told_cut(telling.step, sums) {
+    let judged_step = name_step(alloc, evidence, case)?;
+    let validity = judged_step.validity;
+    let sums = counts.plus(judged_step.counts);
+    match told_cut(judged_step.step, sums) {
         Ok(step) => {
             let sought = ZoneQuery {
                 zone: query.zone,
                 ds: query.ds,
                 question: case.question,
             };
-            let so_far = Telling {
+            let so_far = JudgedStep {
                 step,
-                lasting,
+                validity,
                 counts: sums,
             };
-            taken_there(alloc, &sought, so_far)
+            judged_hop_there(alloc, &sought, so_far)
         }
         Err(uncut) => Ok(Err(uncut)),
     }
@@ -224,22 +224,22 @@ fn told_cut(step: Step, counts: Counts) -> Result<Step, Uncut>
 {
     match step {
         Step::NoCut => Err(Uncut::SoFar(counts)),
-        Step::NoneBelow => Err(Uncut::AtAll(counts)),
+        Step::NoneBelow => Err(Uncut::Throughout(counts)),
         step => Ok(step),
     }
 }
 
 /// Where what a message tells of a delegation leads.
-fn taken_there(
+fn judged_hop_there(
     alloc: Global,
     sought: &ZoneQuery,
-    so_far: Telling,
-) -> Result<Result<Taken, Uncut>, AllocError>
-    ensures turns { let to = IsTurnedTo sought.now (told so_far.step) in
-        IfOk result (λ r. MatchResult r (λ t. to t.turn) (λ n. ⊥)) }
-    ensures lasts { IfOk result (λ r. IfOk r (λ t. t.lasting ≡ so_far.lasting)) }
+    so_far: JudgedStep,
+) -> Result<Result<JudgedHop, Uncut>, AllocError>
+    ensures hops { let to = IsHopTo sought.now (told so_far.step) in
+        IfOk result (λ r. MatchResult r (λ t. to t.hop) (λ n. ⊥)) }
+    ensures lasts { IfOk result (λ r. IfOk r (λ t. t.validity ≡ so_far.validity)) }
     ensures counted { IfOk result (λ r. counts_in r ≡ so_far.counts) }
 {
-    let there = taken(alloc, sought, so_far)?;
+    let there = judged_hop(alloc, sought, so_far)?;
     Ok(Ok(there))
 }

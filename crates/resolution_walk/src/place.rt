@@ -1,19 +1,19 @@
 //! What the messages of a zone on the way tell.
 ghost use Rattle.std.specs.Prelude.{◌≡◌, IfNone, IfOk, IfSome, Some, true};
 ghost use Rattle.messages.specs.Questions.{asked_of};
-ghost use Rattle.resolution_evidence.specs.Told.{IsCutTelling, IsTelling, told};
+ghost use Rattle.resolution_evidence.specs.Told.{IsJudgedCut, IsJudgedStep, told};
 ghost use Rattle.resolution_evidence.specs.Given.{IsOf, message_of};
-ghost use Rattle.resolution_walk.specs.Stopping.{IsTurnUntold, IsTurnedTo, WantsLacking};
+ghost use Rattle.resolution_walk.specs.Stopping.{IsHopUntold, IsHopTo, WantsLacking};
 ghost use Rattle.resolution_walk.specs.Wanted.{is_lacking, lacking, wanted_of};
 
-use crate::ending::{Ending, Taken, Turn, Wanted};
+use crate::ending::{Ending, Hop, JudgedHop, Wanted};
 use crate::evidence::Evidence;
 use crate::query::ZoneQuery;
 use denial_data::Ds;
 use messages::names::{Name, copy_name};
 use messages::question::Question;
 use names_rdata::rtype::Rtype;
-use resolution_evidence::{Case, Counts, Refusal, Step, Telling, cut_step, step};
+use resolution_evidence::{Case, Counts, JudgedStep, Refusal, Step, cut_step, step};
 use std::alloc::{AllocError, Global};
 
 /// What the zone's answer to a question tells of it.
@@ -21,12 +21,12 @@ pub(crate) fn own_step(
     alloc: Global,
     evidence: &Evidence,
     case: &Case,
-) -> Result<Telling, AllocError>
+) -> Result<JudgedStep, AllocError>
     ensures { let e = evidence.now in
-        IfOk result (IsTelling e.algorithms e.table case.now) }
+        IfOk result (IsJudgedStep e.algorithms e.table case.now) }
 {
-    let telling = step(alloc, case, evidence.table, evidence.algorithms)?;
-    unless_memory_lacked(telling)
+    let judged_step = step(alloc, case, evidence.table, evidence.algorithms)?;
+    unless_memory_lacked(judged_step)
 }
 
 /// What the zone's answer to a question for DS tells of a delegation there.
@@ -34,22 +34,22 @@ pub(crate) fn name_step(
     alloc: Global,
     evidence: &Evidence,
     case: &Case,
-) -> Result<Telling, AllocError>
+) -> Result<JudgedStep, AllocError>
     ensures { let e = evidence.now in
-        IfOk result (IsCutTelling e.algorithms e.table case.now) }
+        IfOk result (IsJudgedCut e.algorithms e.table case.now) }
 {
-    let telling = cut_step(alloc, case, evidence.table, evidence.algorithms)?;
-    unless_memory_lacked(telling)
+    let judged_step = cut_step(alloc, case, evidence.table, evidence.algorithms)?;
+    unless_memory_lacked(judged_step)
 }
 
 /// What is told, unless memory lacked for that: no zone is bogus for this.
-fn unless_memory_lacked(telling: Telling) -> Result<Telling, AllocError>
-    ensures { IfOk result (λ t. t ≡ telling) }
+fn unless_memory_lacked(judged_step: JudgedStep) -> Result<JudgedStep, AllocError>
+    ensures { IfOk result (λ t. t ≡ judged_step) }
 {
-    if lacked_memory(&telling.step) {
+    if lacked_memory(&judged_step.step) {
         Err(AllocError)
     } else {
-        Ok(telling)
+        Ok(judged_step)
     }
 }
 
@@ -117,15 +117,15 @@ pub(crate) fn wanting(
     zone: &Name<Vec<u8>>,
     question: &Question,
     counts: Counts,
-) -> Result<Taken, AllocError>
+) -> Result<JudgedHop, AllocError>
     ensures wants { let asked = asked_of question.now in
-        IfOk result (λ t. WantsLacking evidence.now zone.now asked t.turn) }
+        IfOk result (λ t. WantsLacking evidence.now zone.now asked t.hop) }
     ensures counted { IfOk result (λ t. t.counts ≡ counts) }
 {
     let wanted = lacking(alloc, evidence, zone, question)?;
-    Ok(Taken {
-        turn: Turn::Ends(Ending::Wants(wanted)),
-        lasting: None,
+    Ok(JudgedHop {
+        hop: Hop::Ends(Ending::Wants(wanted)),
+        validity: None,
         counts,
     })
 }
@@ -167,40 +167,44 @@ fn wanted_of(
 }
 
 /// Where what a zone's message tells leads, how long it lasts and what is counted so far.
-pub(crate) fn taken(alloc: Global, query: &ZoneQuery, so_far: Telling) -> Result<Taken, AllocError>
-    ensures turns { IfOk result (λ t. IsTurnedTo query.now (told so_far.step) t.turn) }
-    ensures lasts { IfOk result (λ t. t.lasting ≡ so_far.lasting) }
+pub(crate) fn judged_hop(
+    alloc: Global,
+    query: &ZoneQuery,
+    so_far: JudgedStep,
+) -> Result<JudgedHop, AllocError>
+    ensures hops { IfOk result (λ t. IsHopTo query.now (told so_far.step) t.hop) }
+    ensures lasts { IfOk result (λ t. t.validity ≡ so_far.validity) }
     ensures counted { IfOk result (λ t. t.counts ≡ so_far.counts) }
 {
-    let (lasting, counts) = (so_far.lasting, so_far.counts);
-    let turn = turned(alloc, query, so_far.step)?;
-    Ok(Taken {
-        turn,
-        lasting,
+    let (validity, counts) = (so_far.validity, so_far.counts);
+    let hop = hop_of(alloc, query, so_far.step)?;
+    Ok(JudgedHop {
+        hop,
+        validity,
         counts,
     })
 }
 
 /// Where what a zone's message tells leads.
-fn turned(alloc: Global, query: &ZoneQuery, step: Step) -> Result<Turn, AllocError>
-    ensures { IfOk result (IsTurnedTo query.now (told step)) }
+fn hop_of(alloc: Global, query: &ZoneQuery, step: Step) -> Result<Hop, AllocError>
+    ensures { IfOk result (IsHopTo query.now (told step)) }
 {
     match step {
         Step::Answer(verdict) => {
             let zone = copy_name(alloc, query.zone)?;
-            Ok(Turn::Ends(Ending::Secure { zone, verdict }))
+            Ok(Hop::Ends(Ending::Secure { zone, verdict }))
         }
-        Step::Leads(lead) => Ok(Turn::Ends(Ending::Leads(lead))),
-        Step::Down { cut, ds } => Ok(Turn::Down { zone: cut, ds }),
-        Step::Unsigned { cut, ds } => Ok(Turn::Ends(Ending::Unsigned { cut, ds })),
+        Step::Leads(lead) => Ok(Hop::Ends(Ending::Leads(lead))),
+        Step::Down { cut, ds } => Ok(Hop::Down { zone: cut, ds }),
+        Step::Unsigned { cut, ds } => Ok(Hop::Ends(Ending::Unsigned { cut, ds })),
         Step::LeftOpen => {
             let zone = copy_name(alloc, query.zone)?;
-            Ok(Turn::Ends(Ending::LeftOpen(zone)))
+            Ok(Hop::Ends(Ending::LeftOpen(zone)))
         }
         Step::NoCut => untold(alloc, query, None),
         Step::NoneBelow => untold(alloc, query, None),
         Step::Untold(refusal) => untold(alloc, query, refusal),
-        Step::Asks(asks) => Ok(Turn::Ends(Ending::Asks(asks))),
+        Step::Asks(asks) => Ok(Hop::Ends(Ending::Asks(asks))),
     }
 }
 
@@ -209,14 +213,14 @@ pub(crate) fn untold(
     alloc: Global,
     query: &ZoneQuery,
     refusal: Option<Refusal>,
-) -> Result<Turn, AllocError>
-    ensures { IfOk result (IsTurnUntold query.now refusal) }
+) -> Result<Hop, AllocError>
+    ensures { IfOk result (IsHopUntold query.now refusal) }
 {
     let zone = copy_name(alloc, query.zone)?;
     let ds = copied_ds(alloc, query.ds)?;
     let name = copy_name(alloc, &query.question.name)?;
     let rtype = query.question.rtype;
-    Ok(Turn::Ends(Ending::Untold {
+    Ok(Hop::Ends(Ending::Untold {
         zone,
         ds,
         name,

@@ -5,21 +5,21 @@ ghost use Rattle.std.specs.Option.{is_some};
 ghost use Rattle.messages.specs.Questions.{asked_of};
 ghost use Rattle.resolution_evidence.specs.Lasts.{least_of};
 ghost use Rattle.resolution_evidence.specs.Walking.{is_asked_of};
-ghost use Rattle.resolution_walk.specs.Ended.{IsEnding, IsWalked, LastsIfSaid, lasting_said};
+ghost use Rattle.resolution_walk.specs.Ended.{IsEnding, IsWalked, LastsIfSaid, validity_said};
 ghost use Rattle.resolution_walk.specs.Ended.{said_of};
 ghost use Rattle.resolution_walk.specs.Stopping.{EndsHere, IsAliasOf, IsLed, IsNoAlias};
 ghost use Rattle.resolution_walk.specs.Stopping.{StopsBelowIn, StopsIn, StopsWithin, WalkStops};
 ghost use Rattle.resolution_walk.specs.Stopping.{ending_within};
 ghost use Rattle.resolution_walk.specs.Truth.{WalksTruly};
 
-use crate::ending::{End, Ending, Taken, Target, Turn, Walk};
+use crate::ending::{End, Ending, Hop, JudgedHop, Target, Walk};
 use crate::evidence::Evidence;
+use crate::hops::in_zone;
 use crate::query::ZoneQuery;
-use crate::turns::in_zone;
 use messages::names::{Name, ToName, copy_name, is_at_or_above};
 use messages::question::Question;
 use names_rdata::rtype::Rtype;
-use resolution_evidence::{Counts, Lasting, Lead, least_of};
+use resolution_evidence::{Counts, Lead, Validity, least_of};
 use std::alloc::{AllocError, Global};
 
 /// How far a walk goes.
@@ -86,20 +86,20 @@ pub fn resolve(
         counts: Counts::none(),
     };
     let walk = follow(alloc, evidence, asked, trail, limits)?;
-    Ok(lasting_if_said(within(evidence, limits.messages, walk)))
+    Ok(validity_if_said(within(evidence, limits.messages, walk)))
 }
 
 /// The walk, which wants no message beside so many.
 fn within(evidence: &Evidence, most: u16, walk: Walk) -> Walk
     ensures ending { result.ending ≡ ending_within most evidence.now walk.ending }
     ensures through { result.through ≡ walk.through }
-    ensures lasts { result.lasting ≡ walk.lasting }
+    ensures lasts { result.validity ≡ walk.validity }
     ensures counts { result.counts ≡ walk.counts }
 {
     Walk {
         ending: ending_within(evidence, most, walk.ending),
         through: walk.through,
-        lasting: walk.lasting,
+        validity: walk.validity,
         counts: walk.counts,
     }
 }
@@ -128,27 +128,27 @@ fn has_room(evidence: &Evidence, most: u16) -> bool
 }
 
 /// The walk; where it says nothing, it lasts no time.
-fn lasting_if_said(walk: Walk) -> Walk
+fn validity_if_said(walk: Walk) -> Walk
     ensures ending { result.ending ≡ walk.ending }
     ensures through { result.through ≡ walk.through }
-    ensures lasts { result.lasting ≡ lasting_said (said_of walk.ending) walk.lasting }
+    ensures lasts { result.validity ≡ validity_said (said_of walk.ending) walk.validity }
     ensures counts { result.counts ≡ walk.counts }
 {
     if says(&walk.ending) {
         walk
     } else {
-        with_no_lasting(walk)
+        with_no_validity(walk)
     }
 }
 
-fn with_no_lasting(walk: Walk) -> Walk
+fn with_no_validity(walk: Walk) -> Walk
     ensures ending { result.ending ≡ walk.ending }
     ensures through { result.through ≡ walk.through }
-    ensures lasts { result.lasting ≡ None }
+    ensures lasts { result.validity ≡ None }
     ensures counts { result.counts ≡ walk.counts }
 {
     let mut walk = walk;
-    walk.lasting = None;
+    walk.validity = None;
     walk
 }
 
@@ -189,7 +189,7 @@ fn follow(
     ensures stops { let asked = asked_of question in
         IfOk result (WalkStops evidence.now asked left trail) }
 {
-    let end = led(alloc, evidence, &question, left.cuts, trail.counts)?;
+    let end = walk_one_name(alloc, evidence, &question, left.cuts, trail.counts)?;
     let through = trail.through;
     let target = match end {
         Ok(target) => target,
@@ -202,7 +202,7 @@ fn follow(
         through: with_name(alloc, through, &target.name)?,
         counts: target.counts,
     };
-    let lasting = target.lasting;
+    let validity = target.validity;
     let next = Question {
         name: target.name,
         rtype: question.rtype,
@@ -213,20 +213,20 @@ fn follow(
         ..left
     };
     let walk = follow(alloc, evidence, next, longer, fewer)?;
-    Ok(behind(lasting, walk))
+    Ok(walk_after_alias(validity, walk))
 }
 
 /// The walk that ends so, behind the aliases so far.
 fn walk_with(end: End, through: Vec<Name<Vec<u8>>>) -> Walk
     ensures ending { result.ending ≡ end.ending }
     ensures through { result.through ≡ through }
-    ensures lasts { result.lasting ≡ end.lasting }
+    ensures lasts { result.validity ≡ end.validity }
     ensures counts { result.counts ≡ end.counts }
 {
     Walk {
         ending: end.ending,
         through,
-        lasting: end.lasting,
+        validity: end.validity,
         counts: end.counts,
     }
 }
@@ -240,25 +240,25 @@ fn too_many_aliases(counts: Counts, through: Vec<Name<Vec<u8>>>) -> Walk
     Walk {
         ending: Ending::TooManyAliases,
         through,
-        lasting: None,
+        validity: None,
         counts,
     }
 }
 
 /// The walk behind an alias, which lasts as long as that too.
-fn behind(lasting: Option<Lasting>, walk: Walk) -> Walk
+fn walk_after_alias(validity: Option<Validity>, walk: Walk) -> Walk
     ensures ending { result.ending ≡ walk.ending }
     ensures through { result.through ≡ walk.through }
-    ensures lasts { result.lasting ≡ least_of lasting walk.lasting }
+    ensures lasts { result.validity ≡ least_of validity walk.validity }
     ensures counts { result.counts ≡ walk.counts }
 {
     let mut walk = walk;
-    walk.lasting = least_of(lasting, walk.lasting);
+    walk.validity = least_of(validity, walk.validity);
     walk
 }
 
 /// The name that an alias leads to, where one ends the way; or the end.
-fn led(
+fn walk_one_name(
     alloc: Global,
     evidence: &Evidence,
     question: &Question,
@@ -274,7 +274,7 @@ fn led(
     } else {
         Ok(Err(End {
             ending: Ending::Outside,
-            lasting: None,
+            validity: None,
             counts,
         }))
     }
@@ -320,16 +320,16 @@ fn with_name(
 fn alias_of(end: End) -> Result<Target, End>
     ensures { MatchResult result (IsAliasOf end) (IsNoAlias end) }
 {
-    let (lasting, counts) = (end.lasting, end.counts);
+    let (validity, counts) = (end.validity, end.counts);
     match end.ending {
         Ending::Leads(Lead::To(name)) => Ok(Target {
             name,
-            lasting,
+            validity,
             counts,
         }),
         ending => Err(End {
             ending,
-            lasting,
+            validity,
             counts,
         }),
     }
@@ -347,41 +347,41 @@ fn descend(
     ensures leads { IfOk result (IsEnding evidence.now query.now) }
     ensures stops { IfOk result (StopsIn evidence.now query.now cuts counts) }
 {
-    let taken = in_zone(alloc, evidence, query, counts)?;
-    let (lasting, sums) = (taken.lasting, taken.counts);
-    let turn = taken.turn;
-    match turn {
-        Turn::Ends(ending) => Ok(End {
+    let judged_hop = in_zone(alloc, evidence, query, counts)?;
+    let (validity, sums) = (judged_hop.validity, judged_hop.counts);
+    let hop = judged_hop.hop;
+    match hop {
+        Hop::Ends(ending) => Ok(End {
             ending,
-            lasting,
+            validity,
             counts: sums,
         }),
-        Turn::Down { zone, ds } => {
+        Hop::Down { zone, ds } => {
             let next = ZoneQuery {
                 zone: &zone,
                 ds: ds.as_slice(),
                 question: query.question,
             };
-            let end = below(alloc, evidence, &next, cuts, sums)?;
-            Ok(lasting_with(lasting, end))
+            let end = descend_below(alloc, evidence, &next, cuts, sums)?;
+            Ok(validity_with(validity, end))
         }
     }
 }
 
 /// The end below a step, which lasts as long as that too.
-fn lasting_with(lasting: Option<Lasting>, end: End) -> End
+fn validity_with(validity: Option<Validity>, end: End) -> End
     ensures ending { result.ending ≡ end.ending }
-    ensures lasts { result.lasting ≡ least_of lasting end.lasting }
+    ensures lasts { result.validity ≡ least_of validity end.validity }
     ensures counts { result.counts ≡ end.counts }
 {
     let mut end = end;
-    end.lasting = least_of(lasting, end.lasting);
+    end.validity = least_of(validity, end.validity);
     end
 }
 
 /// What evidence tells from the zone below on, if the limit allows one more.
 #[cycle(down)]
-fn below(
+fn descend_below(
     alloc: Global,
     evidence: &Evidence,
     query: &ZoneQuery,
@@ -394,7 +394,7 @@ fn below(
     if cuts == 0 {
         Ok(End {
             ending: Ending::TooManyCuts,
-            lasting: None,
+            validity: None,
             counts,
         })
     } else {

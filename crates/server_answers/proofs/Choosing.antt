@@ -26,7 +26,7 @@ use Rattle.server_answers.specs.Moments.{IsOrWasNoted}
 use Rattle.server_answers.specs.Responding.{Serving, unsigned}
 use Rattle.answer_publisher.specs.Aliases.{for_type}
 use Rattle.server_answers.specs.Subset.{AnswersSubset, IsBare, IsChosen, IsFirst, IsHeld, MakesSubset, is_memory, is_no_data, wants_signatures}
-use Rattle.server_answers.specs.Unheld.{has_answers}
+use Rattle.server_answers.specs.Synthesized.{has_answers}
 use Rattle.server_answers.specs.declared.requests.Response.{Response}
 use Rattle.server_answers.specs.declared.requests.Response.TheVariants as response
 use Rattle.server_answers.proofs.Making.{is_read, rest_of}

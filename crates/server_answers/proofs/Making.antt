@@ -19,15 +19,15 @@ use Rattle.server_signatures.specs.declared.answering.Signed.{Signed}
 use Rattle.server_signatures.specs.declared.answering.Signed.TheVariants as signed
 use Rattle.server_signatures.proofs.Signing.{own_entries}
 use Rattle.server_answers.specs.Messages.{Makes}
-use Rattle.server_answers.specs.Answering.{AnswersBy, AnswersItself, AnswersQueried}
+use Rattle.server_answers.specs.Answering.{AnswersBy, RespondsItself, AnswersQueried}
 use Rattle.server_answers.specs.MadeOf.{IsMadeOf, ReadsWhole}
 use Rattle.server_answers.specs.Moments.{IsOrWasNoted}
-use Rattle.server_answers.specs.Parameters.{AnswersParameters, is_for_parameters}
+use Rattle.server_answers.specs.Parameters.{RespondsWithParameters, is_for_parameters}
 use Rattle.server_answers.specs.Responding.{AnswersHeld, IsMessage, Serving, is_for_keys}
 use Rattle.answer_publisher.specs.Aliases.{alias_of, asks_all, is_answered}
 use Rattle.answer_publisher.specs.World.{served_in}
 use Rattle.server_answers.specs.Subset.{AnswersSubset}
-use Rattle.server_answers.specs.Unheld.{AnswersUnheld, IsMadeUnheld, IsRefusal, is_unheld, keeps_back, reserved}
+use Rattle.server_answers.specs.Synthesized.{AnswersSynthesized, IsMadeSynthesized, IsRefusal, is_synthesized, keeps_back, reserved}
 use Rattle.server_answers.specs.declared.requests.Response.{Response}
 use Rattle.server_answers.specs.declared.requests.Response.TheVariants as response
 
@@ -97,7 +97,7 @@ held_answered s q old new (Err f) (response.Sign v) h k = absurd k
 module _ (s : Serving) (q : Queried) (old new : Option ℕ) where
   -- of a message, by whether it is not the answer
   denied : (m : Vec ℕ Global) (r : Response) → IsMessage s (reserved q.asked) false (is_dnssec_ok q) m.items → new ≡ noted old s.at → (b : Bool) → keeps_back q m.items ≡ b
-      → MatchBool b (IsRefusal s.size q r) (IsMadeOf s.limit s.size q s.addresses (Ok (signed.Message m)) r) → AnswersUnheld s q old new r
+      → MatchBool b (IsRefusal s.size q r) (IsMadeOf s.limit s.size q s.addresses (Ok (signed.Message m)) r) → AnswersSynthesized s q old new r
   denied m (response.Reply v) is was true e k = inr (inl (record { m = m.items; is_message = is; kept_back_is = e; noted_is = was }, k))
   denied m (response.Reply v) is was false e k = inl (record { m = m.items; is_message = is; kept_back_is = e; noted_is = was }, k)
   denied m response.Nothing is was true e k = absurd k
@@ -105,29 +105,29 @@ module _ (s : Serving) (q : Queried) (old new : Option ℕ) where
   denied m (response.Sign v) is was true e k = absurd k
   denied m (response.Sign v) is was false e k = absurd k
 
-  pub unheld_answered : (made : Result Signed AnswerFault) (r : Response) → Makes s (reserved q.asked) false (is_dnssec_ok q) old new made → IsMadeUnheld s.limit s.size q s.addresses made r → AnswersUnheld s q old new r
-  unheld_answered (Ok (signed.Message m)) r h k = denied m r h.0 h.1 (keeps_back q m.items) refl k
-  unheld_answered (Ok (signed.Missing inputs)) (response.Sign v) h k =
+  pub synthesized_answered : (made : Result Signed AnswerFault) (r : Response) → Makes s (reserved q.asked) false (is_dnssec_ok q) old new made → IsMadeSynthesized s.limit s.size q s.addresses made r → AnswersSynthesized s q old new r
+  synthesized_answered (Ok (signed.Message m)) r h k = denied m r h.0 h.1 (keeps_back q m.items) refl k
+  synthesized_answered (Ok (signed.Missing inputs)) (response.Sign v) h k =
       let is : v.items ≡ inputs.items = ap (λ x. x.items) k in
       (h.0, is ∙ h.1, subst (λ (l : List Input). 0 < length l) (sym is) h.2, h.3)
-  unheld_answered (Ok (signed.Missing inputs)) response.Nothing h k = absurd k
-  unheld_answered (Ok (signed.Missing inputs)) (response.Reply v) h k = absurd k
-  unheld_answered (Err f) (response.Reply v) h k = inr (inr (record { f = f; is_fault = h.0; enough_memory = k.0; octets_are = k.1; unchanged = h.1 }))
-  unheld_answered (Err f) response.Nothing h k = absurd k
-  unheld_answered (Err f) (response.Sign v) h k = absurd k
+  synthesized_answered (Ok (signed.Missing inputs)) response.Nothing h k = absurd k
+  synthesized_answered (Ok (signed.Missing inputs)) (response.Reply v) h k = absurd k
+  synthesized_answered (Err f) (response.Reply v) h k = inr (inr (record { f = f; is_fault = h.0; enough_memory = k.0; octets_are = k.1; unchanged = h.1 }))
+  synthesized_answered (Err f) response.Nothing h k = absurd k
+  synthesized_answered (Err f) (response.Sign v) h k = absurd k
 
 -- ---- by what is asked for
 
 abbrev by_type : Serving → Queried → Option ℕ → Option ℕ → Response → Bool → Bool → Bool → Type 0
-by_type s q old new r unheld all parameters =
-    MatchBool unheld (AnswersUnheld s q old new r) (MatchBool all (AnswersSubset s q old new r) (MatchBool parameters (AnswersParameters s q old new r) (AnswersHeld s q old new r)))
+by_type s q old new r synthesized all parameters =
+    MatchBool synthesized (AnswersSynthesized s q old new r) (MatchBool all (AnswersSubset s q old new r) (MatchBool parameters (RespondsWithParameters s q old new r) (AnswersHeld s q old new r)))
 
-pub answered_so : (s : Serving) (q : Queried) (old new : Option ℕ) (r : Response) (unheld all parameters : Bool) → is_unheld s.world.zone.apex s.world.zone.mode q.asked ≡ unheld → asks_all q.asked ≡ all
-    → is_for_parameters s.world.zone.apex s.world.zone.mode q.asked ≡ parameters → by_type s q old new r unheld all parameters → AnswersItself s q old new r
-answered_so s q old new r unheld all parameters is is_all is_for k =
+pub answered_so : (s : Serving) (q : Queried) (old new : Option ℕ) (r : Response) (synthesized all parameters : Bool) → is_synthesized s.world.zone.apex s.world.zone.mode q.asked ≡ synthesized → asks_all q.asked ≡ all
+    → is_for_parameters s.world.zone.apex s.world.zone.mode q.asked ≡ parameters → by_type s q old new r synthesized all parameters → RespondsItself s q old new r
+answered_so s q old new r synthesized all parameters is is_all is_for k =
     let for_parameters = is_for_parameters s.world.zone.apex s.world.zone.mode q.asked in
     subst (λ (b : Bool). by_type s q old new r b (asks_all q.asked) for_parameters) (sym is)
-    (subst (λ (b : Bool). by_type s q old new r unheld b for_parameters) (sym is_all) (subst (by_type s q old new r unheld all) (sym is_for) k))
+    (subst (λ (b : Bool). by_type s q old new r synthesized b for_parameters) (sym is_all) (subst (by_type s q old new r synthesized all) (sym is_for) k))
 
 -- by the RRset of an alias, or where none answers
 pub by_alias : (s : Serving) (q : Queried) (old new : Option ℕ) (r : Response) (o : Option Asked) → o ≡ alias_of s.world.zone.mode (served_in s.world).zone q.asked → AnswersBy s q old new r o → AnswersQueried s q old new r

@@ -7,8 +7,8 @@ use Rattle.definitions.specs.Limits.{pointer_limit}
 use Rattle.definitions.specs.Name.{Name}
 use Rattle.definitions.specs.ZoneChain.{Mode, Nsec, Nsec3}
 use Rattle.messages.specs.Message.{Asked, message}
-use Rattle.answer_shared.specs.Given.{Gives}
-use Rattle.answer_shared.specs.Served.{Group}
+use Rattle.answer_terms.specs.Given.{Gives}
+use Rattle.answer_terms.specs.Served.{ServedRrset}
 use Rattle.answer_zone.specs.Finding.{links_names}
 use Rattle.answer_publisher.specs.Answering.{apex_question}
 use Rattle.answer_publisher.specs.Parameters.{OfBoth, parameters_in}
@@ -27,8 +27,8 @@ pub is_of_hashes : (apex : Name) (mode : Mode) (asked : Asked) → is_for_parame
 is_of_hashes apex Nsec asked e = absurd (false≢true (and_parts _ false e).1)
 is_of_hashes apex (Nsec3 iterations salt optout) asked e = refl
 
-spells_reads : (verifies : Dnskey → List ℕ → List ℕ → Bool) (apex : Name) (at life : ℕ) (keys : List Dnskey) (o : Option Group) (m : List ℕ)
-    → OfBoth (λ (g : Group) (b : List ℕ). Gives verifies pointer_limit apex at life keys (apex_question apex g.rtype) (g ∷ []) b) o (Some m) → IsOk (message pointer_limit m)
+spells_reads : (verifies : Dnskey → List ℕ → List ℕ → Bool) (apex : Name) (at life : ℕ) (keys : List Dnskey) (o : Option ServedRrset) (m : List ℕ)
+    → OfBoth (λ (g : ServedRrset) (b : List ℕ). Gives verifies pointer_limit apex at life keys (apex_question apex g.rtype) (g ∷ []) b) o (Some m) → IsOk (message pointer_limit m)
 spells_reads verifies apex at life keys None m h = absurd h
 spells_reads verifies apex at life keys (Some g) m h = ok_of (message pointer_limit m) h.read h.reads
 

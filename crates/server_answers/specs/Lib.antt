@@ -11,7 +11,7 @@ pub mod Requests
 pub mod Responding
 pub mod Servers
 pub mod Subset
-pub mod Unheld
+pub mod Synthesized
 pub use Rattle.answer_publisher.specs.Aliases
 pub use Rattle.answer_publisher.specs.World
 pub use Rattle.answer_publisher.specs.Inputs

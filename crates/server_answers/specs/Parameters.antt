@@ -38,6 +38,6 @@ MakesParameters s dnssec_ok (Ok (Missing v)) = (dnssec_ok ≡ true) × (v.items 
 MakesParameters s dnssec_ok (Err f) = HasNoParameters s dnssec_ok f
 
 -- What answers such a question: what is said of a message, of what is missing for it, or of a fault. The moment is not noted.
-abbrev pub AnswersParameters : Serving → Queried → Option ℕ → Option ℕ → Response → Type 0
-AnswersParameters s q old new response =
+abbrev pub RespondsWithParameters : Serving → Queried → Option ℕ → Option ℕ → Response → Type 0
+RespondsWithParameters s q old new response =
     (made : Result Signed AnswerFault) × MakesParameters s (is_dnssec_ok q) made × IsMadeOf s.limit s.size q s.addresses made response × (new ≡ old)

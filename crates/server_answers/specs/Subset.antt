@@ -1,7 +1,7 @@
 -- What a server answers to questions for all records of a name, or for all signatures there: one RRset of the name (RFC 8482, 4.1).
 use Rattle.std.specs.Prelude.{◌≡◌, ◌≢◌, ◌⊎◌, MatchBool, ℕ, ◌<◌, Bool, true, false, not, ◌&&◌, ◌||◌, ◌==◌, List, [], ◌∷◌, length, Option, Result, Ok, Err, slice_index}
 use Rattle.messages.specs.Message.{Asked}
-use Rattle.answer_shared.specs.Asking.{is_allowed}
+use Rattle.answer_terms.specs.Asking.{is_allowed}
 use Rattle.answer_publisher_keys.specs.Bindings.{ZoneKeys}
 use Rattle.answer_publisher.specs.Aliases.{for_type}
 use Rattle.answer_publisher.specs.Replacing.{noted}
@@ -17,7 +17,7 @@ use Rattle.server_answers.specs.Glued.{AnswersGlued}
 use Rattle.server_answers.specs.Listed.{listed}
 use Rattle.server_answers.specs.Moments.{IsOrWasNoted}
 use Rattle.server_answers.specs.Responding.{IsFault, IsMessage, Serving, inputs_for, rcode_of, unsigned}
-use Rattle.server_answers.specs.Unheld.{has_answers}
+use Rattle.server_answers.specs.Synthesized.{has_answers}
 use Rattle.server_answers.specs.declared.requests.Response.{Response}
 use Rattle.server_answers.specs.declared.requests.Response.TheVariants.{Nothing, Reply, Sign}
 
@@ -77,7 +77,7 @@ pub record IsSubset (s : Serving) (q : Queried) (old new : Option ℕ) (octets :
   pub noted_is : new ≡ noted old s.at
 
 -- a reply that says why there is none
-pub record IsUnanswered (s : Serving) (q : Queried) (old new : Option ℕ) (octets : List ℕ) : Type 0 where
+pub record IsSubsetRefused (s : Serving) (q : Queried) (old new : Option ℕ) (octets : List ℕ) : Type 0 where
   pub f : AnswerFault
   pub unchosen : IsUnchosen s q.asked (wants_signatures q) f
   pub enough_memory : f ≢ Memory
@@ -88,6 +88,6 @@ pub record IsUnanswered (s : Serving) (q : Queried) (old new : Option ℕ) (octe
 -- noted behind either.
 abbrev pub AnswersSubset : Serving → Queried → Option ℕ → Option ℕ → Response → Type 0
 AnswersSubset s q old new Nothing = ⊥
-AnswersSubset s q old new (Reply v) = IsSubset s q old new v.items ⊎ IsUnanswered s q old new v.items
+AnswersSubset s q old new (Reply v) = IsSubset s q old new v.items ⊎ IsSubsetRefused s q old new v.items
 AnswersSubset s q old new (Sign v) =
     (t : ℕ) × IsChosen s.world s.keys s.at q.asked t × (wants_signatures q ≡ true) × (v.items ≡ missing s.table (inputs_for s (for_type t q.asked) false)) × (0 < length v.items) × (new ≡ noted old s.at)

@@ -1,6 +1,5 @@
-//! What an authoritative name server of one zone answers, octets to octets: a request, the message
-//! of the zone's publisher, signed by a table of signatures, and the response (RFC 1035, 4.1;
-//! RFC 4035, 3.1; RFC 6891).
+//! The response of an authoritative name server of one zone to a request, from bytes to bytes (RFC
+//! 1035, 4.1; RFC 4035, 3.1; RFC 6891).
 #![tactic(auto)]
 
 mod aliased;
@@ -12,7 +11,7 @@ mod parameters;
 pub mod requests;
 mod server;
 mod subset;
-mod unheld;
+mod synthesized;
 
 pub use crate::moment::{DEFAULT_BACKDATE, backdated};
 pub use crate::requests::{Request, Response, ServerTerms, respond};

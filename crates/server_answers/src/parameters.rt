@@ -1,10 +1,10 @@
 //! Questions for the NSEC3PARAM RRset of a zone.
 ghost use Rattle.std.specs.Prelude.{◌≡◌, false, not, true, IfOk};
 ghost use Rattle.answer_publisher.specs.World.{world_of};
-ghost use Rattle.answer_shared.specs.ModeView.{mode_of};
+ghost use Rattle.answer_terms.specs.ModeView.{mode_of};
 ghost use Rattle.answer_zone.specs.Finding.{links_names};
 ghost use Rattle.messages.specs.Questions.{asked_of};
-ghost use Rattle.server_answers.specs.Parameters.{AnswersParameters, MakesParameters, is_for_parameters};
+ghost use Rattle.server_answers.specs.Parameters.{RespondsWithParameters, MakesParameters, is_for_parameters};
 ghost use Rattle.server_answers.specs.Servers.{serving_by};
 ghost use Rattle.server_queries.specs.Views.{queried_of};
 
@@ -14,7 +14,7 @@ use crate::server::Server;
 use answer_publisher::fault::AnswerFault;
 use answer_publisher::publishing::Publisher;
 use answer_scheme::Scheme;
-use answer_shared::mode::Mode;
+use answer_terms::mode::Mode;
 use denial_nsec3_hash::hasher::Nsec3Hasher;
 use messages::names::{Name, ToName};
 use messages::question::Question;
@@ -57,7 +57,7 @@ pub(crate) fn answer_parameters<S: Scheme, H: Nsec3Hasher>(
     ensures { let p = publisher.now in
         let w = world_of S.signature_of S.verifies S.digest_of H.hash_of p in
         let s = serving_by w p.keys server.now in let q = queried_of query.now in
-        IfOk result (AnswersParameters s q p.latest p.latest) }
+        IfOk result (RespondsWithParameters s q p.latest p.latest) }
 {
     let made = parameters_message(publisher, server, is_dnssec_ok(query));
     response_with(alloc, server, query, made)

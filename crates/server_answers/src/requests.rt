@@ -8,7 +8,7 @@ ghost use Rattle.server_answers.specs.Glued.{AnswersGlued};
 ghost use Rattle.server_answers.specs.MadeOf.{IsMadeOf, ReadsWhole};
 ghost use Rattle.server_answers.specs.Moments.{IsOrWasNoted, backdated};
 ghost use Rattle.server_answers.specs.Requests.{Responds};
-ghost use Rattle.server_answers.specs.Answering.{AnswersItself, AnswersQueried};
+ghost use Rattle.server_answers.specs.Answering.{RespondsItself, AnswersQueried};
 ghost use Rattle.server_answers.specs.Responding.{AnswersHeld, serving};
 ghost use Rattle.server_answers.specs.Servers.{serving_by};
 ghost use Rattle.server_queries.specs.Views.{queried_of};
@@ -19,7 +19,7 @@ use crate::moment::backdated;
 use crate::parameters::{answer_parameters, is_for_parameters};
 use crate::server::Server;
 use crate::subset::answer_subset;
-use crate::unheld::{answer_unheld, is_unheld};
+use crate::synthesized::{answer_synthesized, is_synthesized};
 use answer_publisher::fault::AnswerFault;
 use answer_publisher::publishing::Publisher;
 use answer_publisher::publishing::aliases::asks_all;
@@ -166,13 +166,13 @@ fn answer_itself<S: Scheme, H: Nsec3Hasher>(
     ensures response { let p = publisher.old in
         let w = world_of S.signature_of S.verifies S.digest_of H.hash_of p in
         let s = serving_by w p.keys server.now in let q = queried_of query.now in
-        IfOk result (AnswersItself s q p.latest publisher.new.latest) }
+        IfOk result (RespondsItself s q p.latest publisher.new.latest) }
     ensures rest { publisher.new ≡ record publisher.old { latest = publisher.new.latest } }
     ensures memory { OnErr result
         (IsOrWasNoted server.now.at publisher.old.latest publisher.new.latest) }
 {
-    if is_unheld(publisher.apex(), publisher.mode(), &question) {
-        return answer_unheld(alloc, publisher, server, query, question);
+    if is_synthesized(publisher.apex(), publisher.mode(), &question) {
+        return answer_synthesized(alloc, publisher, server, query, question);
     }
     if asks_all(&question) {
         return answer_subset(alloc, publisher, server, query, question);

@@ -15,7 +15,7 @@ use crate::listed::listed_types;
 use crate::message::{bare_message, zone_message};
 use crate::requests::{Response, response_with};
 use crate::server::Server;
-use crate::unheld::{RESERVED, has_answers, octet_at};
+use crate::synthesized::{RESERVED, has_answers, octet_at};
 use answer_publisher::fault::AnswerFault;
 use answer_publisher::publishing::Publisher;
 use answer_scheme::Scheme;

@@ -8,7 +8,7 @@ use Rattle.plain.specs.declared.zone_data.ZoneRecordData.{ZoneRecordData}
 use Rattle.definitions.specs.Name.{Name}
 use Rattle.messages.specs.HandedRr.{HandedRr, handed_of}
 use Rattle.messages.proofs.Lists.{all_sorted}
-use Rattle.answer_shared.specs.Accepting.{record_cmp}
+use Rattle.answer_terms.specs.Accepting.{record_cmp}
 use Rattle.answer_zone_records.specs.OwnedRecords.{IsInternet}
 use Rattle.answer_zone_records.proofs.ZoneOrder.{handed_in_order, zone_cmp}
 use Rattle.server_glue.specs.Glue.{IsAddress, addresses_of, is_address}

@@ -7,7 +7,7 @@ use Rattle.messages.specs.declared.error.MessageError.{MessageError}
 use Rattle.messages.specs.Handed.{IsHanded}
 use Rattle.messages.specs.HandedRr.{HandedRr}
 use Rattle.messages.specs.Message.{Message, Spelled, message, owner_at, pair}
-use Rattle.answer_shared.specs.Accepting.{sorted_records}
+use Rattle.answer_terms.specs.Accepting.{sorted_records}
 
 -- an address of class IN: A, 1, or AAAA, 28 (RFC 1035, 3.4.1; RFC 3596, 2.1)
 abbrev pub is_address : HandedRr → Bool

@@ -10,8 +10,8 @@ use Rattle.denial_laws.specs.Aliases.{is_alias_type, is_aliased}
 use Rattle.messages.specs.HandedRr.{HandedRr, among}
 use Rattle.messages.specs.Message.{Asked}
 use Rattle.messages.proofs.ZoneNames.{at_or_above-low}
-use Rattle.answer_shared.specs.Accepting.{zone_of, zone_with}
-use Rattle.answer_shared.specs.Asking.{asks_alias, is_allowed}
+use Rattle.answer_terms.specs.Accepting.{zone_of, zone_with}
+use Rattle.answer_terms.specs.Asking.{asks_alias, is_allowed}
 use Rattle.answer_zone.specs.Finding.{finds, links_names, redirecting}
 use Rattle.alias_laws.specs.Leading.{leads_elsewhere}
 use Rattle.alias_laws.proofs.Aliases.{aliases_led}

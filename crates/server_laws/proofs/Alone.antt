@@ -14,9 +14,9 @@ use Rattle.messages.specs.Written.{Written, record_octets}
 use Rattle.messages.specs.WrittenLaws.{AreFields, spelled_at, spelled_from}
 use Rattle.messages.proofs.MessageSignatures.{signature_here}
 use Rattle.messages.proofs.MessageWritten.{StandsAt, data_behind, end_of}
-use Rattle.answer_shared.specs.Alike.{IsLike}
-use Rattle.answer_shared.specs.GroupView.{GroupView, IsRrsigData, fields_of, view_of}
-use Rattle.answer_shared.specs.Served.{Group}
+use Rattle.answer_terms.specs.Alike.{IsLike}
+use Rattle.answer_terms.specs.GroupView.{GroupView, IsRrsigData, fields_of, view_of}
+use Rattle.answer_terms.specs.Served.{ServedRrset}
 use Rattle.server_laws.specs.SeenAlike.{is_covering}
 use Rattle.server_answers.specs.Composed.{IsWritten, joined, rrsig_of}
 use Rattle.server_answers.proofs.WritesData.{reads_plain}
@@ -39,20 +39,20 @@ pub record StandsAlone (w : Written) : Type 0 where
 
 -- ---- the records of RRsets and their signatures
 
-abbrev pub NoSignature : Group → Type 0
+abbrev pub NoSignature : ServedRrset → Type 0
 NoSignature g = eqb g.rtype 46 ≡ false
 
 -- an RRset of another type
-abbrev pub IsOther : ℕ → Group → Type 0
+abbrev pub IsOther : ℕ → ServedRrset → Type 0
 IsOther u g = eqb g.rtype u ≡ false
 
-own_other : (u : ℕ) (g : Group) (ws : List Written) (ds : List (List ℕ)) → NoSignature g → AllZip (ReadsRecord g) ws ds → AllByRecursion (SignsOther u) ws
+own_other : (u : ℕ) (g : ServedRrset) (ws : List Written) (ds : List (List ℕ)) → NoSignature g → AllZip (ReadsRecord g) ws ds → AllByRecursion (SignsOther u) ws
 own_other u g [] [] none h = tt
 own_other u g [] (d ∷ ds) none h = absurd h
 own_other u g (w ∷ ws) [] none h = absurd h
 own_other u g (w ∷ ws) (d ∷ ds) none h = (λ is. absurd (true≢false (sym (eq-eqb g.rtype 46 (sym h.0.rtype ∙ is)) ∙ none)), own_other u g ws ds none h.1)
 
-own_alone : (g : Group) (ws : List Written) (ds : List (List ℕ)) → NoSignature g → AllZip (ReadsRecord g) ws ds → AllByRecursion StandsAlone ws
+own_alone : (g : ServedRrset) (ws : List Written) (ds : List (List ℕ)) → NoSignature g → AllZip (ReadsRecord g) ws ds → AllByRecursion StandsAlone ws
 own_alone g [] [] none h = tt
 own_alone g [] (d ∷ ds) none h = absurd h
 own_alone g (w ∷ ws) [] none h = absurd h
@@ -66,11 +66,11 @@ own_alone g (w ∷ ws) (d ∷ ds) none h = (
 )
 
 -- a record of an RRset, or a signature of it
-pub record IsOf (g : Group) (w : Written) : Type 0 where
+pub record IsOf (g : ServedRrset) (w : Written) : Type 0 where
   pub owner_is : low w.owner ≡ low g.owner
   pub covers : (w.rtype ≡ g.rtype) ⊎ ((w.rtype ≡ 46) × (said : Fields × List ℕ) × (said.0.covered ≡ g.rtype) × ReadsSignature w.octets said)
 
-own_of : (g : Group) (ws : List Written) (ds : List (List ℕ)) → AllZip (ReadsRecord g) ws ds → AllByRecursion (IsOf g) ws
+own_of : (g : ServedRrset) (ws : List Written) (ds : List (List ℕ)) → AllZip (ReadsRecord g) ws ds → AllByRecursion (IsOf g) ws
 own_of g [] [] h = tt
 own_of g [] (d ∷ ds) h = absurd h
 own_of g (w ∷ ws) [] h = absurd h
@@ -87,7 +87,7 @@ fields_fit apex at life g key name t ttl tag = record {
 }
 
 module _ (sign : Dnskey → List ℕ → Option (List ℕ)) (verifies : Dnskey → List ℕ → List ℕ → Bool) (apex : Name) (at life : ℕ) (name : IsName apex) where
-  signature_reads : (g : Group) (key : Dnskey) (d : List ℕ) → g.rtype < 65536 → g.ttl < 4294967296 → (made : IsRrsigData sign verifies apex at life (view_of g) key d)
+  signature_reads : (g : ServedRrset) (key : Dnskey) (d : List ℕ) → g.rtype < 65536 → g.ttl < 4294967296 → (made : IsRrsigData sign verifies apex at life (view_of g) key d)
       → ReadsSignature d (record (fields_of apex at life (view_of g) key) { signer = low apex }, made.signature)
   signature_reads g key d t ttl made m rest r few stands size =
       let f : Fields = fields_of apex at life (view_of g) key in
@@ -96,20 +96,20 @@ module _ (sign : Dnskey → List ℕ → Option (List ℕ)) (verifies : Dnskey �
       let short : length whole ≤ 65535 = omega (arith, few, ap length there.whole, length-append there.front (whole ++ rest), length-append whole rest) in
       signature_here m f made.signature rest r (fields_fit apex at life (view_of g) key name t ttl made.tag_fits) short there (size ∙ ap length made.data_is)
 
-  signature_alone : (g : Group) (key : Dnskey) (d : List ℕ) → g.rtype < 65536 → g.ttl < 4294967296 → IsRrsigData sign verifies apex at life (view_of g) key d → StandsAlone (rrsig_of (view_of g) d)
+  signature_alone : (g : ServedRrset) (key : Dnskey) (d : List ℕ) → g.rtype < 65536 → g.ttl < 4294967296 → IsRrsigData sign verifies apex at life (view_of g) key d → StandsAlone (rrsig_of (view_of g) d)
   signature_alone g key d t ttl made = record {
     canonical = d;
     reads = reads_plain 46 d refl refl refl;
     signs = λ is. ((record (fields_of apex at life (view_of g) key) { signer = low apex }, made.signature), signature_reads g key d t ttl made);
   }
 
-  signatures_alone : (g : Group) (keys : List Dnskey) (ds : List (List ℕ)) → g.rtype < 65536 → g.ttl < 4294967296 → AllZip (IsRrsigData sign verifies apex at life (view_of g)) keys ds → AllByRecursion StandsAlone (map (rrsig_of (view_of g)) ds)
+  signatures_alone : (g : ServedRrset) (keys : List Dnskey) (ds : List (List ℕ)) → g.rtype < 65536 → g.ttl < 4294967296 → AllZip (IsRrsigData sign verifies apex at life (view_of g)) keys ds → AllByRecursion StandsAlone (map (rrsig_of (view_of g)) ds)
   signatures_alone g [] [] t ttl h = tt
   signatures_alone g [] (d ∷ ds) t ttl h = absurd h
   signatures_alone g (key ∷ keys) [] t ttl h = absurd h
   signatures_alone g (key ∷ keys) (d ∷ ds) t ttl h = (signature_alone g key d t ttl h.0, signatures_alone g keys ds t ttl h.1)
 
-  pub groups_alone : (keys : List Dnskey) (gs : List Group) (pieces : List (List Written)) → AllByRecursion IsFormed gs → AllByRecursion NoSignature gs → AllZip (IsWritten sign verifies apex at life keys) (map view_of gs) pieces → AllByRecursion StandsAlone (joined pieces)
+  pub groups_alone : (keys : List Dnskey) (gs : List ServedRrset) (pieces : List (List Written)) → AllByRecursion IsFormed gs → AllByRecursion NoSignature gs → AllZip (IsWritten sign verifies apex at life keys) (map view_of gs) pieces → AllByRecursion StandsAlone (joined pieces)
   groups_alone keys [] [] formed none written = tt
   groups_alone keys [] (x ∷ pieces) formed none written = absurd written
   groups_alone keys (g ∷ gs) [] formed none written = absurd written
@@ -123,17 +123,17 @@ module _ (sign : Dnskey → List ℕ → Option (List ℕ)) (verifies : Dnskey �
 
   -- ---- which cover another type
 
-  signature_other : (u : ℕ) (g : Group) (key : Dnskey) (d : List ℕ) → eqb g.rtype u ≡ false → g.rtype < 65536 → g.ttl < 4294967296 → IsRrsigData sign verifies apex at life (view_of g) key d → SignsOther u (rrsig_of (view_of g) d)
+  signature_other : (u : ℕ) (g : ServedRrset) (key : Dnskey) (d : List ℕ) → eqb g.rtype u ≡ false → g.rtype < 65536 → g.ttl < 4294967296 → IsRrsigData sign verifies apex at life (view_of g) key d → SignsOther u (rrsig_of (view_of g) d)
   signature_other u g key d other t ttl made is = ((record (fields_of apex at life (view_of g) key) { signer = low apex }, made.signature), other, signature_reads g key d t ttl made)
 
-  signatures_other : (u : ℕ) (g : Group) (keys : List Dnskey) (ds : List (List ℕ)) → eqb g.rtype u ≡ false → g.rtype < 65536 → g.ttl < 4294967296 → AllZip (IsRrsigData sign verifies apex at life (view_of g)) keys ds
+  signatures_other : (u : ℕ) (g : ServedRrset) (keys : List Dnskey) (ds : List (List ℕ)) → eqb g.rtype u ≡ false → g.rtype < 65536 → g.ttl < 4294967296 → AllZip (IsRrsigData sign verifies apex at life (view_of g)) keys ds
       → AllByRecursion (SignsOther u) (map (rrsig_of (view_of g)) ds)
   signatures_other u g [] [] other t ttl h = tt
   signatures_other u g [] (d ∷ ds) other t ttl h = absurd h
   signatures_other u g (key ∷ keys) [] other t ttl h = absurd h
   signatures_other u g (key ∷ keys) (d ∷ ds) other t ttl h = (signature_other u g key d other t ttl h.0, signatures_other u g keys ds other t ttl h.1)
 
-  pub groups_other : (u : ℕ) (keys : List Dnskey) (gs : List Group) (pieces : List (List Written)) → AllByRecursion IsFormed gs → AllByRecursion NoSignature gs → AllByRecursion (IsOther u) gs
+  pub groups_other : (u : ℕ) (keys : List Dnskey) (gs : List ServedRrset) (pieces : List (List Written)) → AllByRecursion IsFormed gs → AllByRecursion NoSignature gs → AllByRecursion (IsOther u) gs
       → AllZip (IsWritten sign verifies apex at life keys) (map view_of gs) pieces → AllByRecursion (SignsOther u) (joined pieces)
   groups_other u keys [] [] formed none other written = tt
   groups_other u keys [] (x ∷ pieces) formed none other written = absurd written
@@ -148,7 +148,7 @@ module _ (sign : Dnskey → List ℕ → Option (List ℕ)) (verifies : Dnskey �
 
   -- ---- the records of one RRset
 
-  signatures_of : (g : Group) (keys : List Dnskey) (ds : List (List ℕ)) → g.rtype < 65536 → g.ttl < 4294967296 → AllZip (IsRrsigData sign verifies apex at life (view_of g)) keys ds → AllByRecursion (IsOf g) (map (rrsig_of (view_of g)) ds)
+  signatures_of : (g : ServedRrset) (keys : List Dnskey) (ds : List (List ℕ)) → g.rtype < 65536 → g.ttl < 4294967296 → AllZip (IsRrsigData sign verifies apex at life (view_of g)) keys ds → AllByRecursion (IsOf g) (map (rrsig_of (view_of g)) ds)
   signatures_of g [] [] t ttl h = tt
   signatures_of g [] (d ∷ ds) t ttl h = absurd h
   signatures_of g (key ∷ keys) [] t ttl h = absurd h
@@ -157,17 +157,17 @@ module _ (sign : Dnskey → List ℕ → Option (List ℕ)) (verifies : Dnskey �
     signatures_of g keys ds t ttl h.1,
   )
 
-  pub piece_of : (keys : List Dnskey) (g : Group) (ws : List Written) → IsFormed g → IsWritten sign verifies apex at life keys (view_of g) ws → AllByRecursion (IsOf g) ws
+  pub piece_of : (keys : List Dnskey) (g : ServedRrset) (ws : List Written) → IsFormed g → IsWritten sign verifies apex at life keys (view_of g) ws → AllByRecursion (IsOf g) ws
   piece_of keys g ws f w =
       subst (AllByRecursion (IsOf g)) (sym w.1.1)
       (all_joined (IsOf g) g.written (map (rrsig_of (view_of g)) w.0) (own_of g g.written g.datas f.datas) (signatures_of g (if g.signed then keys else []) w.0 f.rtype f.ttl w.1.0))
 
 -- a record of a message that is one of an RRset, or a signature of it
-pub record IsRecordOf (g : Group) (m : List ℕ) (r : Spelled) : Type 0 where
+pub record IsRecordOf (g : ServedRrset) (m : List ℕ) (r : Spelled) : Type 0 where
   pub owner_is : low r.owner ≡ low g.owner
   pub covers : (r.rtype ≡ g.rtype) ⊎ ((r.rtype ≡ 46) × (said : Fields × List ℕ) × (said.0.covered ≡ g.rtype) × (rrsig_at pointer_limit m r ≡ Some said))
 
-record_of : (g : Group) (m : List ℕ) (p : ℕ) (w : Written) (rest : List ℕ) → length m ≤ 65535 → IsOf g w → StandsAt m p (record_octets w ++ rest) → IsRecordOf g m (spelled_at p w)
+record_of : (g : ServedRrset) (m : List ℕ) (p : ℕ) (w : Written) (rest : List ℕ) → length m ≤ 65535 → IsOf g w → StandsAt m p (record_octets w ++ rest) → IsRecordOf g m (spelled_at p w)
 record_of g m p w rest few is one = record {
   owner_is = is.owner_is;
   covers = ⊎_elim
@@ -176,7 +176,7 @@ record_of g m p w rest few is one = record {
       is.covers;
 }
 
-pub records_of : (g : Group) (m : List ℕ) (p : ℕ) (ws : List Written) (rest : List ℕ) → length m ≤ 65535 → AllByRecursion (IsOf g) ws → StandsAt m p (flat_map record_octets ws ++ rest) → AllByRecursion (IsRecordOf g m) (spelled_from p ws)
+pub records_of : (g : ServedRrset) (m : List ℕ) (p : ℕ) (ws : List Written) (rest : List ℕ) → length m ≤ 65535 → AllByRecursion (IsOf g) ws → StandsAt m p (flat_map record_octets ws ++ rest) → AllByRecursion (IsRecordOf g m) (spelled_from p ws)
 records_of g m p [] rest few is one = tt
 records_of g m p (w ∷ ws) rest few is one =
     (record_of g m p w _ few is.0 (first_stands m p w ws rest one), records_of g m (end_of p w) ws rest few is.1 (rest_stands m p w ws rest one))

@@ -5,7 +5,7 @@ use Rattle.std.proofs.lemmas.Bool.{and_parts, or_parts}
 use Rattle.definitions.specs.Name.{at_or_above}
 use Rattle.messages.specs.HandedRr.{among}
 use Rattle.messages.specs.Message.{Asked}
-use Rattle.answer_shared.specs.Asking.{is_allowed}
+use Rattle.answer_terms.specs.Asking.{is_allowed}
 use Rattle.answer_publisher_keys.specs.Bindings.{ZoneKeys}
 use Rattle.server_answers.specs.Listed.{listed}
 use Rattle.server_answers.specs.Aliases.{for_type}

@@ -17,7 +17,7 @@ use Rattle.server_answers.specs.Glue.{IsAddress, glue}
 use Rattle.server_answers.specs.Responding.{IsMessage, Serving}
 use Rattle.server_answers.specs.Aliases.{for_type}
 use Rattle.server_answers.specs.Subset.{wants_signatures}
-use Rattle.server_answers.specs.Unheld.{reserved}
+use Rattle.server_answers.specs.Synthesized.{reserved}
 use Rattle.server_answers.specs.Table.{sign_by, verify_by}
 use Rattle.server_answers.specs.Outcomes.{signed_by}
 use Rattle.server_answers.specs.World.{AnswersQuestion}

@@ -5,9 +5,9 @@ use Rattle.std.specs.Option.{option_map}
 use Rattle.std.proofs.lemmas.Bool.{eq-eqb, eqb-true, or_parts, true≢false}
 use Rattle.definitions.specs.Name.{Name, at_or_above, same}
 use Rattle.messages.specs.Message.{Spelled}
-use Rattle.answer_shared.specs.Alike.{IsLike}
-use Rattle.answer_shared.specs.FactsCase.{low_facts}
-use Rattle.answer_shared.specs.HashOwner.{spells_hash}
+use Rattle.answer_terms.specs.Alike.{IsLike}
+use Rattle.answer_terms.specs.FactsCase.{low_facts}
+use Rattle.answer_terms.specs.HashOwner.{spells_hash}
 use Rattle.answer_judge_facts.specs.Sought.{answer_sought, is_alone}
 use Rattle.answer_judge_facts.specs.Times.{Times, proof_times, times_at, times_of}
 use Rattle.answer_judge_facts.specs.Verified.{Trusting, is_hash_alone, one_known, rrset_in, verified_by, verified_facts, verified_rrset}

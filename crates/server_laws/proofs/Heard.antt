@@ -21,13 +21,13 @@ use Rattle.messages.proofs.ZoneNames.{same_labels}
 use Rattle.answer_publisher_keys.specs.Bindings.{ZoneKeys}
 use Rattle.answer_scheme.specs.Answers.{Answers}
 use Rattle.answer_scheme.specs.Moments.{second_of}
-use Rattle.answer_shared.specs.Accepting.{sorted_records, zone_with}
-use Rattle.answer_shared.specs.Asking.{is_allowed}
-use Rattle.answer_shared.specs.GroupView.{GroupView, Presents, view_of}
-use Rattle.answer_shared.specs.Hashing.{hash_in}
+use Rattle.answer_terms.specs.Accepting.{sorted_records, zone_with}
+use Rattle.answer_terms.specs.Asking.{is_allowed}
+use Rattle.answer_terms.specs.GroupView.{GroupView, Presents, view_of}
+use Rattle.answer_terms.specs.Hashing.{hash_in}
 use Rattle.answer_zone.specs.ZoneAnswers.{flags_for}
 use Rattle.alias_laws.proofs.Orderly.{servable}
-use Rattle.answer_shared.specs.Served.{Group, Served, answer_groups, key_group, served_of, ttl_among}
+use Rattle.answer_terms.specs.Served.{ServedRrset, Served, answer_groups, key_group, served_of, ttl_among}
 use Rattle.answer_judge.specs.Judging.{Answer, JudgeInput, Refuses, Says, is_judged, message_refusal}
 use Rattle.answer_judge.specs.declared.verdict.Refusal.{Refusal}
 use Rattle.answer_judge.specs.declared.verdict.Refusal.TheVariants as r
@@ -66,7 +66,7 @@ all_front P [] ys h = tt
 all_front P (x ∷ xs) ys h = (h.0, all_front P xs ys h.1)
 
 -- its records say the same wherever they stand
-written_alone : (sign : Dnskey → List ℕ → Option (List ℕ)) (verifies : Dnskey → List ℕ → List ℕ → Bool) (apex : Name) (at life : ℕ) (keys : List Dnskey) (flags : ℕ) (asked : Asked) (answer authority : List GroupView) (groups : List Group) (m : List ℕ)
+written_alone : (sign : Dnskey → List ℕ → Option (List ℕ)) (verifies : Dnskey → List ℕ → List ℕ → Bool) (apex : Name) (at life : ℕ) (keys : List Dnskey) (flags : ℕ) (asked : Asked) (answer authority : List GroupView) (groups : List ServedRrset) (m : List ℕ)
     → IsName apex → IsQuestion asked → AllByRecursion IsFormed groups → AllByRecursion NoSignature groups → AllZip Presents (answer ++ authority) groups
     → (w : IsAnswer sign verifies apex at life keys flags asked answer authority m) → IsAlone flags asked (joined w.answers) (joined w.authorities) m
 written_alone sign verifies apex at life keys flags asked answer authority groups m name is formed none presents w =
@@ -98,7 +98,7 @@ written_alone sign verifies apex at life keys flags asked answer authority group
     }
 
 -- its signatures cover other types than one that none of its RRsets is of
-written_other : (u : ℕ) (sign : Dnskey → List ℕ → Option (List ℕ)) (verifies : Dnskey → List ℕ → List ℕ → Bool) (apex : Name) (at life : ℕ) (keys : List Dnskey) (flags : ℕ) (asked : Asked) (answer authority : List GroupView) (groups : List Group) (m : List ℕ)
+written_other : (u : ℕ) (sign : Dnskey → List ℕ → Option (List ℕ)) (verifies : Dnskey → List ℕ → List ℕ → Bool) (apex : Name) (at life : ℕ) (keys : List Dnskey) (flags : ℕ) (asked : Asked) (answer authority : List GroupView) (groups : List ServedRrset) (m : List ℕ)
     → IsName apex → AllByRecursion IsFormed groups → AllByRecursion NoSignature groups → AllByRecursion (IsOther u) groups → AllZip Presents (answer ++ authority) groups
     → (w : IsAnswer sign verifies apex at life keys flags asked answer authority m) → AllByRecursion (SignsOther u) (joined w.answers ++ joined w.authorities)
 written_other u sign verifies apex at life keys flags asked answer authority groups m name formed none other presents w =
@@ -322,7 +322,7 @@ module _ (s : Serving) (q : Queried) (octets : List ℕ) (h : IsWhole s q octets
         (unasked q m (spelled_from (first_place q.asked) (joined is.written.answers ++ joined is.written.authorities)) link_unasked) octets h.whole glued.answers
 
   -- of an RRset of the apex
-  apex_judged : (g : Group) (keys : List Dnskey) (v : GroupView) → IsFormed g → NoSignature g → Presents v g
+  apex_judged : (g : ServedRrset) (keys : List Dnskey) (v : GroupView) → IsFormed g → NoSignature g → Presents v g
       → IsAnswer by_table.sign by_table.answers.verifies s.world.zone.apex (second_of s.at) s.world.life keys 33792 (record { name = s.world.zone.apex; rtype = g.rtype; class = 1 }) (v ∷ []) [] m
       → same q.asked.name s.world.zone.apex ≡ true → q.asked.rtype ≡ g.rtype → q.asked.class ≡ 1 → AnswersGlued s.limit s.size q s.addresses m octets → IsJudgedAs octets m
   apex_judged g keys v formed unsigned presents written name rtype class glued =

@@ -11,7 +11,7 @@ use Rattle.denial_laws.specs.NsecRules.{first_some}
 use Rattle.messages.specs.Message.{Spelled, canonical_data, nsec3_at, rrsig_at}
 use Rattle.messages.proofs.Lists.{all_more}
 use Rattle.messages.proofs.ZoneNames.{labels_eq-same, same_labels}
-use Rattle.answer_shared.specs.HashOwner.{spells_hash}
+use Rattle.answer_terms.specs.HashOwner.{spells_hash}
 use Rattle.answer_judge_keys.specs.Trusted.{signs}
 use Rattle.answer_judge_facts.specs.Sought.{answer_sought}
 use Rattle.answer_judge_facts.specs.Times.{Times, proof_times, times_at, times_of}

@@ -9,10 +9,10 @@ use Rattle.messages.specs.declared.error.MessageError.{MessageError}
 use Rattle.messages.specs.Message.{Asked, Message, Spelled, canonical_data, data_of, message}
 use Rattle.messages.proofs.Lists.{some_is}
 use Rattle.answer_scheme.specs.Answers.{Answers}
-use Rattle.answer_shared.specs.Alike.{IsLike}
-use Rattle.answer_shared.specs.EqualTags.{has_equal_tags}
-use Rattle.answer_shared.specs.FactsCase.{low_facts}
-use Rattle.answer_shared.proofs.FactsCase.{caseless}
+use Rattle.answer_terms.specs.Alike.{IsLike}
+use Rattle.answer_terms.specs.EqualTags.{has_equal_tags}
+use Rattle.answer_terms.specs.FactsCase.{low_facts}
+use Rattle.answer_terms.proofs.FactsCase.{caseless}
 use Rattle.answer_judge_rules.specs.Hashes.{hash_among}
 use Rattle.answer_judge.specs.Judging.{Answer, JudgeInput, Refuses, Says, is_judged, may_ask, message_refusal, same_question}
 use Rattle.answer_judge_keys.specs.DnskeyAnswer.{key_at, keys_in}

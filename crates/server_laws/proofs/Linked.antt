@@ -19,11 +19,11 @@ use Rattle.messages.proofs.ZoneNames.{labels_eq-same, same_labels}
 use Rattle.answer_publisher_keys.specs.Bindings.{ZoneKeys, keys_by_tag}
 use Rattle.answer_scheme.specs.Answers.{Answers}
 use Rattle.answer_scheme.specs.Moments.{second_of}
-use Rattle.answer_shared.specs.Alike.{IsLike}
-use Rattle.answer_shared.specs.FactsCase.{low_facts}
-use Rattle.answer_shared.specs.GroupView.{GroupView, view_of}
-use Rattle.answer_shared.specs.Served.{Group, Served, answer_groups, soa, spelled_among}
-use Rattle.answer_shared.proofs.ZoneData.{low-owner_among, low-spelled_among}
+use Rattle.answer_terms.specs.Alike.{IsLike}
+use Rattle.answer_terms.specs.FactsCase.{low_facts}
+use Rattle.answer_terms.specs.GroupView.{GroupView, view_of}
+use Rattle.answer_terms.specs.Served.{ServedRrset, Served, answer_groups, soa, spelled_among}
+use Rattle.answer_terms.proofs.ZoneData.{low-owner_among, low-spelled_among}
 use Rattle.answer_zone.specs.ZoneAnswers.{answered, flags_for}
 use Rattle.answer_judge.specs.Judging.{JudgeInput, is_judged}
 use Rattle.answer_judge.specs.Judged.{judged}
@@ -34,7 +34,7 @@ use Rattle.server_laws.proofs.FactsAlike.{all_times, facts_alike}
 use Rattle.server_answers.specs.Composed.{IsWritten, joined}
 use Rattle.server_answers.specs.Glue.{glue}
 use Rattle.server_answers.specs.Glued.{AnswersGlued}
-use Rattle.server_answers.specs.Unheld.{reserved}
+use Rattle.server_answers.specs.Synthesized.{reserved}
 use Rattle.server_answers.specs.World.{AnswersQuestion, World, served_in, signing_in}
 use Rattle.server_answers.proofs.WritesAnswer.{all_behind, all_presented}
 use Rattle.server_answers.proofs.WritesGroups.{Holds, IsFormed}
@@ -81,7 +81,7 @@ module _ (m : List ℕ) (r : Spelled) (said : Fields × List ℕ) where
 abbrev IsUnlinked : Name → Written → Type 0
 IsUnlinked n w = (eqb w.rtype 47 && same w.owner n) ≡ false
 
-unlinked_of : (n : Name) (g : Group) (ws : List Written) → IsNoLink n g → AllByRecursion (IsOf g) ws → AllByRecursion (IsUnlinked n) ws
+unlinked_of : (n : Name) (g : ServedRrset) (ws : List Written) → IsNoLink n g → AllByRecursion (IsOf g) ws → AllByRecursion (IsUnlinked n) ws
 unlinked_of n g [] none h = tt
 unlinked_of n g (w ∷ ws) none h = (
   ⊎_elim
@@ -145,7 +145,7 @@ module _ (w : World) (zone : IsZone w) (keys : ZoneKeys) (at : ℕ) (q : Queried
 
   -- ---- messages without it
 
-  pieces_unlinked : (gs : List Group) (pieces : List (List Written)) → AllByRecursion IsFormed gs → AllByRecursion (IsNoLink n) gs → AllZip Whole (map view_of gs) pieces → AllByRecursion (IsUnlinked n) (joined pieces)
+  pieces_unlinked : (gs : List ServedRrset) (pieces : List (List Written)) → AllByRecursion IsFormed gs → AllByRecursion (IsNoLink n) gs → AllZip Whole (map view_of gs) pieces → AllByRecursion (IsUnlinked n) (joined pieces)
   pieces_unlinked [] [] f none written = tt
   pieces_unlinked [] (x ∷ pieces) f none written = absurd written
   pieces_unlinked (g ∷ gs) [] f none written = absurd written
@@ -213,7 +213,7 @@ module _ (w : World) (zone : IsZone w) (keys : ZoneKeys) (at : ℕ) (q : Queried
     both_formed : AllByRecursion IsFormed (soa s ∷ l.link ∷ [])
     both_formed = subst (AllByRecursion IsFormed) l.groups_are formed
 
-    abbrev piece : (g : Group) (ws : List Written) → IsFormed g → Whole (view_of g) ws → AllByRecursion (IsOf g) ws
+    abbrev piece : (g : ServedRrset) (ws : List Written) → IsFormed g → Whole (view_of g) ws → AllByRecursion (IsOf g) ws
     piece = piece_of w.sign w.answers.verifies w.zone.apex (second_of at) w.life zone.apex_is (keys_by_tag keys (signing_in w (reserved q.asked)))
 
     abbrev place : ℕ

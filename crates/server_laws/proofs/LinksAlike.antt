@@ -13,9 +13,9 @@ use Rattle.messages.specs.Message.{HashedNext, Spelled, data_of, fits, if_true, 
 use Rattle.messages.specs.Message as message
 use Rattle.messages.proofs.Lists.{some_is}
 use Rattle.messages.proofs.ReadNames.{reads_labelled}
-use Rattle.answer_shared.specs.HashOwner.{hash_spelled}
-use Rattle.answer_shared.specs.Alike.{IsLike}
-use Rattle.answer_shared.specs.FactsCase.{low_link}
+use Rattle.answer_terms.specs.HashOwner.{hash_spelled}
+use Rattle.answer_terms.specs.Alike.{IsLike}
+use Rattle.answer_terms.specs.FactsCase.{low_link}
 use Rattle.answer_judge_facts.specs.Verified.{Trusting, hash_link_at, hash_link_with, is_hash_alone, is_hash_link, is_link, is_verified, link_at, link_of, one_known, rrset_in, verified_hash_links, verified_links}
 use Rattle.answer_judge_facts.proofs.JudgeCase.{above-owner, is_verified-owner, rrset_in-owner, spells-owner}
 use Rattle.answer_judge.proofs.GivenNext.{canonical_nsec, canonical_nsec3, if_true_some, name_in_at}

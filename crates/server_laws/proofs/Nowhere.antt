@@ -8,9 +8,9 @@ use Rattle.definitions.specs.ZoneChain.{Mode, optout_of}
 use Rattle.denial_laws.specs.Aliases.{is_alias_type}
 use Rattle.messages.specs.HandedRr.{HandedRr, among}
 use Rattle.messages.proofs.Lists.{all_fail, all_more, all_sorted, eqb-back}
-use Rattle.answer_shared.specs.Accepting.{record_cmp, rr_of, sorted_records}
-use Rattle.answer_shared.specs.Served.{Group, Served, ahead, ahead_open, answer_groups, proofs_of, served_of, soa, spoken, unsigned_ns}
-use Rattle.server_laws.specs.Unheld.{AbsentAnsweredAlike, IsNowhere, UnheldAnsweredAlike, UnheldAnsweredAlikeWithAliases, holds_none}
+use Rattle.answer_terms.specs.Accepting.{record_cmp, rr_of, sorted_records}
+use Rattle.answer_terms.specs.Served.{ServedRrset, Served, ahead, ahead_open, answer_groups, proofs_of, served_of, soa, spoken, unsigned_ns}
+use Rattle.server_laws.specs.Synthesized.{AbsentAnsweredAlike, IsNowhere, SynthesizedAnsweredAlike, SynthesizedAnsweredAlikeWithAliases, holds_none}
 use Rattle.server_laws.proofs.Lists.{nothing}
 
 -- verdicts that tell no data
@@ -77,9 +77,9 @@ module _ (s : Served) (q : Name) where
       ]
 
   module _ (t u : ℕ) (other : eqb t 43 ≡ false) (another : eqb u 43 ≡ false) (none : IsNowhere z t) (no_more : IsNowhere z u) where
-    left : (elim (cut z (low q)) as (λ _. List Group) [ None ↦ soa s ∷ [] | Some c ↦ cond (labels_eq c (low q) && eqb t 43) (soa s ∷ []) (unsigned_ns s c) ])
-        ≡ (elim (cut z (low q)) as (λ _. List Group) [ None ↦ soa s ∷ [] | Some c ↦ cond (labels_eq c (low q) && eqb u 43) (soa s ∷ []) (unsigned_ns s c) ])
-    left = ap (λ b. elim (cut z (low q)) as (λ _. List Group) [ None ↦ soa s ∷ [] | Some c ↦ cond (labels_eq c (low q) && b) (soa s ∷ []) (unsigned_ns s c) ]) (other ∙ sym another)
+    left : (elim (cut z (low q)) as (λ _. List ServedRrset) [ None ↦ soa s ∷ [] | Some c ↦ cond (labels_eq c (low q) && eqb t 43) (soa s ∷ []) (unsigned_ns s c) ])
+        ≡ (elim (cut z (low q)) as (λ _. List ServedRrset) [ None ↦ soa s ∷ [] | Some c ↦ cond (labels_eq c (low q) && eqb u 43) (soa s ∷ []) (unsigned_ns s c) ])
+    left = ap (λ b. elim (cut z (low q)) as (λ _. List ServedRrset) [ None ↦ soa s ∷ [] | Some c ↦ cond (labels_eq c (low q) && b) (soa s ∷ []) (unsigned_ns s c) ]) (other ∙ sym another)
 
     open_alike : (v : Verdict) → NoData v → ahead_open s q t v ≡ ahead_open s q u v
     open_alike (Records ds) h = absurd h
@@ -101,7 +101,7 @@ module _ (s : Served) (q : Name) where
     ahead_alike Open h = ap (ahead_open s q t) (said t other none false) ∙ open_alike (denied false) (no_data false) ∙ sym (ap (ahead_open s q u) (said u another no_more false))
     ahead_alike Unsigned h = refl
 
-    abbrev proofs : List Group
+    abbrev proofs : List ServedRrset
     proofs = proofs_of s (spoken s (low q) (denied false) (denied (optout_of s.mode)))
 
     groups_of : (k : ℕ) → eqb k 43 ≡ false → IsNowhere z k → answer_groups s q k ≡ ahead s q k (denied (optout_of s.mode)) ++ proofs
@@ -145,17 +145,17 @@ not_held false e = refl
 
 module _ (apex : Name) (mode : Mode) (rs : List HandedRr) (hash : Name → List ℕ) (q : Name) (t : ℕ) where
   -- a type of which the records have none, beside the reserved one
-  unheld_by : eqb t 43 ≡ false → AllByRecursion (λ (r : HandedRr). eqb r.rtype t ≡ false) rs → list_any (λ (r : HandedRr). eqb r.rtype 65535) rs ≡ false
+  synthesized_by : eqb t 43 ≡ false → AllByRecursion (λ (r : HandedRr). eqb r.rtype t ≡ false) rs → list_any (λ (r : HandedRr). eqb r.rtype 65535) rs ≡ false
       → answer_groups (served_of apex mode hash (sorted_records rs)) q t ≡ answer_groups (served_of apex mode hash (sorted_records rs)) q 65535
-  unheld_by other none reserved =
+  synthesized_by other none reserved =
       let no_more = all_sorted (λ (r : HandedRr). eqb r.rtype 65535 ≡ false) record_cmp rs (all_fail (λ (r : HandedRr). eqb r.rtype 65535) rs reserved) in
       absent_alike (served_of apex mode hash (sorted_records rs)) q t 65535 other refl
       (λ o. nowhere o t (sorted_records rs) (all_sorted (λ (r : HandedRr). eqb r.rtype t ≡ false) record_cmp rs none)) (λ o. nowhere o 65535 (sorted_records rs) no_more)
 
   -- of a test that none of them passes
-  unheld_type : (p : ℕ → Bool) → p 43 ≡ false → p t ≡ true → list_any (λ (r : HandedRr). p r.rtype) rs ≡ false → list_any (λ (r : HandedRr). eqb r.rtype 65535) rs ≡ false
+  synthesized_type : (p : ℕ → Bool) → p 43 ≡ false → p t ≡ true → list_any (λ (r : HandedRr). p r.rtype) rs ≡ false → list_any (λ (r : HandedRr). eqb r.rtype 65535) rs ≡ false
       → answer_groups (served_of apex mode hash (sorted_records rs)) q t ≡ answer_groups (served_of apex mode hash (sorted_records rs)) q 65535
-  unheld_type p ds is none reserved = unheld_by (eqb-back t 43 ∙ apart p t 43 is ds) (none_passes p t rs is none) reserved
+  synthesized_type p ds is none reserved = synthesized_by (eqb-back t 43 ∙ apart p t 43 is ds) (none_passes p t rs is none) reserved
 
 -- types whose records signing adds, and those of aliases
 abbrev signing : ℕ → Bool
@@ -167,24 +167,24 @@ of_alias = among (5 ∷ 39 ∷ [])
 is_signing : (t : ℕ) → among (48 ∷ 50 ∷ 51 ∷ []) t ≡ true → signing t ≡ true
 is_signing t e = or_right (eqb t 46) _ (or_right (eqb t 47) _ e)
 
-pub unheld_alike : UnheldAnsweredAlike
-unheld_alike hasher apex mode limit rs hash q t accepted reserved is =
+pub synthesized_alike : SynthesizedAnsweredAlike
+synthesized_alike hasher apex mode limit rs hash q t accepted reserved is =
     let by_alias : of_alias t ≡ true → answer_groups (served_of apex mode hash (sorted_records rs)) q t ≡ answer_groups (served_of apex mode hash (sorted_records rs)) q 65535 =
-    λ alias. unheld_type apex mode rs hash q t of_alias refl alias accepted.faultless.no_alias reserved in
+    λ alias. synthesized_type apex mode rs hash q t of_alias refl alias accepted.faultless.no_alias reserved in
     ⊎_elim
     (λ five. by_alias (or_left (eqb t 5) _ five))
     (λ later. ⊎_elim
     (λ dname. by_alias (or_right (eqb t 5) _ (or_left (eqb t 39) _ dname)))
-    (λ added. unheld_type apex mode rs hash q t signing refl (is_signing t added) accepted.faultless.unsigned reserved)
+    (λ added. synthesized_type apex mode rs hash q t signing refl (is_signing t added) accepted.faultless.unsigned reserved)
     (or_cases (eqb t 39) _ later))
     (or_cases (eqb t 5) _ is)
 
-pub unheld_alike_with_aliases : UnheldAnsweredAlikeWithAliases
-unheld_alike_with_aliases hasher apex mode limit rs hash q t accepted reserved is =
+pub synthesized_alike_with_aliases : SynthesizedAnsweredAlikeWithAliases
+synthesized_alike_with_aliases hasher apex mode limit rs hash q t accepted reserved is =
     let kept = not_held (list_any (λ (r : HandedRr). eqb r.rtype 65535) rs) reserved in
     ⊎_elim
-    (λ added. unheld_type apex mode rs hash q t signing refl (is_signing t added) accepted.faultless.plain.unsigned kept)
+    (λ added. synthesized_type apex mode rs hash q t signing refl (is_signing t added) accepted.faultless.plain.unsigned kept)
     (λ alias.
     let both = and_parts (is_alias_type t) (holds_none rs t) alias in
-    unheld_by apex mode rs hash q t (eqb-back t 43 ∙ apart is_alias_type t 43 both.0 refl) (all_fail (λ (r : HandedRr). eqb r.rtype t) rs (not_held _ both.1)) kept)
+    synthesized_by apex mode rs hash q t (eqb-back t 43 ∙ apart is_alias_type t 43 both.0 refl) (all_fail (λ (r : HandedRr). eqb r.rtype t) rs (not_held _ both.1)) kept)
     (or_cases (among (48 ∷ 50 ∷ 51 ∷ []) t) _ is)

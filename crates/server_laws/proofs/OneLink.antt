@@ -17,8 +17,8 @@ use Rattle.denial_laws.specs.Truth.{IsServable}
 use Rattle.denial_laws.proofs.NsecEncloser.{owner_exists}
 use Rattle.denial_laws.proofs.ZoneCuts.{kept_inside}
 use Rattle.messages.proofs.ZoneNames.{same_labels}
-use Rattle.answer_shared.specs.Served.{Group, Served, ahead, answer_groups, chain_names, chain_record, proofs_of, rrset, soa, speaks_for, spoken, under}
-use Rattle.answer_shared.proofs.ZoneNaming.{all_filter}
+use Rattle.answer_terms.specs.Served.{ServedRrset, Served, ahead, answer_groups, chain_names, chain_record, proofs_of, rrset, soa, speaks_for, spoken, under}
+use Rattle.answer_terms.proofs.ZoneNaming.{all_filter}
 use Rattle.server_laws.proofs.Alone.{IsOther}
 use Rattle.server_laws.proofs.Lists.{all_joined, all_mapped, filters_alike, none_kept, nothing}
 use Rattle.server_laws.proofs.ZoneGroups.{ahead_other}
@@ -30,17 +30,17 @@ none_more false = refl
 -- ---- NSEC records of a name
 
 -- no NSEC record of the name
-abbrev pub IsNoLink : Name → Group → Type 0
+abbrev pub IsNoLink : Name → ServedRrset → Type 0
 IsNoLink n g = (eqb g.rtype 47 && same g.owner n) ≡ false
 
-others_no_link : (n : Name) (gs : List Group) → AllByRecursion (IsOther 47) gs → AllByRecursion (IsNoLink n) gs
+others_no_link : (n : Name) (gs : List ServedRrset) → AllByRecursion (IsOther 47) gs → AllByRecursion (IsNoLink n) gs
 others_no_link n [] h = tt
 others_no_link n (g ∷ gs) h = (ap (λ b. b && same g.owner n) h.0, others_no_link n gs h.1)
 
 -- the answer that has the NSEC record of the name
 pub record IsLinked (s : Served) (n : Name) (t : ℕ) : Type 0 where
   pub told_is : verdict s.zone false n t ≡ NoType
-  pub link : Group
+  pub link : ServedRrset
   pub groups_are : answer_groups s n t ≡ soa s ∷ link ∷ []
   pub link_is : link.rtype ≡ 47
   pub owner_is : same link.owner n ≡ true
@@ -117,7 +117,7 @@ module _ (s : Served) (servable : IsServable s.zone) (spelled : (o : Name) → l
       both_told : shown_verdict ≡ told
       both_told = ap (λ (mode : Mode). verdict s.zone (optout_of mode) n t) e
 
-      abbrev groups_for : Verdict → Verdict → List Group
+      abbrev groups_for : Verdict → Verdict → List ServedRrset
       groups_for first second = ahead s n t first ++ proofs_of s (spoken s (low n) second first)
 
       -- where it says this without opt-out
@@ -137,12 +137,12 @@ module _ (s : Served) (servable : IsServable s.zone) (spelled : (o : Name) → l
       missing : exists s.zone (low n) ≡ true → told ≡ NoType → Linking s n t
       missing there is =
           let one = one_speaks (low n) (low-low n) (kept_inside s.zone false (low n) there) e in
-          let link : Group = chain_record s one.0 in
+          let link : ServedRrset = chain_record s one.0 in
           let two : answer_groups s n t ≡ soa s ∷ link ∷ [] = groups_by NoType is ∙ ap (λ gs. soa s ∷ gs) one.1 in
           let kind : link.rtype ≡ 47 = link_type one.0 e in
           go link two kind (same link.owner n) refl
         where
-          go : (link : Group) → answer_groups s n t ≡ soa s ∷ link ∷ [] → link.rtype ≡ 47 → (b : Bool) → same link.owner n ≡ b → Linking s n t
+          go : (link : ServedRrset) → answer_groups s n t ≡ soa s ∷ link ∷ [] → link.rtype ≡ 47 → (b : Bool) → same link.owner n ≡ b → Linking s n t
           go link two kind true own = Linked (record { told_is = is; link = link; groups_are = two; link_is = kind; owner_is = own })
           go link two kind false own = Unlinked (subst (AllByRecursion (IsNoLink n)) (sym two) (refl, ((λ i. eqb (kind i) 47 && own i), tt)))
 

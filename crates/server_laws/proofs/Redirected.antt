@@ -27,10 +27,10 @@ use Rattle.messages.proofs.NameLaws.{wire_len-cons}
 use Rattle.answer_publisher_keys.specs.Bindings.{ZoneKeys, keys_by_tag}
 use Rattle.answer_scheme.specs.Answers.{Answers}
 use Rattle.answer_scheme.specs.Moments.{second_of}
-use Rattle.answer_shared.specs.Accepting.{rr_of, sorted_records}
-use Rattle.answer_shared.specs.GroupView.{GroupView, view_of}
-use Rattle.answer_shared.specs.Served.{Group, ahead, answer_groups, chain_names, chain_record, owned_by, proofs_of, rrset, spoken, under, written_of_handed}
-use Rattle.answer_zone.specs.Finding.{finds, redirecting, redirects}
+use Rattle.answer_terms.specs.Accepting.{rr_of, sorted_records}
+use Rattle.answer_terms.specs.GroupView.{GroupView, view_of}
+use Rattle.answer_terms.specs.Served.{ServedRrset, ahead, answer_groups, chain_names, chain_record, written_under, proofs_of, rrset, spoken, under, written_of_handed}
+use Rattle.answer_zone.specs.Finding.{finds, redirecting, zone_redirects}
 use Rattle.answer_zone.specs.ZoneAnswers.{answered, flags_for}
 use Rattle.answer_zone_records.specs.AliasFaults.{HasTarget}
 use Rattle.answer_zone_records.proofs.Targets.{spelled}
@@ -110,7 +110,7 @@ tail_name l n h = record { labels = h.labels.1; short = omega (arith, h.short, w
 
 redirecting_name : (z : Zone) (n d : Name) → IsName n → redirecting z n ≡ Some d → IsName d
 redirecting_name z [] d h e = absurd (let none : None ≡ Some d = e in cc)
-redirecting_name z (l ∷ n) d h e = go (redirects z (low n)) e (λ later. redirecting_name z n d (tail_name l n h) later)
+redirecting_name z (l ∷ n) d h e = go (zone_redirects z (low n)) e (λ later. redirecting_name z n d (tail_name l n h) later)
   where
     go : (b : Bool) → cond b (Some n) (redirecting z n) ≡ Some d → (redirecting z n ≡ Some d → IsName d) → IsName d
     go true e more = subst IsName (let same : Some n ≡ Some d = e in cc) (tail_name l n h)
@@ -141,7 +141,7 @@ module _ (w : World) (zone : IsZone w) (n d : Name) (name : IsName n) (found : r
   told_is : (optout : Bool) → verdict z optout d 39 ≡ Records (data_at z (low d) 39)
   told_is optout = verdict_signed z optout d 39 is_signed_there
 
-  abbrev dnames : Group
+  abbrev dnames : ServedRrset
   dnames = under d (rrset (served_in w) (low d) 39)
 
   groups_are : answer_groups (served_in w) d 39 ≡ dnames ∷ []
@@ -161,7 +161,7 @@ module _ (w : World) (zone : IsZone w) (n d : Name) (name : IsName n) (found : r
   kept = first_kept is_there w.zone.records has_dname
 
   abbrev written_first : Written
-  written_first = owned_by d (written_of_handed kept.item)
+  written_first = written_under d (written_of_handed kept.item)
 
   type_there : kept.item.rtype ≡ 39
   type_there = eqb-true kept.item.rtype 39 (and_parts (labels_eq (low kept.item.owner) (low d)) (eqb kept.item.rtype 39) kept.passes).1
@@ -177,8 +177,8 @@ module _ (w : World) (zone : IsZone w) (n d : Name) (name : IsName n) (found : r
   dname_first : (ws : List Written) → IsDname d (dnames.written ++ ws)
   dname_first ws = record {
     first = written_first;
-    rest = map (owned_by d) (map written_of_handed kept.rest) ++ ws;
-    all_are = ap (λ rs. map (owned_by d) (map written_of_handed rs) ++ ws) kept.kept_is;
+    rest = map (written_under d) (map written_of_handed kept.rest) ++ ws;
+    all_are = ap (λ rs. map (written_under d) (map written_of_handed rs) ++ ws) kept.kept_is;
     type_is = type_there;
     owner_is = refl;
     target = target_there.name;
@@ -218,7 +218,7 @@ module _ (w : World) (zone : IsZone w) (keys : ZoneKeys) (at : ℕ) (q : Queried
   is_alone : IsAlone flags (asking d q.asked) first second m
   is_alone = answer_alone w zone keys at (asking d q.asked) asking_fits refl m is
 
-  abbrev group : Group
+  abbrev group : ServedRrset
   group = dnames w zone q.asked.name d question.name found
 
   one_group : answer_groups (served_in w) d 39 ≡ group ∷ []

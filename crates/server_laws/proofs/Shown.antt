@@ -11,7 +11,7 @@ use Rattle.messages.specs.Written.{Written, message_octets, record_octets}
 use Rattle.messages.specs.WrittenLaws.{AreSections, IsQuestion, IsRecord, first_place, spelled_at, spelled_from}
 use Rattle.messages.proofs.MessageWhole.{message_here}
 use Rattle.messages.proofs.MessageWritten.{StandsAt, end_of}
-use Rattle.answer_shared.specs.Alike.{IsLike}
+use Rattle.answer_terms.specs.Alike.{IsLike}
 use Rattle.server_laws.specs.SeenAlike.{SeenAlike, is_covering, is_used, is_used_type}
 use Rattle.server_answers.proofs.WritesGroups.{Holds}
 use Rattle.server_answers.proofs.WritesRecords.{rest_stands}

@@ -8,7 +8,7 @@ use Rattle.definitions.specs.Signing.{Fields}
 use Rattle.definitions.specs.Zone.{sorted_data}
 use Rattle.denial_laws.specs.NsecRules.{first_some}
 use Rattle.messages.specs.Message.{Spelled, canonical_data, rrsig_at}
-use Rattle.answer_shared.specs.Alike.{IsLike}
+use Rattle.answer_terms.specs.Alike.{IsLike}
 use Rattle.answer_judge_keys.specs.Trusted.{signs}
 use Rattle.answer_judge_facts.specs.Verified.{Trusting, datum_of, is_verified, rrset_in, verified_by, verified_rrset, verified_with, verifies_with}
 use Rattle.server_laws.specs.SeenAlike.{is_covering, is_used, is_used_type}

@@ -10,12 +10,12 @@ use Rattle.messages.specs.Handed.{AreHanded, IsHanded}
 use Rattle.messages.specs.HandedRr.{HandedRr, is_meta}
 use Rattle.messages.proofs.Lists.{Has, all_fail, all_sorted}
 use Rattle.messages.proofs.ZoneNames.{labels_eq-same}
-use Rattle.answer_shared.specs.Accepting.{record_cmp, sorted_records, zone_of, zone_with}
-use Rattle.answer_shared.specs.Chainable.{HasChain}
-use Rattle.answer_shared.specs.Hashing.{Hasher, hash_in}
-use Rattle.answer_shared.specs.Served.{Group, Served, ahead, ahead_open, answer_groups, chain_names, chain_record, if_any, owner_among, proofs_of, rrset, served_of, served_owner, soa, speaks_for, spelled_among, spelled_as, spoken, under, unsigned_ns}
-use Rattle.answer_shared.proofs.ZoneCutNames.{cut_name}
-use Rattle.answer_shared.proofs.ZoneNaming.{all_filter, chain_named, either, first_name, lower_name, owner_name}
+use Rattle.answer_terms.specs.Accepting.{record_cmp, sorted_records, zone_of, zone_with}
+use Rattle.answer_terms.specs.Chainable.{HasChain}
+use Rattle.answer_terms.specs.Hashing.{Hasher, hash_in}
+use Rattle.answer_terms.specs.Served.{ServedRrset, Served, ahead, ahead_open, answer_groups, chain_names, chain_record, if_any, owner_among, proofs_of, rrset, served_of, served_owner, soa, speaks_for, spelled_among, spelled_as, spoken, under, unsigned_ns}
+use Rattle.answer_terms.proofs.ZoneCutNames.{cut_name}
+use Rattle.answer_terms.proofs.ZoneNaming.{all_filter, chain_named, either, first_name, lower_name, owner_name}
 use Rattle.answer_zone_records.specs.AliasFaults.{IsAcceptedWithAliases}
 use Rattle.answer_zone_records.proofs.ZoneInOrder.{records_in_order}
 use Rattle.answer_judge.proofs.GivenLists.{contained_has}
@@ -38,7 +38,7 @@ pub record StandsBeside (u : ℕ) : Type 0 where
   pub ds : eqb 43 u ≡ false
 
 module _ (s : Served) (q : Name) (t u : ℕ) (beside : StandsBeside u) where
-  abbrev Other : List Group → Type 0
+  abbrev Other : List ServedRrset → Type 0
   Other gs = AllByRecursion (IsOther u) gs
 
   at_cut : (o : Option Name) → Other (elim o [ None ↦ [] | Some c ↦ unsigned_ns s c ++ if_any s c 43 ])
@@ -124,7 +124,7 @@ module _ (apex : Name) (mode : Mode) (hash : Name → List ℕ) (rs : List Hande
   abbrev s : Served
   s = served_of apex mode hash rs
 
-  abbrev AllNamed : List Group → Type 0
+  abbrev AllNamed : List ServedRrset → Type 0
   AllNamed gs = AllByRecursion Named gs
 
   own_named : (o : Name) (u : ℕ) → IsName o → IsName (served_owner rs o u)

@@ -5,7 +5,7 @@ use Rattle.definitions.specs.Zone.{Zone}
 use Rattle.definitions.specs.ZoneChain.{Mode}
 use Rattle.denial_laws.specs.Aliases.{is_aliased}
 use Rattle.messages.specs.Message.{Asked}
-use Rattle.answer_shared.specs.Asking.{is_allowed}
+use Rattle.answer_terms.specs.Asking.{is_allowed}
 use Rattle.server_answers.specs.Aliases.{alias_of, is_answered}
 use Rattle.server_answers.specs.World.{World, served_in}
 use Rattle.server_laws.specs.Heard.{IsZone}

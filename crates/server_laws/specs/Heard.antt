@@ -12,7 +12,7 @@ use Rattle.messages.specs.declared.error.MessageError.{MessageError}
 use Rattle.messages.specs.Message.{Asked, Message, message, pair}
 use Rattle.messages.specs.WrittenLaws.{IsQuestion}
 use Rattle.answer_scheme.specs.Answers.{Answers}
-use Rattle.answer_shared.specs.Accepting.{sorted_records, zone_of}
+use Rattle.answer_terms.specs.Accepting.{sorted_records, zone_of}
 use Rattle.answer_zone_records.specs.AliasFaults.{IsAcceptedWithAliases}
 use Rattle.answer_judge.specs.Judging.{Answer, JudgeInput, Says}
 use Rattle.answer_judge.specs.Judged.{AnswersAs, judged}
@@ -27,7 +27,7 @@ use Rattle.server_answers.specs.Glued.{AnswersGlued}
 use Rattle.server_answers.specs.Parameters.{IsParameters, is_for_parameters}
 use Rattle.server_answers.specs.Responding.{IsAnswered, IsMessage, Serving}
 use Rattle.server_answers.specs.Subset.{IsSubset, wants_signatures}
-use Rattle.server_answers.specs.Unheld.{IsDenied}
+use Rattle.server_answers.specs.Synthesized.{IsDenied}
 
 -- the zone of a world is one of records that were handed in and accepted, aliases among them or not
 pub record IsZone (w : World) : Type 0 where

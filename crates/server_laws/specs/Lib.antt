@@ -1,5 +1,5 @@
 pub mod SeenAlike
 pub mod Heard
-pub mod Unheld
+pub mod Synthesized
 pub mod Aliased
 pub mod Redirected

@@ -3,7 +3,7 @@ use Rattle.std.specs.Prelude.{◌≡◌, ℕ, Bool, false, ◌&&◌, ◌||◌, �
 use Rattle.std.specs.List.{AllZip, list_any}
 use Rattle.definitions.specs.Name.{low}
 use Rattle.messages.specs.Message.{Message, Spelled, message, rrsig_at}
-use Rattle.answer_shared.specs.Alike.{IsLike}
+use Rattle.answer_terms.specs.Alike.{IsLike}
 use Rattle.answer_scheme.specs.Answers.{Answers}
 use Rattle.answer_judge.specs.Judging.{JudgeInput}
 use Rattle.answer_judge.specs.Judged.{judged}

@@ -4,8 +4,8 @@ ghost use Rattle.server_laws.specs.Heard.{AliasesJudgedAlike, ClientsAreTold, De
 ghost use Rattle.server_laws.specs.Heard.{ParametersJudgedAlike, ResponsesJudgedAlike};
 ghost use Rattle.server_laws.specs.Heard.{SubsetsJudgedAlike};
 ghost use Rattle.server_laws.specs.Redirected.{RedirectsAreMade, RedirectsJudgedAlike};
-ghost use Rattle.server_laws.specs.Unheld.{AbsentAnsweredAlike, UnheldAnsweredAlike};
-ghost use Rattle.server_laws.specs.Unheld.{UnheldAnsweredAlikeWithAliases};
+ghost use Rattle.server_laws.specs.Synthesized.{AbsentAnsweredAlike, SynthesizedAnsweredAlike};
+ghost use Rattle.server_laws.specs.Synthesized.{SynthesizedAnsweredAlikeWithAliases};
 
 /// A judge says of a whole response to a query that wants records of DNSSEC what it says of the
 /// message of the zone's publisher that the response was made of, whether the response stands in
@@ -75,8 +75,8 @@ pub fn clients_are_told_the_verdict()
 /// a delegation: so what it answers for a reserved type is its answer for DNSKEY, NSEC3 and
 /// NSEC3PARAM, of which no accepted zone holds any, and for CNAME and DNAME, where it holds none of
 /// that type: so has each zone without aliases none of these five.
-pub fn unheld_types_are_answered_alike()
+pub fn synthesized_types_are_answered_alike()
     ensures absent { AbsentAnsweredAlike }
-    ensures unheld { UnheldAnsweredAlike }
-    ensures aliases { UnheldAnsweredAlikeWithAliases }
+    ensures synthesized { SynthesizedAnsweredAlike }
+    ensures aliases { SynthesizedAnsweredAlikeWithAliases }
 {}

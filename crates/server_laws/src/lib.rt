@@ -1,4 +1,4 @@
-//! What a judge says of the responses of a name server.
+//! What a judge returns for the responses of a name server.
 #![tactic(auto)]
 
 pub mod alike;

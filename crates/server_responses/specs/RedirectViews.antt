@@ -1,5 +1,5 @@
 -- What a redirect is, as it is kept.
-use Rattle.answer_shared.specs.Redirection.{lead_seen}
+use Rattle.answer_terms.specs.Redirection.{lead_seen}
 use Rattle.messages.specs.Record.{spelled}
 use Rattle.server_responses.specs.Redirects.{Redirected, redirected}
 use Rattle.server_responses.specs.declared.redirects.Redirect.{Redirect}

@@ -1,5 +1,5 @@
-//! Responses of an authoritative name server: the message that a zone's publisher makes of a
-//! question, as the client of a query is to have it (RFC 1035, 4.1; RFC 4035, 3.1; RFC 6891).
+//! Turns a publisher's message into the response to a query (RFC 1035, 4.1; RFC 4035, 3.1; RFC
+//! 6891).
 #![tactic(auto)]
 
 pub mod composing;

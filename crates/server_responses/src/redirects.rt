@@ -11,13 +11,13 @@ ghost use Rattle.server_responses.specs.RedirectViews.{redirected_as};
 ghost use Rattle.server_responses.specs.Redirects.{is_dname_above, made_cname, redirect_flags};
 ghost use Rattle.server_responses.specs.Redirects.{redirect_of, redirect_response, redirected_by};
 ghost use Rattle.server_responses.specs.Redirects.{redirected_in};
-ghost use Rattle.answer_shared.specs.Redirection.{lead_seen};
+ghost use Rattle.answer_terms.specs.Redirection.{lead_seen};
 
 use crate::composing::{push_answers, push_authority, response_flags, truncated_response};
 use crate::records::{answer_section, pair_at};
 use crate::transport::ResponseSizes;
 use crate::write::{Counts, reply_octets};
-use answer_shared::redirection::{Lead, exchanged};
+use answer_terms::redirection::{Lead, exchanged};
 use messages::listed::read_message_into;
 use messages::names::{Name, ParsedName, ZoneName, copy_name, is_above, name_from_octets};
 use messages::view::ViewRecord;

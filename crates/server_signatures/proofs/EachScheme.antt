@@ -6,10 +6,10 @@ use Rattle.std.proofs.lemmas.Bool.{false≢true}
 use Rattle.definitions.specs.Dnskey.{Dnskey}
 use Rattle.definitions.specs.Limits.{pointer_limit}
 use Rattle.messages.specs.Message.{Asked}
-use Rattle.answer_shared.specs.Served.{Group, answer_groups, by_tag, key_group, keys_ttl}
+use Rattle.answer_terms.specs.Served.{ServedRrset, answer_groups, by_tag, key_group, keys_ttl}
 use Rattle.answer_publisher_keys.specs.Bindings.{ZoneKeys, dnskeys, keys_by_tag, published}
 use Rattle.answer_publisher_keys.specs.declared.keys.Publication.TheVariants as publication
-use Rattle.answer_shared.specs.Given.{Gives}
+use Rattle.answer_terms.specs.Given.{Gives}
 use Rattle.answer_publisher.specs.Answering.{AnswersApex, RefusesApex, apex_question}
 use Rattle.answer_publisher.specs.Inputs.{Input, RefusesInputs}
 use Rattle.answer_publisher.specs.Parameters.{AnswersParameters, RefusesParameters, SpellsParameters, parameters_in, parameters_inputs}
@@ -80,12 +80,12 @@ module _ (table : List Made) (w : World) (keys : ZoneKeys) (at : ℕ) where
   each_parameters m is spells sign verifies entries = (
     both_too (AnswersApex (sign_by table) (verify_by table) w.zone.apex (second_of at) w.life signers) (AnswersApex sign verifies w.zone.apex (second_of at) w.life signers)
         (λ of b. apex_too table sign verifies entries w.zone.apex (second_of at) w.life signers of b) (parameters_in w) (Some m) is,
-    both_too (λ (of : Group) b. Gives (verify_by table) pointer_limit w.zone.apex (second_of at) w.life signers (apex_question w.zone.apex of.rtype) (of ∷ []) b)
+    both_too (λ (of : ServedRrset) b. Gives (verify_by table) pointer_limit w.zone.apex (second_of at) w.life signers (apex_question w.zone.apex of.rtype) (of ∷ []) b)
         (λ of b. Gives verifies pointer_limit w.zone.apex (second_of at) w.life signers (apex_question w.zone.apex of.rtype) (of ∷ []) b)
         (λ of b. gives_too table sign verifies entries pointer_limit w.zone.apex (second_of at) w.life signers (apex_question w.zone.apex of.rtype) (of ∷ []) b) (parameters_in w) (Some m) spells,
   )
 
-  abbrev Signing : Group → Signed → Type 0
+  abbrev Signing : ServedRrset → Signed → Type 0
   Signing g x = IsSigned table (AnswersParametersEach table w keys at) (parameters_inputs w keys at) x
 
   pub parameters_signed : (m : Vec ℕ Global) → AnswersParameters table_world keys at (Some m.items) → SpellsParameters table_world keys at (Some m.items) → SignsParameters table w keys at (Some (signed.Message m))

@@ -8,11 +8,11 @@ use Rattle.definitions.specs.Name.{Name}
 use Rattle.definitions.specs.Dnskey.{Dnskey}
 use Rattle.messages.specs.Message.{Asked, Spelled}
 use Rattle.messages.specs.Written.{Written}
-use Rattle.answer_shared.specs.Given.{AreGroups, Gives}
-use Rattle.answer_shared.specs.GroupView.{GroupView, IsRrsigData, octets_of}
-use Rattle.answer_shared.specs.Hashing.{Hasher}
-use Rattle.answer_shared.specs.Served.{Group, Served}
-use Rattle.answer_shared.specs.Told.{AreSignatures, IsSignature, octets_for}
+use Rattle.answer_terms.specs.Given.{AreGroups, Gives}
+use Rattle.answer_terms.specs.GroupView.{GroupView, IsRrsigData, octets_of}
+use Rattle.answer_terms.specs.Hashing.{Hasher}
+use Rattle.answer_terms.specs.Served.{ServedRrset, Served}
+use Rattle.answer_terms.specs.Told.{AreSignatures, IsValidSignature, octets_for}
 use Rattle.answer_publisher.specs.Answering.{AnswersApex, AnswersZone, RefusesAnswer, RefusesApex}
 use Rattle.answer_publisher.specs.Composed.{IsAnswer, IsSection, IsTooLong, IsWritten}
 use Rattle.answer_publisher.specs.declared.fault.AnswerFault.{AnswerFault}
@@ -72,7 +72,7 @@ module _ (table : List Made) (sign : Dnskey → List ℕ → Option (List ℕ)) 
     written = answer_too apex at life keys _ asked is.answer is.authority m is.written;
   }
 
-  pub apex_too : (apex : Name) (at life : ℕ) (keys : List Dnskey) (of : Group) (m : List ℕ) → AnswersApex (sign_by table) (verify_by table) apex at life keys of m → AnswersApex sign verifies apex at life keys of m
+  pub apex_too : (apex : Name) (at life : ℕ) (keys : List Dnskey) (of : ServedRrset) (m : List ℕ) → AnswersApex (sign_by table) (verify_by table) apex at life keys of m → AnswersApex sign verifies apex at life keys of m
   apex_too apex at life keys of m is = record {
     group = is.group;
     presents = is.presents;
@@ -81,7 +81,7 @@ module _ (table : List Made) (sign : Dnskey → List ℕ → Option (List ℕ)) 
 
   -- ---- what they read as
 
-  signature_too : (k : ℕ) (m : List ℕ) (r : Spelled) (apex : Name) (at life : ℕ) (g : Group) (key : Dnskey) → IsSignature (verify_by table) k m r apex at life g key → IsSignature verifies k m r apex at life g key
+  signature_too : (k : ℕ) (m : List ℕ) (r : Spelled) (apex : Name) (at life : ℕ) (g : ServedRrset) (key : Dnskey) → IsValidSignature (verify_by table) k m r apex at life g key → IsValidSignature verifies k m r apex at life g key
   signature_too k m r apex at life g key is = record {
     signature = is.signature;
     owner_is = is.owner_is;
@@ -91,18 +91,18 @@ module _ (table : List Made) (sign : Dnskey → List ℕ → Option (List ℕ)) 
     passes = passes_by key (octets_for apex at life g key) is.signature (sign_by table key (octets_for apex at life g key)) refl is.passes;
   }
 
-  signatures_too : (k : ℕ) (m : List ℕ) (rs : List Spelled) (apex : Name) (at life : ℕ) (g : Group) (keys : List Dnskey) → AreSignatures (verify_by table) k m rs apex at life g keys → AreSignatures verifies k m rs apex at life g keys
+  signatures_too : (k : ℕ) (m : List ℕ) (rs : List Spelled) (apex : Name) (at life : ℕ) (g : ServedRrset) (keys : List Dnskey) → AreSignatures (verify_by table) k m rs apex at life g keys → AreSignatures verifies k m rs apex at life g keys
   signatures_too k m [] apex at life g [] h = h
   signatures_too k m [] apex at life g (key ∷ keys) h = h
   signatures_too k m (r ∷ rs) apex at life g [] h = h
   signatures_too k m (r ∷ rs) apex at life g (key ∷ keys) h = (signature_too k m r apex at life g key h.0, signatures_too k m rs apex at life g keys h.1)
 
-  groups_too : (k : ℕ) (m : List ℕ) (rs : List Spelled) (apex : Name) (at life : ℕ) (keys : List Dnskey) (gs : List Group) → AreGroups (verify_by table) k m rs apex at life keys gs → AreGroups verifies k m rs apex at life keys gs
+  groups_too : (k : ℕ) (m : List ℕ) (rs : List Spelled) (apex : Name) (at life : ℕ) (keys : List Dnskey) (gs : List ServedRrset) → AreGroups (verify_by table) k m rs apex at life keys gs → AreGroups verifies k m rs apex at life keys gs
   groups_too k m rs apex at life keys [] h = h
   groups_too k m rs apex at life keys (g ∷ gs) h =
       (h.0, h.1, h.2, h.3, h.4, signatures_too k m h.1 apex at life g (if g.signed then keys else []) h.5, groups_too k m h.2 apex at life keys gs h.6, h.7, h.8)
 
-  pub gives_too : (k : ℕ) (apex : Name) (at life : ℕ) (keys : List Dnskey) (asked : Asked) (groups : List Group) (m : List ℕ) → Gives (verify_by table) k apex at life keys asked groups m → Gives verifies k apex at life keys asked groups m
+  pub gives_too : (k : ℕ) (apex : Name) (at life : ℕ) (keys : List Dnskey) (asked : Asked) (groups : List ServedRrset) (m : List ℕ) → Gives (verify_by table) k apex at life keys asked groups m → Gives verifies k apex at life keys asked groups m
   gives_too k apex at life keys asked groups m is = record {
     read = is.read;
     reads = is.reads;
@@ -125,7 +125,7 @@ module _ (table : List Made) (sign : Dnskey → List ℕ → Option (List ℕ)) 
   refusal_too hash s apex at life keys asked fault.TooLong other h = (h.0, h.1, long_too apex at life keys _ h.0 h.2)
   refusal_too hash s apex at life keys asked fault.Memory other h = h
 
-  pub apex_refusal_too : (apex : Name) (at life : ℕ) (keys : List Dnskey) (of : Group) (f : AnswerFault) → f ≢ fault.SignFailed
+  pub apex_refusal_too : (apex : Name) (at life : ℕ) (keys : List Dnskey) (of : ServedRrset) (f : AnswerFault) → f ≢ fault.SignFailed
       → RefusesApex (sign_by table) (verify_by table) apex at life keys of f → RefusesApex sign verifies apex at life keys of f
   apex_refusal_too apex at life keys of fault.QuestionNotAllowed other h = (h.0, h.1, h.2)
   apex_refusal_too apex at life keys of fault.HashFailed other h = (h.0, h.1, h.2)

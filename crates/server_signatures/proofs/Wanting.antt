@@ -8,8 +8,8 @@ use Rattle.definitions.specs.Name.{Name}
 use Rattle.definitions.specs.Dnskey.{Dnskey}
 use Rattle.messages.specs.Message.{Asked}
 use Rattle.answer_scheme.specs.Moments.{second_of}
-use Rattle.answer_shared.specs.GroupView.{FailsFor, GroupView, octets_of, view_of}
-use Rattle.answer_shared.specs.Served.{Group, answer_groups, key_group, keys_ttl}
+use Rattle.answer_terms.specs.GroupView.{FailsFor, GroupView, octets_of, view_of}
+use Rattle.answer_terms.specs.Served.{ServedRrset, answer_groups, key_group, keys_ttl}
 use Rattle.answer_publisher_keys.specs.Bindings.{ZoneKeys, keys_by_tag}
 use Rattle.answer_publisher_keys.specs.declared.keys.Publication.TheVariants as publication
 use Rattle.answer_publisher.specs.Answering.{RefusesApex}
@@ -88,7 +88,7 @@ module _ (table : List Made) where
       subst (λ (gs : List GroupView). 0 < length (missing table (all_inputs w.zone.apex (second_of at) w.life signers gs))) (all_presented h.0 (answer_groups (served_in w) asked.name asked.rtype) h.1)
       (some_missing w.zone.apex (second_of at) w.life signers h.0 h.2)
 
-  apex_wants : (apex : Name) (at life : ℕ) (signers : List Dnskey) (of : Group) (f : AnswerFault) → is_sign_failed f ≡ true → RefusesApex (sign_by table) (verify_by table) apex at life signers of f
+  apex_wants : (apex : Name) (at life : ℕ) (signers : List Dnskey) (of : ServedRrset) (f : AnswerFault) → is_sign_failed f ≡ true → RefusesApex (sign_by table) (verify_by table) apex at life signers of f
       → 0 < length (missing table (all_inputs apex at life signers (view_of of ∷ [])))
   apex_wants apex at life signers of f failed refused =
       let h = subst (λ (g : AnswerFault). RefusesApex (sign_by table) (verify_by table) apex at life signers of g) (is_failed f failed) refused in
@@ -103,7 +103,7 @@ module _ (table : List Made) where
   pub parameters_want : (w : World) (keys : ZoneKeys) (at : ℕ) (f : AnswerFault) → is_sign_failed f ≡ true → RefusesParameters (signed_by w (sign_by table) (verify_by table)) keys at f → LacksParameters table w keys at
   parameters_want w keys at f failed refused = lacks (parameters_in w) refused
     where
-      lacks : (o : Option Group) → IsSomeAnd o (λ of. RefusesApex (sign_by table) (verify_by table) w.zone.apex (second_of at) w.life (keys_by_tag keys publication.SignsZone) of f)
+      lacks : (o : Option ServedRrset) → IsSomeAnd o (λ of. RefusesApex (sign_by table) (verify_by table) w.zone.apex (second_of at) w.life (keys_by_tag keys publication.SignsZone) of f)
           → IsSome o × (0 < length (missing table (option_map_or (λ g. all_inputs w.zone.apex (second_of at) w.life (keys_by_tag keys publication.SignsZone) (view_of g ∷ [])) o [])))
       lacks None h = absurd h
       lacks (Some of) h = (refl, apex_wants w.zone.apex (second_of at) w.life (keys_by_tag keys publication.SignsZone) of f failed h)

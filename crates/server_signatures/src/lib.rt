@@ -1,5 +1,5 @@
-//! Answers of a publisher whose keys sign elsewhere, as in a hardware module or a key server: the
-//! caller keeps signatures by key and octets, and is told which are missing (RFC 4034, 3.1.8.1).
+//! Answers of a publisher whose keys sign elsewhere, as in a hardware module: the caller keeps the
+//! signatures, and learns which are missing (RFC 4034, 3.1.8.1).
 #![tactic(auto)]
 
 pub mod answering;

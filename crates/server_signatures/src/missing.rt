@@ -4,7 +4,7 @@ ghost use Rattle.server_signatures.specs.Table.{missing, is_missing};
 
 use crate::made::{MadeSignature, signature_in};
 use answer_publisher::signing::SigningInput;
-use answer_shared::dnskey::ZoneKey;
+use answer_terms::dnskey::ZoneKey;
 
 /// The inputs of which a table has no signature, in their order.
 pub(crate) fn missing(table: &[MadeSignature<'_>], inputs: Vec<SigningInput>) -> Vec<SigningInput>

@@ -5,7 +5,7 @@ use Rattle.std.proofs.Math.Seq.{take-append-add, take-append_seam}
 use Rattle.std.proofs.lemmas.Bool.{cases_lt, eqb-true, false≢true, or_parts}
 use Rattle.std.proofs.lemmas.List.{length-take-le, take-append-le}
 use Rattle.messages.specs.HandedRr.{HandedRr}
-use Rattle.answer_shared.specs.Hashing.{Hasher}
+use Rattle.answer_terms.specs.Hashing.{Hasher}
 use Rattle.denialbench_session.specs.Grammar.{◌>>=◌, ZoneLine, zone_line}
 use Rattle.denialbench_session.specs.Lines.{is_passed_over}
 use Rattle.denialbench_session.specs.Sessions.{fields_of}

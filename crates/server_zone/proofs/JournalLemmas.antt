@@ -4,7 +4,7 @@ use Rattle.std.specs.Prelude.{Option, Some, None}
 use Rattle.messages.specs.HandedRr.{HandedRr}
 use Rattle.denialbench_session.specs.Grammar.{◌>>=◌, ZoneLine}
 use Rattle.server_zone.specs.Lines.{has_feed, unfinished, whole_lines}
-use Rattle.answer_shared.specs.Hashing.{Hasher}
+use Rattle.answer_terms.specs.Hashing.{Hasher}
 use Rattle.answer_zone_records.specs.declared.fault.ZoneFault.{ZoneFault}
 use Rattle.denialbench_session.specs.declared.line_error.LineFault.{LineFault}
 use Rattle.server_zone.specs.declared.refusals.Refusal.{Refusal}

@@ -9,9 +9,9 @@ use Rattle.answer_zone_records.specs.AliasFaults.{IsOrderlyList, first_plain_fau
 use Rattle.answer_zone_records.specs.declared.fault.ZoneFault.TheVariants as fault
 use Rattle.answer_publisher_keys.specs.Bindings.{no_keys}
 use Rattle.answer_publisher.specs.World.{zone_by}
-use Rattle.answer_shared.specs.Accepting.{sorted_records}
-use Rattle.answer_shared.specs.Hashing.{Hasher}
-use Rattle.answer_shared.specs.ZoneView.{AcceptedZone}
+use Rattle.answer_terms.specs.Accepting.{sorted_records}
+use Rattle.answer_terms.specs.Hashing.{Hasher}
+use Rattle.answer_terms.specs.ZoneView.{AcceptedZone}
 use Rattle.answer_publisher.specs.declared.publishing.Publisher.{Publisher}
 use Rattle.denialbench_session.specs.Grammar.{ZoneLine}
 use Rattle.server_glue.specs.Glue.{addresses_of}

@@ -1,7 +1,7 @@
 -- What applying a line gives, and why it is refused.
 use Rattle.std.proofs.Common.{◌≡◌, ℕ, false, cond, List, sym, ap, subst, ◌∙◌}
 use Rattle.std.specs.Prelude.{Option, Some, None, Err}
-use Rattle.answer_shared.specs.Hashing.{Hasher}
+use Rattle.answer_terms.specs.Hashing.{Hasher}
 use Rattle.denialbench_session.specs.Grammar.{◌>>=◌}
 use Rattle.denialbench_session.specs.Readings.{Reads}
 use Rattle.denialbench_session.specs.declared.line_error.LineFault.{LineFault}

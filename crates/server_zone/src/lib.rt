@@ -1,5 +1,5 @@
-//! A signed zone whose keeper's lines are a journal: it is opened from text, lines are applied to
-//! it, and it says what is due next. A journal is a session, so its state is that of the session.
+//! A signed zone with a journal: it is opened from text, accepts lines, and reports what is due
+//! next. A journal is a session, so its state is that of the session.
 #![tactic(auto)]
 
 pub mod laws;

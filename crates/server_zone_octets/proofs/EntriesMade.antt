@@ -3,7 +3,7 @@ use Rattle.std.proofs.Common.{◌≡◌, ℕ, ◌+◌, ◌<◌, List, ◌∷◌,
 use Rattle.std.specs.Int.{w16, to_be_bytes}
 use Rattle.names_rdata.specs.Composing.{with_length}
 use Rattle.definitions.specs.Dnskey.{Dnskey, dnskey_data, dnskey_of_data}
-use Rattle.answer_shared.proofs.KeyData.{key_read_back}
+use Rattle.answer_terms.proofs.KeyData.{key_read_back}
 use Rattle.server_answers.specs.Inputs.{input}
 use Rattle.answer_judge_octets.specs.EntryLaws.{key_back, once_long, once_short}
 use Rattle.answer_judge_octets.specs.Written.{IsLong, IsShort, Splits, with_long_length}

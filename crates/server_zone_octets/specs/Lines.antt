@@ -1,6 +1,6 @@
 -- What opening a zone and applying a line tell.
 use Rattle.std.specs.Prelude.{◌≡◌, ◌⊎◌, ℕ, ◌≤◌, ◌++◌, Bool, true, false, List, [], length, take, Some}
-use Rattle.answer_shared.specs.Hashing.{Hasher}
+use Rattle.answer_terms.specs.Hashing.{Hasher}
 use Rattle.answer_zone_records.specs.declared.fault.ZoneFault.{ZoneFault}
 use Rattle.answer_zone_records.specs.declared.fault.ZoneFault.TheVariants as zone
 use Rattle.answer_publisher_keys.specs.declared.fault.KeyFault.{KeyFault}

@@ -61,14 +61,14 @@ pub record IsResponded (w : World) (keys : ZoneKeys) (addresses : List HandedRr)
 
 -- what is wrong with a request, where nothing was noted; or memory ran out, where its moment may
 -- have been
-abbrev pub IsUnanswered : OctetRequest → Option ℕ → Option ℕ → ZoneCode → Type 0
-IsUnanswered r latest latest' c.BadCall = (transport_of r ≡ None) × (latest' ≡ latest)
-IsUnanswered r latest latest' c.BadSignatures = ((table : List Made) → IsList FitsMade made_octets r.made.now table → ⊥) × (latest' ≡ latest)
-IsUnanswered r latest latest' c.OutOfMemory = IsOrWasNoted (moment_of r) latest latest'
-IsUnanswered r latest latest' _ = ⊥
+abbrev pub HasNoResponse : OctetRequest → Option ℕ → Option ℕ → ZoneCode → Type 0
+HasNoResponse r latest latest' c.BadCall = (transport_of r ≡ None) × (latest' ≡ latest)
+HasNoResponse r latest latest' c.BadSignatures = ((table : List Made) → IsList FitsMade made_octets r.made.now table → ⊥) × (latest' ≡ latest)
+HasNoResponse r latest latest' c.OutOfMemory = IsOrWasNoted (moment_of r) latest latest'
+HasNoResponse r latest latest' _ = ⊥
 
 abbrev pub TellsResponse : World → ZoneKeys → List HandedRr → OctetRequest → Option ℕ → Option ℕ → CodeAndOctets → Type 0
-TellsResponse w keys addresses r latest latest' said = IsResponded w keys addresses r latest latest' said ⊎ ((said ≡ only said.code) × IsUnanswered r latest latest' said.code)
+TellsResponse w keys addresses r latest latest' said = IsResponded w keys addresses r latest latest' said ⊎ ((said ≡ only said.code) × HasNoResponse r latest latest' said.code)
 
 -- what is told, in front of what was there if there is room
 pub record IsAnswerTold (w : World) (keys : ZoneKeys) (addresses : List HandedRr) (r : OctetRequest) (latest latest' : Option ℕ) (report : ZoneReport) (before after : List ℕ) (code : ZoneCode) : Type 0 where

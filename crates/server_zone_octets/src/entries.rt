@@ -11,7 +11,7 @@ ghost use Rattle.server_zone_octets.specs.declared.code.ZoneCode.TheVariants as 
 use crate::code::ZoneCode;
 use crate::parts::{put_long, put_short};
 use answer_judge_octets::parts::{split_long, split_short};
-use answer_shared::dnskey::{Dnskey, ZoneKey, key_of_data};
+use answer_terms::dnskey::{Dnskey, ZoneKey, key_of_data};
 use server_answers::{MadeSignature, SigningInput};
 use std::alloc::{AllocError, Global};
 

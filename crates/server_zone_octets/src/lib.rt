@@ -1,6 +1,6 @@
-//! A zone that is served, octets to octets, for callers in other languages: it is opened from its
-//! journal, which begins with the lines of a master file, lines are applied to it, it says what is
-//! due, and it answers requests by signatures that its caller makes.
+//! A served zone from bytes to bytes, for callers in other languages: it is opened from its
+//! journal, accepts lines, reports what is due, and answers requests with signatures that its
+//! caller makes.
 #![tactic(auto)]
 
 mod code;

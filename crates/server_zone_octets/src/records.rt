@@ -12,7 +12,7 @@ use crate::parts::put_short;
 use crate::report::ZoneReport;
 use crate::told::{CodeAndOctets, hand_out};
 use answer_scheme::Scheme;
-use answer_shared::dnskey::{Dnskey, ZoneKey};
+use answer_terms::dnskey::{Dnskey, ZoneKey};
 use denial_data::Ds;
 use denial_nsec3_hash::hasher::Nsec3Hasher;
 use names_rdata::data::ComposeRecordData;

@@ -74,33 +74,33 @@ pub fn respond_octets<S: Scheme, H: Nsec3Hasher>(
 fn reply_to<S: Scheme, H: Nsec3Hasher>(
     alloc: Global,
     zone: &mut Zone<'_, S, H>,
-    handed: &OctetRequest,
+    octet_request: &OctetRequest,
 ) -> CodeAndOctets
     ensures told { let p = zone.old.publisher in
         let w = world_of S.signature_of S.verifies S.digest_of H.hash_of p in
         let addresses = zone.old.addresses in let latest = zone.new.publisher.latest in
-        let tells = TellsResponse w p.keys addresses handed.now p.latest latest in
+        let tells = TellsResponse w p.keys addresses octet_request.now p.latest latest in
         tells (told_seen result) }
     ensures rest { let p = record zone.old.publisher { latest = zone.new.publisher.latest } in
         zone.new ≡ record zone.old { publisher = p } }
 {
-    let transport = match transport_of(handed) {
+    let transport = match transport_of(octet_request) {
         Some(transport) => transport,
         None => return CodeAndOctets::only(alloc, ZoneCode::BadCall),
     };
-    let table = match read_made(alloc, handed.made) {
+    let table = match read_made(alloc, octet_request.made) {
         Ok(table) => table,
         Err(code) => return CodeAndOctets::only(alloc, code),
     };
     let request = Request {
-        octets: handed.request,
+        octets: octet_request.request,
         table: &table,
-        moment: UnixTime::new(Duration::from_secs(handed.moment)),
+        moment: UnixTime::new(Duration::from_secs(octet_request.moment)),
         transport,
     };
     let terms = ServerTerms {
-        backdate: handed.backdate,
-        udp_size: handed.udp_size,
+        backdate: octet_request.backdate,
+        udp_size: octet_request.udp_size,
     };
     match respond(
         alloc,
@@ -135,15 +135,15 @@ fn told_response(alloc: Global, response: Response) -> CodeAndOctets
 }
 
 /// What carries the response.
-fn transport_of(handed: &OctetRequest) -> Option<Transport>
-    ensures { result ≡ transport_of handed.now }
+fn transport_of(octet_request: &OctetRequest) -> Option<Transport>
+    ensures { result ≡ transport_of octet_request.now }
 {
-    if handed.size != REQUEST_SIZE {
+    if octet_request.size != REQUEST_SIZE {
         return None;
     }
-    match handed.stream {
+    match octet_request.stream {
         0 => Some(Transport::Datagram {
-            limit: handed.limit,
+            limit: octet_request.limit,
         }),
         1 => Some(Transport::Stream),
         _ => None,

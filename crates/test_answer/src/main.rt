@@ -1,5 +1,5 @@
-//! Reads lines of zones, calls on their keys, messages and judgements, and prints what each gives,
-//! so that it is compared with what was worked out by hand.
+//! Answers lines about zones, key calls, messages and judgements, so that the output is compared
+//! with results worked out by hand.
 //!
 //! Names are texts, octets hexadecimal digits (`07*3` for `070707`, `-` for none), lists are joined
 //! by commas, moments are seconds. A signature is a copy of the octets that it is made over, and a
@@ -47,11 +47,11 @@ mod desk;
 mod faults;
 mod given;
 mod judged;
-mod lasting;
 mod scheme;
 mod sessions;
 mod settings;
 mod shown;
+mod validity;
 mod words;
 mod zone;
 
@@ -81,7 +81,7 @@ fn reply(alloc: Global, desk: &mut Desk, line: &str) -> Option<String> {
         "judge-any-moments" => judged::judged_any(alloc, desk, &words(alloc, rest)?),
         "judge-any-question" => judged::judged_other(alloc, desk, &words(alloc, rest)?),
         "cuts" => judged::cuts(alloc, desk, &words(alloc, rest)?),
-        "lasts" => lasting::lasts(alloc, desk, &words(alloc, rest)?),
+        "lasts" => validity::lasts(alloc, desk, &words(alloc, rest)?),
         "allowed" => judged::allowed(alloc, &words(alloc, rest)?),
         _ => on_keys(alloc, desk, name, &words(alloc, rest)?),
     }

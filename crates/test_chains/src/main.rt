@@ -1,5 +1,4 @@
-//! Reads zones and requests for chains from standard input, and prints them with the links of each
-//! chain.
+//! Reads zones from standard input, and prints the links of their denial chains.
 //!
 //! A zone is a line `zone APEX` and lines `rr OWNER TTL TYPE DATA`: names and data as hexadecimal
 //! digits of their wire form, no data as `-`, numbers in decimal. Behind a line that asks for

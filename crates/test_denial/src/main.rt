@@ -1,5 +1,5 @@
-//! Reads small zones from standard input and tries, for every question of a small set and every
-//! small set of records that the zone has signed, whether what these prove is what the zone says.
+//! For each small zone, question and small set of signed records, tries whether what the records
+//! prove is what the zone says.
 //!
 //! A zone is a line `zone APEX` and lines `rr OWNER TYPE`, names in text without escapes, in lower
 //! case. A line `cases nsec SIZE`, `nsec3` or `nsec3optout` is answered by how many sets of facts

@@ -1,5 +1,5 @@
-//! Reads lines of calls on a key set and prints what each answers and what the keys are then, so
-//! that whole runs of rolls are compared with what the tables of rolls say.
+//! Answers lines of calls on a key set with results and keys, so that whole rolls are compared with
+//! the tables of rolls.
 //!
 //! Words lie one blank apart, lists are joined by commas, `-` is an empty one, `old*2` in a list of
 //! keys is `old0,old1`, and moments are seconds:

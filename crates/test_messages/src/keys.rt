@@ -1,8 +1,8 @@
 //! Keys, lists in order, and what is signed.
 
 use crate::words::{list_of, name_of};
-use answer_shared::dnskey::{Dnskey, ZoneKey, key_of_data};
-use answer_shared::ranked::{put_data, put_ranked};
+use answer_terms::dnskey::{Dnskey, ZoneKey, key_of_data};
+use answer_terms::ranked::{put_data, put_ranked};
 use denial_data::{Ds, Rrsig};
 use messages::signed::{compose_fields, signed_octets};
 use names::{ParsedName, Parser};

@@ -1,5 +1,5 @@
-//! Reads lines of names, messages, keys and zones and prints what is read, written and answered, so
-//! that it is compared with rows of the standards and what was worked out by hand.
+//! Answers lines about names, messages, keys and zones, so that the output is compared with the
+//! standards and results worked out by hand.
 //!
 //! Names are texts, octets hexadecimal digits (`-` for none), numbers decimal, lists joined by
 //! commas:

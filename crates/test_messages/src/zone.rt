@@ -1,7 +1,7 @@
 //! Zones that are accepted or refused, and their answers.
 
 use crate::words::{name_of, wire_of};
-use answer_shared::mode::Mode;
+use answer_terms::mode::Mode;
 use answer_zone::zone::ZoneRecords;
 use answer_zone::zone::answers::ZoneAnswer;
 use answer_zone_records::group::RrGroup;

@@ -1,5 +1,5 @@
-//! Reads lines of DNSSEC record data and prints what this workspace makes of them, so that its
-//! output is compared with what other name servers and tools made, and with rows of the standards.
+//! Answers lines about DNSSEC record data, so that the output is compared with the standards, other
+//! name servers and tools.
 //!
 //! A line begins with what is asked for. All octets are in hexadecimal, numbers in decimal, and `-`
 //! is none of them:

@@ -1,5 +1,4 @@
-//! Reads lines of records and record data and prints what this workspace makes of them, so that its
-//! output is compared with rows of the standards.
+//! Answers lines about records and record data, so that the output is compared with the standards.
 //!
 //! A line begins with what is asked for. Octets are in hexadecimal, `-` is none of them, and
 //! numbers are decimal. What is answered to each word stands above the lines that begin with it.

@@ -19,10 +19,10 @@ use Rattle.messages.specs.Message.{Asked, Message, Spelled}
 use Rattle.messages.specs.declared.error.MessageError.{MessageError}
 use Rattle.messages.proofs.ZoneNames.{labels_eq-same}
 use Rattle.answer_scheme.specs.Answers.{Answers}
-use Rattle.answer_shared.specs.Accepting.{sorted_records, zone_of}
-use Rattle.answer_shared.specs.Hashing.{hash_in}
-use Rattle.answer_shared.specs.Served.{Group, Served, ahead, ahead_open, answer_groups, by_tag, chain_names, expanded, proofs_of, rrset, speaks_for, spoken, under}
-use Rattle.answer_shared.specs.Told.{AreRecords, AreSignatures, TellsGroups}
+use Rattle.answer_terms.specs.Accepting.{sorted_records, zone_of}
+use Rattle.answer_terms.specs.Hashing.{hash_in}
+use Rattle.answer_terms.specs.Served.{ServedRrset, Served, ahead, ahead_open, answer_groups, by_tag, chain_names, expanded, proofs_of, rrset, speaks_for, spoken, under}
+use Rattle.answer_terms.specs.Told.{AreRecords, AreSignatures, TellsGroups}
 use Rattle.answer_zone.specs.Finding.{finds}
 use Rattle.answer_zone.specs.ZoneAnswers.{answered}
 use Rattle.answer_judge.specs.Meeting.{served_from}
@@ -58,19 +58,19 @@ module _ (v : Dnskey → List ℕ → List ℕ → Bool) (k : ℕ) (m : List ℕ
   abbrev Unlike : List Spelled → Type 0
   Unlike rs = AllByRecursion (λ (r : Spelled). eqb r.rtype t ≡ false) rs
 
-  records_unlike : (rs : List Spelled) (g : Group) (ds : List (List ℕ)) → eqb g.rtype t ≡ false → AreRecords k m rs g ds → Unlike rs
+  records_unlike : (rs : List Spelled) (g : ServedRrset) (ds : List (List ℕ)) → eqb g.rtype t ≡ false → AreRecords k m rs g ds → Unlike rs
   records_unlike [] g [] e h = tt
   records_unlike [] g (d ∷ ds) e h = absurd h
   records_unlike (r ∷ rs) g [] e h = absurd h
   records_unlike (r ∷ rs) g (d ∷ ds) e h = (ap (λ u. eqb u t) h.0.type_is ∙ e, records_unlike rs g ds e h.1)
 
-  signatures_unlike : (rs : List Spelled) (g : Group) (keys : List Dnskey) → eqb 46 t ≡ false → AreSignatures v k m rs apex at life g keys → Unlike rs
+  signatures_unlike : (rs : List Spelled) (g : ServedRrset) (keys : List Dnskey) → eqb 46 t ≡ false → AreSignatures v k m rs apex at life g keys → Unlike rs
   signatures_unlike [] g [] e h = tt
   signatures_unlike [] g (key ∷ keys) e h = absurd h
   signatures_unlike (r ∷ rs) g [] e h = absurd h
   signatures_unlike (r ∷ rs) g (key ∷ keys) e h = (ap (λ u. eqb u t) h.0.type_is ∙ e, signatures_unlike rs g keys e h.1)
 
-  groups_unlike : (rs : List Spelled) (keys : List Dnskey) (gs : List Group) → eqb 46 t ≡ false → AllByRecursion (λ (g : Group). eqb g.rtype t ≡ false) gs → TellsGroups v k m rs apex at life keys gs → Unlike rs
+  groups_unlike : (rs : List Spelled) (keys : List Dnskey) (gs : List ServedRrset) → eqb 46 t ≡ false → AllByRecursion (λ (g : ServedRrset). eqb g.rtype t ≡ false) gs → TellsGroups v k m rs apex at life keys gs → Unlike rs
   groups_unlike rs keys [] e h told = subst Unlike (sym told) tt
   groups_unlike rs keys (g ∷ gs) e h (own, signatures, rest, are, records, signs, more) =
       subst Unlike (sym are)
@@ -100,7 +100,7 @@ module _ (a : Answers) (k : ℕ) (h : JudgeInput) (mode : Mode) (rs : List Hande
   -- ---- an RRset that is found stands in front
 
   pub record IsAhead (q : Name) (u : ℕ) : Type 0 where
-    pub first : Group
+    pub first : ServedRrset
     pub behind : List Name
     pub are : answer_groups s q u ≡ first ∷ proofs_of s behind
     pub rtype_is : first.rtype ≡ u
@@ -119,11 +119,11 @@ module _ (a : Answers) (k : ℕ) (h : JudgeInput) (mode : Mode) (rs : List Hande
       verdict-said z (optout_of mode) q (low q) u refl ∙ ap (λ b. cases.said z (low q) u b (cut z (low q)) (exists z (low q)) (ce z (low q))) o
       ∙ sym (verdict-said z false q (low q) u refl)
 
-  abbrev pub groups_of : Name → ℕ → Verdict → Verdict → List Group
+  abbrev pub groups_of : Name → ℕ → Verdict → Verdict → List ServedRrset
   groups_of q u told v = ahead s q u v ++ proofs_of s (proof.spoken z mode (low q) told v)
 
-  abbrev starred : Name → ℕ → List Name → Option Name → List Group
-  starred q u behind o = (elim o as (λ _. List Group) [ None ↦ [] | Some y ↦ expanded s (star_under y) q u ]) ++ proofs_of s behind
+  abbrev starred : Name → ℕ → List Name → Option Name → List ServedRrset
+  starred q u behind o = (elim o as (λ _. List ServedRrset) [ None ↦ [] | Some y ↦ expanded s (star_under y) q u ]) ++ proofs_of s behind
 
   pub front : (q : Name) (u : ℕ) → at_or_above (apex_of z) (low q) ≡ true → finds z q u ≡ true → IsAhead q u
   front q u inside f = go (view z (zone_servable a k h mode rs given) q u inside)
@@ -167,7 +167,7 @@ module _ (a : Answers) (k : ℕ) (h : JudgeInput) (mode : Mode) (rs : List Hande
   -- ---- the message's records
 
   module _ (q : Name) (u : ℕ) (plain : eqb u 46 ≡ false) (told : TellsGroups a.verifies k m read.records h.apex given.at given.life signers (answer_groups s q u)) (x : IsAhead q u) where
-    abbrev groups : List Group
+    abbrev groups : List ServedRrset
     groups = x.first ∷ proofs_of s x.behind
 
     pub tells : TellsGroups a.verifies k m read.records h.apex given.at given.life signers groups
@@ -202,7 +202,7 @@ module _ (a : Answers) (k : ℕ) (h : JudgeInput) (mode : Mode) (rs : List Hande
         go (own, signatures, rest, are, records, signs, more) = by_records own signatures rest x.first.datas are x.some records
 
     -- no other types are there, but those of signatures and chains
-    pub types : (t : ℕ) → eqb u t ≡ false → eqb 47 t ≡ false → eqb 50 t ≡ false → AllByRecursion (λ (g : Group). eqb g.rtype t ≡ false) groups
+    pub types : (t : ℕ) → eqb u t ≡ false → eqb 47 t ≡ false → eqb 50 t ≡ false → AllByRecursion (λ (g : ServedRrset). eqb g.rtype t ≡ false) groups
     types t other names hashes = (ap (λ y. eqb y t) x.rtype_is ∙ other, of_chain mode (hash_in a.hash mode) h.apex (sorted_records rs) t names hashes (filter (λ o. list_any (speaks_for s o) x.behind) (chain_names s)))
 
     pub missing : (o : Name) (t : ℕ) → eqb u t ≡ false → eqb 47 t ≡ false → eqb 50 t ≡ false → verified_rrset w k m read.records o t ≡ None

@@ -11,7 +11,7 @@ use Rattle.messages.specs.Message.{Asked}
 use Rattle.answer_judge.specs.Judged.{AnswersAs, judged}
 use Rattle.answer_judge.specs.Judging.{Answer, JudgeInput, Refuses, Says, answer_of}
 use Rattle.answer_judge.specs.declared.verdict.Judgement.{Judgement}
-use Rattle.answer_judge_facts.specs.declared.lasting.Lasting.{Lasting}
+use Rattle.answer_judge_facts.specs.declared.validity.Validity.{Validity}
 use Rattle.answer_judge.specs.declared.verdict.Refusal.{Refusal}
 use Rattle.answer_judge.specs.declared.verdict.Refusal.TheVariants as r
 use Rattle.answer_judge.specs.declared.verdict.Refused.{Refused}
@@ -91,7 +91,7 @@ module _ (passes : Tried → Bool) (table : List Checked) (agrees : AgreesWith t
   -- ---- so it tells something
 
   module _ (algorithms : List ℕ) where
-    lead_told : (x : Seen) (fl l : Option Lasting) (fn n : Counts) (said : StepSeen) (refusal : Option Refusal) → IsLeadOrOpen x → IsSeenTold algorithms table itself x fl fn said l n → IsNothing said refusal → ⊥
+    lead_told : (x : Seen) (fl l : Option Validity) (fn n : Counts) (said : StepSeen) (refusal : Option Refusal) → IsLeadOrOpen x → IsSeenTold algorithms table itself x fl fn said l n → IsNothing said refusal → ⊥
     lead_told (SeesVerdict v) fl l fn n said refusal is told nothing =
         subst (λ (y : StepSeen). IsNothing y refusal) (told.0 ∙ ap (λ (x : Verdict). verdict_told x) is) nothing
     lead_told (SeesDelegated c) fl l fn n said refusal is told nothing = is
@@ -102,11 +102,11 @@ module _ (passes : Tried → Bool) (table : List Checked) (agrees : AgreesWith t
     lead_told (SeesDname owner lead) fl l fn n said refusal is told nothing = subst (λ (y : StepSeen). IsNothing y refusal) told.0 nothing
     lead_told (SeesReferral c datas) fl l fn n said refusal is told nothing = is
 
-    pub alias_told : (said : StepSeen) (l : Option Lasting) (n : Counts) (refusal : Option Refusal) → IsTold algorithms table itself said l n → IsNothing said refusal → refusal ≡ Some r.Memory
-    alias_told said l n refusal k nothing = go k.came (search_so table itself IsLeadOrOpen finds_lead k.came k.found_lasting k.found_counts k.searched) k.is
+    pub alias_told : (said : StepSeen) (l : Option Validity) (n : Counts) (refusal : Option Refusal) → IsTold algorithms table itself said l n → IsNothing said refusal → refusal ≡ Some r.Memory
+    alias_told said l n refusal k nothing = go k.came (search_so table itself IsLeadOrOpen finds_lead k.came k.found_validity k.found_counts k.searched) k.is
       where
-        go : (came : Search) → IsSearchOfKind IsLeadOrOpen came → IsSearchTold algorithms table itself came k.found_lasting k.found_counts said l n → refusal ≡ Some r.Memory
-        go (Sees x) so is = absurd (lead_told x k.found_lasting l k.found_counts n said refusal so is nothing)
+        go : (came : Search) → IsSearchOfKind IsLeadOrOpen came → IsSearchTold algorithms table itself came k.found_validity k.found_counts said l n → refusal ≡ Some r.Memory
+        go (Sees x) so is = absurd (lead_told x k.found_validity l k.found_counts n said refusal so is nothing)
         go (Refused_so e) so is = subst (λ (s : StepSeen). IsNothing s refusal) is.0 nothing ∙ ap (λ (x : Refusal). Some x) so
         go (Wants asks) so is = absurd (subst (λ (s : StepSeen). IsNothing s refusal) is.0 nothing)
 
@@ -120,7 +120,7 @@ module _ (passes : Tried → Bool) (table : List Checked) (agrees : AgreesWith t
     lead_cut n (SeesDname owner lead) refusal is cut nothing = absurd (let both : TellsNoneBelow ≡ TellsNothing None = cut in cc)
     lead_cut n (SeesReferral c datas) refusal is cut nothing = is
 
-    pub alias_cut : (said : StepSeen) (l : Option Lasting) (n : Counts) (refusal : Option Refusal) → IsCutTold algorithms table itself said l n → said ≡ at_cut said → IsNothing said refusal → refusal ≡ Some r.Memory
+    pub alias_cut : (said : StepSeen) (l : Option Validity) (n : Counts) (refusal : Option Refusal) → IsCutTold algorithms table itself said l n → said ≡ at_cut said → IsNothing said refusal → refusal ≡ Some r.Memory
     alias_cut said l n refusal k cut nothing = go k.came (search_so table itself IsLeadOrOpen finds_lead k.came l n k.searched) k.is
       where
         go : (came : Search) → IsSearchOfKind IsLeadOrOpen came → said ≡ cut_searched algorithms h.asked.name came → refusal ≡ Some r.Memory

@@ -7,7 +7,7 @@ use Rattle.definitions.specs.Zone.{Verdict, NoType, NoName, StarNoType, Delegate
 use Rattle.denial_laws.specs.Deciding.{by_chain, decided}
 use Rattle.denial_laws.specs.Facts.{HashLink, Link}
 use Rattle.denial_laws.specs.NsecRules.{at_name, at_owner, at_star, below_cut, closest, covered, denied, first_some, is_cut, link_covers, or_else, star_lacks}
-use Rattle.denial_laws.specs.Nsec3Rules.{at_hash, beyond, climbed, covers_hash, cut_above, enclosed, encloses, hash_denied, is_at, is_matched, star_at}
+use Rattle.denial_laws.specs.Nsec3Rules.{at_hash, beyond, by_closest_encloser, covers_hash, cut_above, enclosed, encloses, hash_denied, is_at, is_matched, star_at}
 use Rattle.denial_laws.proofs.Found.{either_from, first_from, first_is, left_is, right_is}
 use Rattle.denial_laws.proofs.NameFacts.{names_same, same_names, strictly_unlike}
 
@@ -154,12 +154,12 @@ module _ (apex q : Name) (below : strictly_above apex q ≡ true) where
         go true is = let x = first_from (beyond hash e t fs (hash (low closer))) fs NoType is in beyond_unlike e (hash (low closer)) x.0 x.1.1
         go false is = cc
 
-    climbed_unlike : (n : Name) → IsNoType (climbed apex hash n t fs) → ⊥
+    climbed_unlike : (n : Name) → IsNoType (by_closest_encloser apex hash n t fs) → ⊥
     climbed_unlike [] is = cc
     climbed_unlike (l ∷ p) is = go (same (l ∷ p) apex) (is_matched fs (hash (low p))) is (climbed_unlike p)
       where
-        go : (a b : Bool) → IsNoType (elim a as (λ _. Option Verdict) [ true ↦ None | false ↦ elim b [ true ↦ enclosed apex hash (l ∷ p) p t fs | false ↦ climbed apex hash p t fs ] ])
-            → (IsNoType (climbed apex hash p t fs) → ⊥) → ⊥
+        go : (a b : Bool) → IsNoType (elim a as (λ _. Option Verdict) [ true ↦ None | false ↦ elim b [ true ↦ enclosed apex hash (l ∷ p) p t fs | false ↦ by_closest_encloser apex hash p t fs ] ])
+            → (IsNoType (by_closest_encloser apex hash p t fs) → ⊥) → ⊥
         go true b is later = cc
         go false true is later = enclosed_unlike (l ∷ p) p is
         go false false is later = later is
@@ -173,8 +173,8 @@ module _ (apex q : Name) (below : strictly_above apex q ≡ true) where
           let y = hashed (hash (low q)) x.0 x.1.1 in
           first_is (at_hash apex q 2 (hash (low q))) fs x.0 y.0 x.1.0 y.1
 
-      go : (b : Bool) → IsNoType (elim b as (λ _. Option Verdict) [ true ↦ first_some (at_hash apex q 43 (hash (low q))) fs | false ↦ climbed apex hash q 43 fs ])
-          → SaysOf (elim b as (λ _. Option Verdict) [ true ↦ first_some (at_hash apex q 2 (hash (low q))) fs | false ↦ climbed apex hash q 2 fs ])
+      go : (b : Bool) → IsNoType (elim b as (λ _. Option Verdict) [ true ↦ first_some (at_hash apex q 43 (hash (low q))) fs | false ↦ by_closest_encloser apex hash q 43 fs ])
+          → SaysOf (elim b as (λ _. Option Verdict) [ true ↦ first_some (at_hash apex q 2 (hash (low q))) fs | false ↦ by_closest_encloser apex hash q 2 fs ])
       go true is = matched is
       go false is = absurd (climbed_unlike hash 43 fs q is)
 

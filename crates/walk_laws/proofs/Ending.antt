@@ -42,14 +42,14 @@ module _ (one : TreesSayOne) (e : Given) (class : ℕ) (zones : List SignedZone)
   not_deep : (asked : Asked) → asked.class ≡ class → (cuts : ℕ) (zone : Name) (ds : List Ds) (before after : Counts) (s : SignedZone) → s.apex ≡ zone → IsAnchored e zones anchor s ds
       → is_near known whole asked.name asked.rtype cuts (zone_of s) ≡ true → Stops e asked ends.TooManyCuts cuts zone ds before after → ⊥
   not_deep asked in_class cuts zone ds before after s at a near (Here judged stops) = stops
-  not_deep asked in_class cuts zone ds before after s at a near (Below {cuts = less} {c = c} {below = below} {between = between} lasting judged way more) =
-      let d : IsDown e zones anchor asked s c below = down_so e class zones anchor of asked in_class zone c ds below lasting s at a way in
+  not_deep asked in_class cuts zone ds before after s at a near (Below {cuts = less} {c = c} {below = below} {between = between} validity judged way more) =
+      let d : IsDown e zones anchor asked s c below = down_so e class zones anchor of asked in_class zone c ds below validity s at a way in
       let hands : handed_down known whole asked.name asked.rtype (zone_of s) ≡ Some (zone_of d.child) = handed known whole asked.name asked.rtype (zone_of s) (zone_of d.child) c d.refers d.bound d.found in
       let near_below : is_near known whole asked.name asked.rtype less (zone_of d.child) ≡ true =
       subst (λ (o : Option TreeZone). elim o [ None ↦ true | Some y ↦ is_near known whole asked.name asked.rtype less y ] ≡ true) hands near in
       not_deep asked in_class less c below between after d.child d.child_is d.anchored near_below more
-  not_deep asked in_class cuts zone ds before after s at a near (TooDeep {c = c} {below = below} lasting judged way is) =
-      let d : IsDown e zones anchor asked s c below = down_so e class zones anchor of asked in_class zone c ds below lasting s at a way in
+  not_deep asked in_class cuts zone ds before after s at a near (TooDeep {c = c} {below = below} validity judged way is) =
+      let d : IsDown e zones anchor asked s c below = down_so e class zones anchor of asked in_class zone c ds below validity s at a way in
       let hands : handed_down known whole asked.name asked.rtype (zone_of s) ≡ Some (zone_of d.child) = handed known whole asked.name asked.rtype (zone_of s) (zone_of d.child) c d.refers d.bound d.found in
       false≢true (sym (ap is_none hands) ∙ near)
 

@@ -35,8 +35,8 @@ module _ (e : Given) (ending : Ending) (more : wants_more ending ≡ true) where
 
   in_zone : (asked : Asked) (cuts : ℕ) (zone : Name) (ds : List Ds) (before after : Counts) → Stops e asked ending cuts zone ds before after → EndsSomewhere e ending
   in_zone asked cuts zone ds before after (Here judged stops) = record { asked = asked; zone = zone; ds = ds; ends = stops }
-  in_zone asked cuts zone ds before after (Below {cuts = less} {c = c} {below = below} {between = between} lasting judged way rest) = in_zone asked less c below between after rest
-  in_zone asked cuts zone ds before after (TooDeep lasting judged way is) = absurd (no_limit ends.TooManyCuts is refl)
+  in_zone asked cuts zone ds before after (Below {cuts = less} {c = c} {below = below} {between = between} validity judged way rest) = in_zone asked less c below between after rest
+  in_zone asked cuts zone ds before after (TooDeep validity judged way is) = absurd (no_limit ends.TooManyCuts is refl)
 
   behind : (cuts aliases : ℕ) (asked : Asked) (ns : List Name) (before after : Counts) → StopsBehind e cuts ending aliases asked ns before after → EndsSomewhere e ending
   behind cuts aliases asked ns before after (AtOnce w stops) = in_zone asked cuts e.anchor e.ds before after stops

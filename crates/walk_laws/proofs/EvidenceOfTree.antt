@@ -12,7 +12,7 @@ use Rattle.messages.specs.WrittenLaws.{IsQuestion}
 use Rattle.messages.proofs.Lists.{Has, all_at, some_is}
 use Rattle.messages.proofs.ZoneNames.{same_labels}
 use Rattle.answer_judge.specs.Judging.{JudgeInput}
-use Rattle.answer_judge.specs.Honest.{AreHonest, IsVersion, sought_of_answer, sought_of_keys}
+use Rattle.answer_judge.specs.Honest.{IsHonestInput, IsVersion, sought_of_answer, sought_of_keys}
 use Rattle.resolution_step.specs.KnownDs.{knows}
 use Rattle.resolution_step.specs.Table.{AreTrue, Checked, Tried, answers_with, is_entry_of, is_same_try, passes_in}
 use Rattle.resolution_step.specs.Truth.{AreHonestBeside}
@@ -88,7 +88,7 @@ judged_for asked answer = judge_input evidence example (own_ds ∷ []) asked key
 is_version : (asked : Asked) (answer : List ℕ) → IsVersion (answers_with passes) (judged_for asked answer) version
 is_version asked answer = record { records_are = records_are; in_order = orderly.servable; few = tt; chain = tt; apart = tt }
 
-honest_for : (asked : Asked) (answer : List ℕ) → IsQuestion asked → IsUnforged answer → AreHonest (answers_with passes) pointer_limit (judged_for asked answer) (version ∷ [])
+honest_for : (asked : Asked) (answer : List ℕ) → IsQuestion asked → IsUnforged answer → IsHonestInput (answers_with passes) pointer_limit (judged_for asked answer) (version ∷ [])
 honest_for asked answer question is =
     let h : JudgeInput = judged_for asked answer in
     record {
@@ -117,7 +117,7 @@ beside_type t (inr (inr (inl e))) = small_type t 39 e (ltb-true 39 65536 refl)
 beside_type t (inr (inr (inr e))) = small_type t 43 e (ltb-true 43 65536 refl)
 
 abbrev AreHonestHere : JudgeInput → Type 0
-AreHonestHere h = AreHonest (answers_with passes) pointer_limit h (version ∷ [])
+AreHonestHere h = IsHonestInput (answers_with passes) pointer_limit h (version ∷ [])
 
 honest_beside : (asked : Asked) (h : JudgeInput) → asked.class ≡ 1 → IsOf evidence example (own_ds ∷ []) asked h → AreHonestBeside (answers_with passes) pointer_limit h (version ∷ [])
 honest_beside asked h in_class of =

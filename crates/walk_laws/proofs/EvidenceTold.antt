@@ -16,8 +16,8 @@ use Rattle.answer_judge.specs.declared.verdict.Refusal.TheVariants as r
 use Rattle.answer_judge_facts.specs.Counted.{tries}
 use Rattle.answer_judge.specs.Due.{answer_tries, hashes_due, hashes_of_answer, verifications_due}
 use Rattle.answer_judge.specs.Judged.{ds_authenticates_keys, judged, judged_answer, keys_of, trusting}
-use Rattle.answer_judge_facts.specs.Lasting.{answer_seconds, answer_ttls, key_seconds, least_of}
-use Rattle.answer_judge.specs.Lasts.{lasting_of}
+use Rattle.answer_judge_facts.specs.Validity.{answer_seconds, answer_ttls, key_seconds, least_or_max}
+use Rattle.answer_judge.specs.Lasts.{validity_of_input}
 use Rattle.answer_judge_facts.specs.Sought.{keys_sought}
 use Rattle.answer_judge_facts.specs.Verified.{is_verified}
 use Rattle.answer_judge.specs.Meeting.{IsJudgement}
@@ -26,8 +26,8 @@ use Rattle.answer_judge.proofs.HonestJudged.{answers_honest}
 use Rattle.answer_judge.proofs.Timely.{refuses_untimely}
 use Rattle.answer_judge_table.specs.Outcomes.{IsJudgedBy}
 use Rattle.answer_judge_table.proofs.HonestTable.{stays_honest}
-use Rattle.answer_findings.specs.declared.finding.Finding.TheVariants as n
-use Rattle.answer_findings.specs.declared.finding.Found.TheVariants as f
+use Rattle.answer_findings.specs.declared.meaning.Meaning.TheVariants as n
+use Rattle.answer_findings.specs.declared.meaning.AnswerOutcome.TheVariants as f
 use Rattle.answer_findings.specs.Found.{IsFoundBy}
 use Rattle.answer_findings.specs.Seen.{SeesVerdict}
 use Rattle.resolution_step.specs.Table.{AgreesWith, Tried, answers_with, passes_in, told}
@@ -36,7 +36,7 @@ use Rattle.resolution_step.specs.declared.telling.Counts.{Counts}
 use Rattle.resolution_tree.specs.Tree.{Secure}
 use Rattle.resolution_evidence.specs.Given.{judge_input}
 use Rattle.resolution_evidence.specs.Walking.{AtOnce, ByQuestion, Ends, Follows, IsOwnStep}
-use Rattle.walk_laws.specs.Evidence.{a, address, answer, evidence, example, keys, lasting, own_ds, own_key, question}
+use Rattle.walk_laws.specs.Evidence.{a, address, answer, evidence, example, keys, validity, own_ds, own_key, question}
 use Rattle.walk_laws.proofs.EvidenceUnforged.{read_of}
 
 abbrev case : JudgeInput
@@ -89,11 +89,11 @@ hashed passes = λ i. elim (authenticated passes i) as (λ _. ℕ) [
   | false ↦ 0
 ]
 
-lasts : (passes : Tried → Bool) → lasting_of (answers_with (looked_up passes)) pointer_limit case ≡ Some lasting
+lasts : (passes : Tried → Bool) → validity_of_input (answers_with (looked_up passes)) pointer_limit case ≡ Some validity
 unfolding pointer_limit most_heads owner_at
 lasts passes = λ i. Some (record {
-  ttl = least_of (answer_ttls (trusting (answers_with (looked_up passes)) case (filter is_usable (keys_of case (read_of keys)))) pointer_limit answer (read_of answer).records a 1);
-  seconds = least_of (key_seconds (trusting (answers_with (looked_up passes)) case (all_trusted passes i)) pointer_limit keys (read_of keys).records (keys_of case (read_of keys))
+  ttl = least_or_max (answer_ttls (trusting (answers_with (looked_up passes)) case (filter is_usable (keys_of case (read_of keys)))) pointer_limit answer (read_of answer).records a 1);
+  seconds = least_or_max (key_seconds (trusting (answers_with (looked_up passes)) case (all_trusted passes i)) pointer_limit keys (read_of keys).records (keys_of case (read_of keys))
       ++ answer_seconds (trusting (answers_with (looked_up passes)) case (filter is_usable (keys_of case (read_of keys)))) pointer_limit answer (read_of answer).records a 1);
 })
 
@@ -125,12 +125,12 @@ is_judgement passes agrees =
     }
 
 abbrev judgement : Judgement
-judgement = record { verdict = v.Records (address ∷ []); verifications = 2; hashes = 0; lasting = Some lasting }
+judgement = record { verdict = v.Records (address ∷ []); verifications = 2; hashes = 0; validity = Some validity }
 
 is_judged : IsJudgedBy evidence.table case (Ok judgement)
 is_judged = record {
   by_table = is_judgement;
-  lasts = λ passes agrees. sym ((λ i. lasting_of (answers_with (alike passes agrees i)) pointer_limit case) ∙ lasts passes);
+  lasts = λ passes agrees. sym ((λ i. validity_of_input (answers_with (alike passes agrees i)) pointer_limit case) ∙ lasts passes);
   honest = λ passes true_are.
       stays_honest (passes_in evidence.table) passes true_are pointer_limit case (Says verdict)
       (is_judgement (passes_in evidence.table) (λ t b is. ap (λ (o : Option Bool). unwrap_or o false) is)).honest;
@@ -138,7 +138,7 @@ is_judged = record {
 
 -- ---- what is told
 
-found : IsFoundBy evidence.table case (Ok (SeesVerdict verdict)) (Some lasting) 2 0
+found : IsFoundBy evidence.table case (Ok (SeesVerdict verdict)) (Some validity) 2 0
 found = record {
   judgements = record { own = Ok judgement; alias = None; ns = None; ds = None };
   are = record {
@@ -156,18 +156,18 @@ found = record {
 abbrev counts : Counts
 counts = record { verifications = 2; hashes = 0 }
 
-own_step : IsOwnStep evidence example (own_ds ∷ []) question (TellsVerdict verdict) (Some lasting) counts
+own_step : IsOwnStep evidence example (own_ds ∷ []) question (TellsVerdict verdict) (Some validity) counts
 own_step = record {
   judged = case;
   of = record { keys = keys; answer = answer; keys_are = refl; answer_is = refl; is = refl };
   told_is = record {
     came = Sees (SeesVerdict verdict);
-    found_lasting = Some lasting;
+    found_validity = Some validity;
     found_counts = counts;
-    searched = record { found = f.Finds (n.Verdict (v.Records (address ∷ []))) (Some lasting) 2 0; is_found = found; is = refl; lasts = refl; counted = refl };
+    searched = record { found = f.Means (n.Verdict (v.Records (address ∷ []))) (Some validity) 2 0; is_found = found; is = refl; lasts = refl; counted = refl };
     is = (refl, refl, refl);
   };
 }
 
-pub follows : Follows evidence (Secure example verdict) question [] (Some lasting)
+pub follows : Follows evidence (Secure example verdict) question [] (Some validity)
 follows = AtOnce refl (Ends (ByQuestion (TellsVerdict verdict) counts own_step refl)) refl

@@ -22,16 +22,16 @@ use Rattle.messages.proofs.Lists.{all_more, all_sorted}
 use Rattle.messages.proofs.ZoneNames.{labels_eq-same}
 use Rattle.answer_scheme.specs.Answers.{Answers}
 use Rattle.answer_judge_rules.specs.Hashes.{hash_among}
-use Rattle.answer_shared.specs.Accepting.{record_cmp, soas, sorted_records, zone_of}
-use Rattle.answer_shared.specs.Asking.{asks_alias, is_allowed}
-use Rattle.answer_shared.specs.FactsCase.{low_facts}
-use Rattle.answer_shared.specs.Hashing.{hash_in}
-use Rattle.answer_shared.specs.Served.{Group, Served, ahead, answer_groups, by_tag}
-use Rattle.answer_shared.specs.Told.{fields_for}
-use Rattle.answer_shared.proofs.AllowedTypes.{Unsigned, inside_apex, unsigned_from}
-use Rattle.answer_shared.proofs.FactsCase.{links_lowered}
-use Rattle.answer_shared.proofs.Servable.{asked_inside}
-use Rattle.answer_shared.proofs.ZoneData.{label_count-low}
+use Rattle.answer_terms.specs.Accepting.{record_cmp, soas, sorted_records, zone_of}
+use Rattle.answer_terms.specs.Asking.{asks_alias, is_allowed}
+use Rattle.answer_terms.specs.FactsCase.{low_facts}
+use Rattle.answer_terms.specs.Hashing.{hash_in}
+use Rattle.answer_terms.specs.Served.{ServedRrset, Served, ahead, answer_groups, by_tag}
+use Rattle.answer_terms.specs.Told.{fields_for}
+use Rattle.answer_terms.proofs.AllowedTypes.{Unsigned, inside_apex, unsigned_from}
+use Rattle.answer_terms.proofs.FactsCase.{links_lowered}
+use Rattle.answer_terms.proofs.Servable.{asked_inside}
+use Rattle.answer_terms.proofs.ZoneData.{label_count-low}
 use Rattle.answer_zone.specs.Finding.{finds, redirecting}
 use Rattle.alias_laws.proofs.FoundFacts.{found_decides}
 use Rattle.alias_laws.proofs.Leading.{aliased_is_led, redirecting_found, redirector}
@@ -77,7 +77,7 @@ own_hashed z hash Nsec qs = refl
 own_hashed z hash (Nsec3 iterations salt optout) qs = mapped_say z hash iterations salt optout (filter (λ o. list_any (hash_link_speaks z hash optout o) qs) (hashed_names hash z optout))
 
 -- the RRset of a zone's own facts is expanded no further than from the apex
-expands_inside : (apex q : Name) (t : ℕ) (gs : List Group) (o : Option Rrset) → Proves apex q t gs o → IfSome o (ExpandsInside apex q)
+expands_inside : (apex q : Name) (t : ℕ) (gs : List ServedRrset) (o : Option Rrset) → Proves apex q t gs o → IfSome o (ExpandsInside apex q)
 expands_inside apex q t gs None h = tt
 expands_inside apex q t gs (Some x) (g, there, is) = λ wide.
     let counted : label_count g.source ≡ x.labels = ap (λ (y : Rrset). y.labels) is.is in
@@ -206,7 +206,7 @@ module _ (a : Answers) (k : ℕ) (h : JudgeInput) (mode : Mode) (rs : List Hande
 
   -- ---- what is told
 
-  pub found : (g : Group) → find (fits_key (fields_for h.apex given.at given.life g given.signer)) usable ≡ Some given.signer
+  pub found : (g : ServedRrset) → find (fits_key (fields_for h.apex given.at given.life g given.signer)) usable ≡ Some given.signer
   found g =
       let keys = given.keys in
       find_kept is_usable present given.signer (fields_for h.apex given.at given.life g given.signer) (apart a k h keys)

@@ -12,9 +12,9 @@ use Rattle.messages.specs.Message.{Message, message}
 use Rattle.messages.specs.declared.error.MessageError.{MessageError}
 use Rattle.messages.proofs.Lists.{Has, all_at}
 use Rattle.answer_scheme.specs.Answers.{Answers}
-use Rattle.answer_shared.specs.EqualTags.{has_equal_tags}
-use Rattle.answer_shared.specs.Served.{Group, by_tag, key_group}
-use Rattle.answer_shared.specs.Told.{fields_for}
+use Rattle.answer_terms.specs.EqualTags.{has_equal_tags}
+use Rattle.answer_terms.specs.Served.{ServedRrset, by_tag, key_group}
+use Rattle.answer_terms.specs.Told.{fields_for}
 use Rattle.answer_judge.specs.Judging.{Answer, JudgeInput, Refuses, is_judged, may_ask, same_question}
 use Rattle.answer_judge_keys.specs.Trusted.{is_trusted, is_usable}
 use Rattle.answer_judge.specs.declared.verdict.Refusal.TheVariants as r
@@ -68,7 +68,7 @@ module _ (a : Answers) (k : ℕ) (h : JudgeInput) (given : KeysWereGiven a k h.a
   chained =
       let anchor : Dnskey = given.anchor in
       let w : Trusting = trusting a h (filter (is_trusted a h.apex h.ds) keys) in
-      let g : Group = key_group h.apex given.ttl given.present in
+      let g : ServedRrset = key_group h.apex given.ttl given.present in
       let trusted : is_trusted a h.apex h.ds anchor ≡ true = trusted_given a h.apex h.ds anchor given.anchor_usable given.ds_is in
       let kept : Has keys anchor = keys_has a.verifies k given.ttl h.apex given.present given.keysigners given.at given.life h.dnskey_bytes given.told given.flags_are anchor there in
       let are : map dnskey_data keys ≡ datas = keys_data a.verifies k given.ttl h.apex given.present given.keysigners given.at given.life h.dnskey_bytes given.told given.flags_are in

@@ -7,7 +7,7 @@ use Rattle.definitions.specs.Name.{Name, low, same}
 use Rattle.definitions.specs.Zone.{Verdict, Records, NoType, NoName, StarRecords, StarNoType, Delegated, Open, Unsigned}
 use Rattle.answer_judge.specs.Judging.{Answer, JudgeInput, Refuses, Says, answer_of}
 use Rattle.answer_judge.specs.declared.verdict.Judgement.{Judgement}
-use Rattle.answer_judge_facts.specs.declared.lasting.Lasting.{Lasting}
+use Rattle.answer_judge_facts.specs.declared.validity.Validity.{Validity}
 use Rattle.answer_judge.specs.declared.verdict.Refusal.{Refusal}
 use Rattle.answer_judge.specs.declared.verdict.Refused.{Refused}
 use Rattle.answer_judge_table.specs.Outcomes.{IsJudgedBy}
@@ -15,8 +15,8 @@ use Rattle.answer_findings.specs.Found.{IsFound, IsFoundBy}
 use Rattle.answer_findings.specs.Judgements.{aside, asking, is_not_proven}
 use Rattle.answer_findings.specs.Seen.{Seen, SeesVerdict, SeesDelegated, SeesNoDs, SeesAlias, SeesStarAlias, SeesOpen, SeesDname, SeesReferral, answer_found, first_found, found_or, lead_found, referral_found}
 use Rattle.answer_findings.specs.Table.{AgreesWith, Checked, Tried, answers_with}
-use Rattle.answer_findings.specs.declared.finding.Found.{Found}
-use Rattle.answer_findings.specs.declared.finding.Found.TheVariants as f
+use Rattle.answer_findings.specs.declared.meaning.AnswerOutcome.{AnswerOutcome}
+use Rattle.answer_findings.specs.declared.meaning.AnswerOutcome.TheVariants as f
 use Rattle.resolution_step.specs.KnownDs.{known_ds}
 use Rattle.resolution_step.specs.Told.{StepSeen, TellsVerdict, TellsLead, TellsDown, TellsUnsigned, TellsOpen, TellsNoCut, TellsNoneBelow, TellsNothing, AsksFor, Search, Sees, Refuses as Refused_so, Wants, IsCutTold, IsSearchTold, IsSeenTold, IsTold, at_cut, by_known, cut_searched, cut_told, search_of, verdict_told}
 use Rattle.resolution_step.specs.declared.telling.Counts.{Counts}
@@ -97,7 +97,7 @@ module _ (passes : Tried → Bool) (table : List Checked) (agrees : AgreesWith t
     own_trusting : (js : Result Judgement Refused) → IsJudgedBy table h js → is_refused_for_keys (answer_of js) ≡ false
     own_trusting js is = keys_trusted (answers_with passes) pointer_limit h given (answer_of js) (is.by_table passes agrees).exact
 
-    found_trusting : (refusal : Refusal) (l : Option Lasting) (n m : ℕ) → IsFoundBy table h (Err refusal) l n m → is_of_keys refusal ≡ false
+    found_trusting : (refusal : Refusal) (l : Option Validity) (n m : ℕ) → IsFoundBy table h (Err refusal) l n m → is_of_keys refusal ≡ false
     found_trusting refusal l n m k = go (answer_of k.judgements.own) (own_trusting k.judgements.own k.are.own) k.says
       where
         go : (answer : Answer) → is_refused_for_keys answer ≡ false → Err refusal ≡ answer_found h k.judgements answer → is_of_keys refusal ≡ false
@@ -117,12 +117,12 @@ module _ (passes : Tried → Bool) (table : List Checked) (agrees : AgreesWith t
     IsSearchTrusting (Refused_so e) = is_of_keys e ≡ false
     IsSearchTrusting (Wants asks) = Unit {0}
 
-    search_trusting : (came : Search) (found : Found) → IsFound table h found → came ≡ search_of found → IsSearchTrusting came
-    search_trusting came (f.Finds finding l n m) is e = subst IsSearchTrusting (sym e) tt
+    search_trusting : (came : Search) (found : AnswerOutcome) → IsFound table h found → came ≡ search_of found → IsSearchTrusting came
+    search_trusting came (f.Means meaning l n m) is e = subst IsSearchTrusting (sym e) tt
     search_trusting came (f.Refused refusal n m) is e = subst IsSearchTrusting (sym e) (found_trusting refusal None n m is)
     search_trusting came (f.Asks asks n m) is e = subst IsSearchTrusting (sym e) tt
 
-    pub cut_told_trusting : (said : StepSeen) (l : Option Lasting) (n : Counts) → IsCutTold algorithms table h said l n → IsTrusting said
+    pub cut_told_trusting : (said : StepSeen) (l : Option Validity) (n : Counts) → IsCutTold algorithms table h said l n → IsTrusting said
     cut_told_trusting said l n k = subst IsTrusting (sym k.is) (go k.came (search_trusting k.came k.searched.found k.searched.is_found k.searched.is))
       where
         go : (came : Search) → IsSearchTrusting came → IsTrusting (cut_searched algorithms h.asked.name came)
@@ -131,11 +131,11 @@ module _ (passes : Tried → Bool) (table : List Checked) (agrees : AgreesWith t
         go (Wants asks) kept = tt
 
   module _ (h : JudgeInput) (given : KeysWereGiven (answers_with passes) pointer_limit h.apex h.ds h.dnskey_bytes h.now) where
-    seen_trusting : (x : Seen) (fl : Option Lasting) (fn : Counts) (said : StepSeen) (l : Option Lasting) (n : Counts) → IsSeenTold algorithms table h x fl fn said l n → IsTrusting said
+    seen_trusting : (x : Seen) (fl : Option Validity) (fn : Counts) (said : StepSeen) (l : Option Validity) (n : Counts) → IsSeenTold algorithms table h x fl fn said l n → IsTrusting said
     seen_trusting (SeesVerdict v) fl fn said l n k = subst IsTrusting (sym k.0) (verdict_trusting v)
     seen_trusting (SeesDelegated None) fl fn said l n k = subst IsTrusting (sym k.0) refl
     seen_trusting (SeesDelegated (Some c)) fl fn said l n k =
-        subst IsTrusting (sym k.is) (at_cut_trusting k.below (cut_told_trusting (aside h (asking h c 43)) given k.below k.below_lasting k.below_counts k.told_is))
+        subst IsTrusting (sym k.is) (at_cut_trusting k.below (cut_told_trusting (aside h (asking h c 43)) given k.below k.below_validity k.below_counts k.told_is))
     seen_trusting (SeesNoDs d) fl fn said l n k = subst IsTrusting (sym k.0) tt
     seen_trusting (SeesAlias target) fl fn said l n k = subst IsTrusting (sym k.0) tt
     seen_trusting (SeesStarAlias target) fl fn said l n k = subst IsTrusting (sym k.0) tt
@@ -143,10 +143,10 @@ module _ (passes : Tried → Bool) (table : List Checked) (agrees : AgreesWith t
     seen_trusting (SeesDname owner lead) fl fn said l n k = subst IsTrusting (sym k.0) tt
     seen_trusting (SeesReferral c datas) fl fn said l n k = subst IsTrusting (sym k.0) (referral_trusting algorithms c datas (same c h.asked.name && (h.asked.rtype == 43)))
 
-    pub told_trusting : (said : StepSeen) (l : Option Lasting) (n : Counts) → IsTold algorithms table h said l n → IsTrusting said
+    pub told_trusting : (said : StepSeen) (l : Option Validity) (n : Counts) → IsTold algorithms table h said l n → IsTrusting said
     told_trusting said l n k = go k.came (search_trusting h given k.came k.searched.found k.searched.is_found k.searched.is) k.is
       where
-        go : (came : Search) → IsSearchTrusting h given came → IsSearchTold algorithms table h came k.found_lasting k.found_counts said l n → IsTrusting said
-        go (Sees x) kept is = seen_trusting x k.found_lasting k.found_counts said l n is
+        go : (came : Search) → IsSearchTrusting h given came → IsSearchTold algorithms table h came k.found_validity k.found_counts said l n → IsTrusting said
+        go (Sees x) kept is = seen_trusting x k.found_validity k.found_counts said l n is
         go (Refused_so e) kept is = subst IsTrusting (sym is.0) kept
         go (Wants asks) kept is = subst IsTrusting (sym is.0) tt

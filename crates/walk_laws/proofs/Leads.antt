@@ -21,12 +21,12 @@ use Rattle.messages.specs.Message.{Asked}
 use Rattle.messages.proofs.Lists.{eqb-back}
 use Rattle.answer_scheme.specs.Answers.{Answers}
 use Rattle.answer_judge_rules.specs.Hashes.{hash_among}
-use Rattle.answer_shared.specs.Accepting.{zone_of}
-use Rattle.answer_shared.specs.Asking.{asks_alias, is_allowed}
-use Rattle.answer_shared.specs.Hashing.{HaveHashes}
-use Rattle.answer_shared.specs.Served.{Group, Served, answer_groups, by_tag, proofs_of, rrset, under}
-use Rattle.answer_shared.specs.Told.{TellsGroups}
-use Rattle.answer_shared.proofs.ZoneData.{label_count-low}
+use Rattle.answer_terms.specs.Accepting.{zone_of}
+use Rattle.answer_terms.specs.Asking.{asks_alias, is_allowed}
+use Rattle.answer_terms.specs.Hashing.{HaveHashes}
+use Rattle.answer_terms.specs.Served.{ServedRrset, Served, answer_groups, by_tag, proofs_of, rrset, under}
+use Rattle.answer_terms.specs.Told.{TellsGroups}
+use Rattle.answer_terms.proofs.ZoneData.{label_count-low}
 use Rattle.answer_zone.specs.Finding.{finds, redirecting}
 use Rattle.alias_laws.proofs.Leading.{Redirects, redirector}
 use Rattle.answer_judge.specs.Meeting.{served_from}
@@ -214,7 +214,7 @@ module _ (a : Answers) (k : ℕ) (h : JudgeInput) (mode : Mode) (rs : List Hande
     given_there : TellsGroups a.verifies k h.answer_bytes given.told.read.records h.apex given.at given.life (by_tag given.zonesigners) (answer_groups s d 39)
     given_there = subst (λ (q : Asked). TellsGroups a.verifies k h.answer_bytes given.told.read.records h.apex given.at given.life (by_tag given.zonesigners) (answer_groups s q.name q.rtype)) is given.told.groups_are
 
-    abbrev groups : List Group
+    abbrev groups : List ServedRrset
     groups = stands.first ∷ proofs_of s stands.behind
 
     abbrev spelled : IsFirst a k h mode rs given d 39 refl given_there stands

@@ -9,13 +9,13 @@ use Rattle.definitions.specs.Zone.{Verdict, Records, NoType, NoName, StarRecords
 use Rattle.definitions.proofs.Members.{In}
 use Rattle.messages.specs.Message.{Asked}
 use Rattle.answer_judge.specs.Judging.{JudgeInput}
-use Rattle.answer_judge_facts.specs.declared.lasting.Lasting.{Lasting}
+use Rattle.answer_judge_facts.specs.declared.validity.Validity.{Validity}
 use Rattle.answer_judge_table.specs.Asking.{AreAsked, are_new, unchecked}
 use Rattle.answer_findings.specs.Table.{Checked, Tried, is_entry_of, is_same_try, told}
 use Rattle.answer_findings.specs.Found.{AreAskedFor, IsFound}
 use Rattle.answer_findings.specs.Judgements.{aside, asking}
-use Rattle.answer_findings.specs.declared.finding.Found.{Found}
-use Rattle.answer_findings.specs.declared.finding.Found.TheVariants as f
+use Rattle.answer_findings.specs.declared.meaning.AnswerOutcome.{AnswerOutcome}
+use Rattle.answer_findings.specs.declared.meaning.AnswerOutcome.TheVariants as f
 use Rattle.answer_findings.specs.Seen.{SeesVerdict, SeesDelegated, SeesNoDs, SeesAlias, SeesStarAlias, SeesOpen, SeesDname, SeesReferral, Seen}
 use Rattle.resolution_step.specs.KnownDs.{known_ds}
 use Rattle.resolution_step.specs.Told.{StepSeen, TellsVerdict, TellsLead, TellsDown, TellsUnsigned, TellsOpen, TellsNoCut, TellsNoneBelow, TellsNothing, AsksFor, Search, Sees, Refuses, Wants, IsCutTold, IsSearched, IsSearchTold, IsSeenTold, IsTold, IsToldAt, at_cut, bound_told, by_known, cut_said, cut_searched, cut_told, search_of, seen_told, verdict_told}
@@ -164,19 +164,19 @@ module _ (table : List Checked) where
   asked_for_new h asks v n (inl (inr first, verified, hashed)) = asked_new (aside h first.are.asked) asks first.are.are_asked
   asked_for_new h asks v n (inr later) = asked_new (aside h later.are.asked) asks later.are.are_asked
 
-  found_new : (h : JudgeInput) (asks : List Tried) (found : Found) → IsFound table h found → Wants asks ≡ search_of found → AreSomeNew table asks
-  found_new h asks (f.Finds finding lasting v n) is e = absurd cc
+  found_new : (h : JudgeInput) (asks : List Tried) (found : AnswerOutcome) → IsFound table h found → Wants asks ≡ search_of found → AreSomeNew table asks
+  found_new h asks (f.Means meaning validity v n) is e = absurd cc
   found_new h asks (f.Refused refusal v n) is e = absurd cc
   found_new h asks (f.Asks said v n) is e =
       let same : said.items ≡ asks = (let both : Wants asks ≡ Wants said.items = e in cc) in
       subst (AreSomeNew table) same (asked_for_new h said.items v n is)
 
-  searched_new : (h : JudgeInput) (asks : List Tried) (l : Option Lasting) (n : Counts) → IsSearched table h (Wants asks) l n → AreSomeNew table asks
+  searched_new : (h : JudgeInput) (asks : List Tried) (l : Option Validity) (n : Counts) → IsSearched table h (Wants asks) l n → AreSomeNew table asks
   searched_new h asks l n k = found_new h asks k.found k.is_found k.is
 
   -- ---- what is told
 
-  cut_new : (algorithms : List ℕ) (h : JudgeInput) (asks : List Tried) (l : Option Lasting) (n : Counts) → IsCutTold algorithms table h (AsksFor asks) l n → AreSomeNew table asks
+  cut_new : (algorithms : List ℕ) (h : JudgeInput) (asks : List Tried) (l : Option Validity) (n : Counts) → IsCutTold algorithms table h (AsksFor asks) l n → AreSomeNew table asks
   cut_new algorithms h asks l n k = go k.came k.searched k.is
     where
       go : (came : Search) → IsSearched table h came l n → AsksFor asks ≡ cut_searched algorithms h.asked.name came → AreSomeNew table asks
@@ -186,19 +186,19 @@ module _ (table : List Checked) where
           let same : other ≡ asks = (let both : AsksFor asks ≡ AsksFor other = e in cc) in
           subst (AreSomeNew table) same (searched_new h other l n s)
 
-  at_new : (algorithms : List ℕ) (h : JudgeInput) (c : Name) (asks : List Tried) (found l : Option Lasting) (counts n : Counts) → IsToldAt algorithms table h c found counts (AsksFor asks) l n → AreSomeNew table asks
+  at_new : (algorithms : List ℕ) (h : JudgeInput) (c : Name) (asks : List Tried) (found l : Option Validity) (counts n : Counts) → IsToldAt algorithms table h c found counts (AsksFor asks) l n → AreSomeNew table asks
   at_new algorithms h c asks found l counts n k =
-      cut_new algorithms (aside h (asking h c 43)) asks k.below_lasting k.below_counts
-      (subst (λ (said : StepSeen). IsCutTold algorithms table (aside h (asking h c 43)) said k.below_lasting k.below_counts) (at_cut_asks k.below asks k.is) k.told_is)
+      cut_new algorithms (aside h (asking h c 43)) asks k.below_validity k.below_counts
+      (subst (λ (said : StepSeen). IsCutTold algorithms table (aside h (asking h c 43)) said k.below_validity k.below_counts) (at_cut_asks k.below asks k.is) k.told_is)
 
-  told_new : (algorithms : List ℕ) (h : JudgeInput) (asks : List Tried) (l : Option Lasting) (n : Counts) → IsTold algorithms table h (AsksFor asks) l n → AreSomeNew table asks
+  told_new : (algorithms : List ℕ) (h : JudgeInput) (asks : List Tried) (l : Option Validity) (n : Counts) → IsTold algorithms table h (AsksFor asks) l n → AreSomeNew table asks
   told_new algorithms h asks l n k = go k.came k.searched k.is
     where
       none : (x : Seen) → AsksFor asks ≡ seen_told algorithms h.asked x → AreSomeNew table asks
       none x e = absurd (false≢true (sym (told_asks algorithms h.asked x) ∙ sym (ap is_asking e)))
 
-      seen : (x : Seen) → IsSeenTold algorithms table h x k.found_lasting k.found_counts (AsksFor asks) l n → AreSomeNew table asks
-      seen (SeesDelegated (Some c)) is = at_new algorithms h c asks k.found_lasting l k.found_counts n is
+      seen : (x : Seen) → IsSeenTold algorithms table h x k.found_validity k.found_counts (AsksFor asks) l n → AreSomeNew table asks
+      seen (SeesDelegated (Some c)) is = at_new algorithms h c asks k.found_validity l k.found_counts n is
       seen (SeesDelegated None) is = none (SeesDelegated None) is.0
       seen (SeesVerdict v) is = none (SeesVerdict v) is.0
       seen (SeesNoDs d) is = none (SeesNoDs d) is.0
@@ -208,12 +208,12 @@ module _ (table : List Checked) where
       seen (SeesDname owner lead) is = none (SeesDname owner lead) is.0
       seen (SeesReferral c datas) is = none (SeesReferral c datas) is.0
 
-      go : (came : Search) → IsSearched table h came k.found_lasting k.found_counts → IsSearchTold algorithms table h came k.found_lasting k.found_counts (AsksFor asks) l n → AreSomeNew table asks
+      go : (came : Search) → IsSearched table h came k.found_validity k.found_counts → IsSearchTold algorithms table h came k.found_validity k.found_counts (AsksFor asks) l n → AreSomeNew table asks
       go (Sees x) s is = seen x is
       go (Refuses r) s is = absurd (let both : AsksFor asks ≡ TellsNothing (Some r) = is.0 in cc)
       go (Wants other) s is =
           let same : other ≡ asks = (let both : AsksFor asks ≡ AsksFor other = is.0 in cc) in
-          subst (AreSomeNew table) same (searched_new h other k.found_lasting k.found_counts s)
+          subst (AreSomeNew table) same (searched_new h other k.found_validity k.found_counts s)
 
 heard_new : (e : Given) (asked sought : Asked) (zone : Name) (ds : List Ds) (asks : List Tried) → IsHeard e asked zone ds sought (AsksFor asks) → AreSomeNew e.table asks
 heard_new e asked sought zone ds asks (OfAnswer l n same step) = told_new e.table e.algorithms step.judged asks l n step.told_is

@@ -7,7 +7,7 @@ use Rattle.answer_judge.specs.Judged.{by_facts, keys_of}
 use Rattle.answer_judge.specs.Judging.{Answer, JudgeInput, Refuses, Says, may_ask, same_question}
 use Rattle.answer_judge.specs.declared.verdict.Refusal.{Refusal}
 use Rattle.answer_judge.specs.declared.verdict.Refusal.TheVariants as r
-use Rattle.answer_shared.specs.EqualTags.{has_equal_tags}
+use Rattle.answer_terms.specs.EqualTags.{has_equal_tags}
 
 -- By whether the question is judged, whether there is no DS, what both messages read as, and what is refused and judged of them.
 abbrev pub judged_by : Bool → Bool → Result Message MessageError → Result Message MessageError → (Message → Message → Option Refusal) → (Message → Message → Answer) → Answer

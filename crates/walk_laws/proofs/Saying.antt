@@ -8,7 +8,7 @@ use Rattle.definitions.specs.Zone.{Zone, Verdict, Records, NoType, NoName, StarR
 use Rattle.denial_laws.specs.Saying.{IsDelegated}
 use Rattle.answer_judge.specs.Judged.{AnswersAs}
 use Rattle.answer_judge.specs.Judging.{Says, JudgeInput, answer_of}
-use Rattle.answer_judge_facts.specs.declared.lasting.Lasting.{Lasting}
+use Rattle.answer_judge_facts.specs.declared.validity.Validity.{Validity}
 use Rattle.answer_judge.specs.declared.verdict.Judgement.{Judgement}
 use Rattle.answer_judge.specs.declared.verdict.Refusal.{Refusal}
 use Rattle.answer_judge.specs.declared.verdict.Refusal.TheVariants as r
@@ -18,8 +18,8 @@ use Rattle.answer_findings.specs.Table.{Checked}
 use Rattle.answer_findings.specs.Found.{AreJudgements, IsFound, IsFoundBy}
 use Rattle.answer_findings.specs.Judgements.{is_delegated, is_no_type}
 use Rattle.answer_findings.specs.Seen.{Seen, SeesVerdict, SeesNoDs, answer_found, delegates_found, found_by, no_ds_found, seen, verdict_found}
-use Rattle.answer_findings.specs.declared.finding.Found.{Found}
-use Rattle.answer_findings.specs.declared.finding.Found.TheVariants as f
+use Rattle.answer_findings.specs.declared.meaning.AnswerOutcome.{AnswerOutcome}
+use Rattle.answer_findings.specs.declared.meaning.AnswerOutcome.TheVariants as f
 use Rattle.resolution_tree.specs.Tree.{refers_to}
 use Rattle.resolution_tree.proofs.Verdicts.{delegated_refers, verdict_told as told_verdict}
 use Rattle.resolution_step.specs.KnownDs.{known_ds}
@@ -67,7 +67,7 @@ plain h ns ds NoType own = go (h.asked.rtype == 43)
     go false = Plain
 
 -- and where that is told, it is something
-plain_told : (algorithms : List ℕ) (table : List Checked) (h : JudgeInput) (v : Verdict) (x : Seen) (fl l : Option Lasting) (fn n : Counts) (said : StepSeen) (refusal : Option Refusal)
+plain_told : (algorithms : List ℕ) (table : List Checked) (h : JudgeInput) (v : Verdict) (x : Seen) (fl l : Option Validity) (fn n : Counts) (said : StepSeen) (refusal : Option Refusal)
     → ((other : Option Refusal) → IsNothing (verdict_told v) other → ⊥) → IsPlain v x → IsSeenTold algorithms table h x fl fn said l n → IsNothing said refusal → ⊥
 plain_told algorithms table h v x fl l fn n said refusal says Plain is nothing = says refusal (subst (λ (s : StepSeen). IsNothing s refusal) is.0 nothing)
 plain_told algorithms table h v x fl l fn n said refusal says NoDs is nothing = subst (λ (s : StepSeen). IsNothing s refusal) is.0 nothing
@@ -86,14 +86,14 @@ IsSearchOfKind IsKind (Refused_so refusal) = refusal ≡ r.Memory
 IsSearchOfKind IsKind (Wants asks) = Unit {0}
 
 module _ (table : List Checked) (h : JudgeInput) (IsKind : Seen → Type 0) (finds : (js : _) → AreJudgements table h js → IsOfKind IsKind (found_by h js)) where
-  found_so : (said : Result Seen Refusal) (l : Option Lasting) (n m : ℕ) → IsFoundBy table h said l n m → IsOfKind IsKind said
+  found_so : (said : Result Seen Refusal) (l : Option Validity) (n m : ℕ) → IsFoundBy table h said l n m → IsOfKind IsKind said
   found_so said l n m k = subst (IsOfKind IsKind) (sym k.says) (finds k.judgements k.are)
 
-  pub search_so : (came : Search) (l : Option Lasting) (n : Counts) → IsSearched table h came l n → IsSearchOfKind IsKind came
+  pub search_so : (came : Search) (l : Option Validity) (n : Counts) → IsSearched table h came l n → IsSearchOfKind IsKind came
   search_so came l n k = subst (IsSearchOfKind IsKind) (sym k.is) (go k.found k.is_found)
     where
-      go : (found : Found) → IsFound table h found → IsSearchOfKind IsKind (search_of found)
-      go (f.Finds finding l n m) is = found_so (Ok (seen finding)) l n m is
+      go : (found : AnswerOutcome) → IsFound table h found → IsSearchOfKind IsKind (search_of found)
+      go (f.Means meaning l n m) is = found_so (Ok (seen meaning)) l n m is
       go (f.Refused refusal n m) is = found_so (Err refusal) None n m is
       go (f.Asks asks n m) is = tt
 
@@ -112,11 +112,11 @@ module _ (algorithms : List ℕ) (table : List Checked) (h : JudgeInput) (v : Ve
   finds_plain : (js : _) → AreJudgements table h js → answer_of js.own ≡ Says v → IsPlain v (verdict_found h js.ns js.ds v)
   finds_plain js are is = plain h js.ns js.ds v own
 
-  pub told_nothing : (said : StepSeen) (l : Option Lasting) (n : Counts) (refusal : Option Refusal) → IsTold algorithms table h said l n → IsNothing said refusal → refusal ≡ Some r.Memory
-  told_nothing said l n refusal k nothing = go k.came (search_so table h (IsPlain v) (finds_said table h v judges (IsPlain v) finds_plain) k.came k.found_lasting k.found_counts k.searched) k.is
+  pub told_nothing : (said : StepSeen) (l : Option Validity) (n : Counts) (refusal : Option Refusal) → IsTold algorithms table h said l n → IsNothing said refusal → refusal ≡ Some r.Memory
+  told_nothing said l n refusal k nothing = go k.came (search_so table h (IsPlain v) (finds_said table h v judges (IsPlain v) finds_plain) k.came k.found_validity k.found_counts k.searched) k.is
     where
-      go : (came : Search) → IsSearchOfKind (IsPlain v) came → IsSearchTold algorithms table h came k.found_lasting k.found_counts said l n → refusal ≡ Some r.Memory
-      go (Sees x) so is = absurd (plain_told algorithms table h v x k.found_lasting l k.found_counts n said refusal says so is nothing)
+      go : (came : Search) → IsSearchOfKind (IsPlain v) came → IsSearchTold algorithms table h came k.found_validity k.found_counts said l n → refusal ≡ Some r.Memory
+      go (Sees x) so is = absurd (plain_told algorithms table h v x k.found_validity l k.found_counts n said refusal says so is nothing)
       go (Refused_so e) so is = subst (λ (s : StepSeen). IsNothing s refusal) is.0 nothing ∙ ap (λ (x : Refusal). Some x) so
       go (Wants asks) so is = absurd (subst (λ (s : StepSeen). IsNothing s refusal) is.0 nothing)
 
@@ -164,7 +164,7 @@ module _ (algorithms : List ℕ) (table : List Checked) (h : JudgeInput) (v : Ve
   finds_of_ds : (js : _) → AreJudgements table h js → answer_of js.own ≡ Says v → IsPlainOfDs v (verdict_found h js.ns js.ds v)
   finds_of_ds js are is = plain_of_ds h js.ns js.ds v for_ds own (λ none_there. whether js are (is ∙ ap (λ (x : Verdict). Says x) none_there))
 
-  pub cut_nothing : (said : StepSeen) (l : Option Lasting) (n : Counts) (refusal : Option Refusal) → IsCutTold algorithms table h said l n → said ≡ at_cut said → IsNothing said refusal → refusal ≡ Some r.Memory
+  pub cut_nothing : (said : StepSeen) (l : Option Validity) (n : Counts) (refusal : Option Refusal) → IsCutTold algorithms table h said l n → said ≡ at_cut said → IsNothing said refusal → refusal ≡ Some r.Memory
   cut_nothing said l n refusal k cut nothing = go k.came (search_so table h (IsPlainOfDs v) (finds_said table h v judges (IsPlainOfDs v) finds_of_ds) k.came l n k.searched) k.is
     where
       go : (came : Search) → IsSearchOfKind (IsPlainOfDs v) came → said ≡ cut_searched algorithms h.asked.name came → refusal ≡ Some r.Memory

@@ -6,11 +6,11 @@ use Rattle.definitions.specs.Limits.{pointer_limit}
 use Rattle.definitions.specs.Name.{Name, strictly_above}
 use Rattle.definitions.specs.Zone.{Verdict, verdict}
 use Rattle.messages.specs.Message.{Asked}
-use Rattle.answer_shared.specs.Served.{by_tag}
+use Rattle.answer_terms.specs.Served.{by_tag}
 use Rattle.answer_judge.specs.Meeting.{WasGiven}
 use Rattle.answer_judge.specs.Judged.{AnswersAs}
 use Rattle.answer_judge.specs.Judging.{Says, JudgeInput, answer_of}
-use Rattle.answer_judge_facts.specs.declared.lasting.Lasting.{Lasting}
+use Rattle.answer_judge_facts.specs.declared.validity.Validity.{Validity}
 use Rattle.answer_judge.specs.declared.verdict.Judgement.{Judgement}
 use Rattle.answer_judge.specs.declared.verdict.Refusal.{Refusal}
 use Rattle.answer_judge.specs.declared.verdict.Refusal.TheVariants as r
@@ -58,7 +58,7 @@ module _ (passes : Tried → Bool) (e : Given) (asked : Asked) (zones : List Sig
     judged_so : (js : Result Judgement Refused) → IsJudgedBy e.table input js → AnswersAs (answer_of js) (Says verdict_is)
     judged_so js judged = (judged.by_table passes served.checked).given s.version.mode s.version.records was_given
 
-  module _ (s : SignedZone) (ds : List Ds) (n : Name) (anchored : IsAnchored e zones anchor s ds) (said : StepSeen) (l : Option Lasting) (counts : Counts) (refusal : Option Refusal) where
+  module _ (s : SignedZone) (ds : List Ds) (n : Name) (anchored : IsAnchored e zones anchor s ds) (said : StepSeen) (l : Option Validity) (counts : Counts) (refusal : Option Refusal) where
     own_nothing : refers_to (zone_of s).zone n asked.rtype ≡ None → IsOwnStep e s.apex ds (asking asked n asked.rtype) said l counts → IsNothing said refusal → refusal ≡ Some r.Memory
     own_nothing none step nothing =
         let h : JudgeInput = input s ds n asked.rtype step.judged (inl refl) anchored none step.of in

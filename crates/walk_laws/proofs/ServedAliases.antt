@@ -9,17 +9,17 @@ use Rattle.definitions.specs.Zone.{Open, Verdict, Zone, is_open, verdict}
 use Rattle.definitions.proofs.VerdictCases.{verdict-open}
 use Rattle.denial_laws.specs.Aliases.{has_own_alias, is_aliased, is_redirected}
 use Rattle.messages.specs.Message.{Asked}
-use Rattle.answer_shared.specs.Served.{answer_groups, by_tag}
-use Rattle.answer_shared.specs.Told.{TellsGroups}
+use Rattle.answer_terms.specs.Served.{answer_groups, by_tag}
+use Rattle.answer_terms.specs.Told.{TellsGroups}
 use Rattle.answer_zone.specs.Finding.{finds, redirecting}
 use Rattle.alias_laws.specs.Leading.{leads_elsewhere}
 use Rattle.alias_laws.proofs.Leading.{aliased_is_led}
 use Rattle.answer_judge.specs.Meeting.{served_from}
-use Rattle.answer_judge.specs.Honest.{AreHonest, SaysOneOf}
+use Rattle.answer_judge.specs.Honest.{IsHonestInput, SaysOneOf}
 use Rattle.answer_judge.specs.Judged.{AnswersAs, judged}
 use Rattle.answer_judge.specs.Judging.{JudgeInput, Says, answer_of}
 use Rattle.answer_judge.specs.declared.verdict.Judgement.{Judgement}
-use Rattle.answer_judge_facts.specs.declared.lasting.Lasting.{Lasting}
+use Rattle.answer_judge_facts.specs.declared.validity.Validity.{Validity}
 use Rattle.answer_judge.specs.declared.verdict.Refusal.{Refusal}
 use Rattle.answer_judge.specs.declared.verdict.Refusal.TheVariants as r
 use Rattle.answer_judge.specs.declared.verdict.Refused.{Refused}
@@ -81,8 +81,8 @@ module _ (passes : Tried → Bool) (e : Given) (asked : Asked) (zones : List Sig
     abbrev LedHere : Type 0
     LedHere = IsLed (answers_with passes) pointer_limit input s.version.mode s.version.records given
 
-    honest_itself : AreHonest (answers_with of.passes) pointer_limit input (s.version ∷ [])
-    honest_itself = subst (λ (x : JudgeInput). AreHonest (answers_with of.passes) pointer_limit x (s.version ∷ [])) is.is (of.honest s ds (asking asked n t) h refl anchored is).itself
+    honest_itself : IsHonestInput (answers_with of.passes) pointer_limit input (s.version ∷ [])
+    honest_itself = subst (λ (x : JudgeInput). IsHonestInput (answers_with of.passes) pointer_limit x (s.version ∷ [])) is.is (of.honest s ds (asking asked n t) h refl anchored is).itself
 
     -- of a name that leads elsewhere no verdict is said, but that opt-out leaves it open
     honestly : leads_elsewhere z n t ≡ true → (js : Result Judgement Refused) → IsJudgedBy e.table input js → (v : Verdict) → answer_of js ≡ Says v → v ≡ Open
@@ -117,7 +117,7 @@ module _ (passes : Tried → Bool) (e : Given) (asked : Asked) (zones : List Sig
         go (ByDname d x y same) =
             inr (led_by_dname (answers_with passes) pointer_limit input s.version.mode s.version.records given d x y same, (λ i. not (x i) && (finds z n 5 || is_some (y i))) ∙ or_true (finds z n 5))
 
-  module _ (s : SignedZone) (ds : List Ds) (n : Name) (anchored : IsAnchored e zones anchor s ds) (said : StepSeen) (l : Option Lasting) (counts : Counts) (refusal : Option Refusal) where
+  module _ (s : SignedZone) (ds : List Ds) (n : Name) (anchored : IsAnchored e zones anchor s ds) (said : StepSeen) (l : Option Validity) (counts : Counts) (refusal : Option Refusal) where
     own_nothing : refers_to (zone_of s).zone n asked.rtype ≡ None → IsOwnStep e s.apex ds (asking asked n asked.rtype) said l counts → IsNothing said refusal → refusal ≡ Some r.Memory
     own_nothing none step nothing = go (either s ds n asked.rtype step.judged (inl refl) anchored none step.of)
       where

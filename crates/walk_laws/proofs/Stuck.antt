@@ -5,7 +5,7 @@ use Rattle.definitions.specs.Dnskey.{Ds}
 use Rattle.definitions.specs.Name.{Name, strictly_above}
 use Rattle.definitions.proofs.Members.{In}
 use Rattle.messages.specs.Message.{Asked}
-use Rattle.answer_judge_facts.specs.declared.lasting.Lasting.{Lasting}
+use Rattle.answer_judge_facts.specs.declared.validity.Validity.{Validity}
 use Rattle.answer_judge.specs.declared.verdict.Refusal.{Refusal}
 use Rattle.answer_judge.specs.declared.verdict.Refusal.TheVariants as r
 use Rattle.resolution_tree.specs.Tree.{Said, refers_to}
@@ -28,16 +28,16 @@ unanswered : (e : Given) (asked : Asked) (zone : Name) (ds : List Ds) (of : Name
 unanswered e asked zone ds of by name t refusal u = go u.said u.heard u.nothing
   where
     go : (said : StepSeen) → IsHeard e asked zone ds u.sought said → IsNothing said refusal → IsUnanswered e asked zone ds
-    go said (OfAnswer l n same step) nothing = record { refusal = refusal; counts = n; untold = record { said = said; nothing = nothing; lasting = l; step = step } }
+    go said (OfAnswer l n same step) nothing = record { refusal = refusal; counts = n; untold = record { said = said; nothing = nothing; validity = l; step = step } }
     go said (OfName l n between step cut) nothing = between.reached.untold
 
 -- What a zone's answer tells, to the question where it refers that nowhere, or for DS at a name below it: if that is nothing, memory ran
 -- out.
 pub record OnlyForMemory (e : Given) (asked : Asked) (zones : List SignedZone) (anchor : SignedZone) : Type 0 where
   pub own : (s : SignedZone) (ds : List Ds) (n : Name) → IsAnchored e zones anchor s ds → refers_to (zone_of s).zone n asked.rtype ≡ None
-      → (said : StepSeen) (l : Option Lasting) (counts : Counts) (refusal : Option Refusal) → IsOwnStep e s.apex ds (asking asked n asked.rtype) said l counts → IsNothing said refusal → refusal ≡ Some r.Memory
+      → (said : StepSeen) (l : Option Validity) (counts : Counts) (refusal : Option Refusal) → IsOwnStep e s.apex ds (asking asked n asked.rtype) said l counts → IsNothing said refusal → refusal ≡ Some r.Memory
   pub name : (s : SignedZone) (ds : List Ds) (n : Name) → IsAnchored e zones anchor s ds → refers_to (zone_of s).zone n 43 ≡ None → strictly_above s.apex n ≡ true
-      → (said : StepSeen) (l : Option Lasting) (counts : Counts) (refusal : Option Refusal) → IsNameStep e s.apex ds (asking asked n 43) said l counts → said ≡ at_cut said → IsNothing said refusal
+      → (said : StepSeen) (l : Option Validity) (counts : Counts) (refusal : Option Refusal) → IsNameStep e s.apex ds (asking asked n 43) said l counts → said ≡ at_cut said → IsNothing said refusal
       → refusal ≡ Some r.Memory
 
 module _ (e : Given) (asked : Asked) (cuts : ℕ) (zones : List SignedZone) (anchor : SignedZone) (names : List Name) (of : IsOfTree e asked.class zones anchor) (only : OnlyForMemory e asked zones anchor)
@@ -46,7 +46,7 @@ module _ (e : Given) (asked : Asked) (cuts : ℕ) (zones : List SignedZone) (anc
   last = renamed asked u.name
 
   -- of an answer for DS at a name between
-  by_name : (said : StepSeen) (l : Option Lasting) (n : Counts) → IsNothing said u.refusal → IsBetween e last u.zone.apex u.ds u.untold.sought → IsNameStep e u.zone.apex u.ds u.untold.sought said l n → said ≡ at_cut said
+  by_name : (said : StepSeen) (l : Option Validity) (n : Counts) → IsNothing said u.refusal → IsBetween e last u.zone.apex u.ds u.untold.sought → IsNameStep e u.zone.apex u.ds u.untold.sought said l n → said ≡ at_cut said
       → (u.rtype ≡ 43) × (u.refusal ≡ Some r.Memory)
   by_name said l n nothing between step cut = (
     u.untold.type_is ∙ ap (λ (q : Asked). q.rtype) between.is,
@@ -57,10 +57,10 @@ module _ (e : Given) (asked : Asked) (cuts : ℕ) (zones : List SignedZone) (anc
   -- of a zone that refers the question nowhere
   module _ (none : refers_to (zone_of u.zone).zone u.name asked.rtype ≡ None) where
     only_memory : (refusal : Option Refusal) (counts : Counts) → IsAnswerUntold e last u.zone.apex u.ds refusal counts → refusal ≡ Some r.Memory
-    only_memory refusal counts k = only.own u.zone u.ds u.name u.anchored none k.said k.lasting counts refusal k.step k.nothing
+    only_memory refusal counts k = only.own u.zone u.ds u.name u.anchored none k.said k.validity counts refusal k.step k.nothing
 
     memory_ends : (said : StepSeen) → IsHeard e last u.zone.apex u.ds u.untold.sought said → IsNothing said u.refusal → u.refusal ≡ Some r.Memory
-    memory_ends said (OfAnswer l n same step) nothing = only_memory u.refusal n (record { said = said; nothing = nothing; lasting = l; step = step })
+    memory_ends said (OfAnswer l n same step) nothing = only_memory u.refusal n (record { said = said; nothing = nothing; validity = l; step = step })
     memory_ends said (OfName l n between step cut) nothing = (by_name said l n nothing between step cut).1
 
     pub of_memory : RanOutOfMemory asked cuts zones anchor names e w

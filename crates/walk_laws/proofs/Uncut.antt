@@ -11,7 +11,7 @@ use Rattle.denial_laws.proofs.NameFacts.{above_cases, same_names, strictly-low, 
 use Rattle.denial_laws.proofs.ZoneCuts.{IsCut, cut_is, delegation_low, uncut}
 use Rattle.messages.specs.Message.{Asked}
 use Rattle.answer_judge.specs.Judging.{JudgeInput}
-use Rattle.answer_judge_facts.specs.declared.lasting.Lasting.{Lasting}
+use Rattle.answer_judge_facts.specs.declared.validity.Validity.{Validity}
 use Rattle.resolution_tree.specs.Orderly.{IsOrderlyZone}
 use Rattle.resolution_tree.specs.Tree.{refers_to}
 use Rattle.resolution_tree.proofs.Trees.{IsReferred, referred}
@@ -30,7 +30,7 @@ module _ (e : Given) (class : ℕ) (zones : List SignedZone) (anchor : SignedZon
   z = (zone_of s).zone
 
   -- what an answer for DS tells is so of the zone
-  name_so : (n : Name) (said : StepSeen) (l : Option Lasting) (m : Counts) → IsNameStep e s.apex ds (ds_at asked n) said l m → IsCutSo e.algorithms (zone_of s) n said
+  name_so : (n : Name) (said : StepSeen) (l : Option Validity) (m : Counts) → IsNameStep e s.apex ds (ds_at asked n) said l m → IsCutSo e.algorithms (zone_of s) n said
   name_so n said l m k =
       let of_zone : AreOfZone e.table k.judged s.version = record {
         passes = of.passes;
@@ -53,7 +53,7 @@ module _ (e : Given) (class : ℕ) (zones : List SignedZone) (anchor : SignedZon
       let long : length p ≡ length asked.name = same-length p asked.name (and_parts (same p asked.name) (asked.rtype == 43) is).0 in
       omega (arith, short, long)
   above_uncut before after p c short deleg above (Next lies rest told) =
-      uncut z (low p) (low-low p) (name_so p TellsNoCut told.lasting told.counts told.step) c deleg (above_lowered c p ∙ above)
+      uncut z (low p) (low-low p) (name_so p TellsNoCut told.validity told.counts told.step) c deleg (above_lowered c p ∙ above)
 
   parent_uncut : (before after : Counts) (n c : Name) → at_or_above n asked.name ≡ true → is_delegation z c ≡ true → strictly_above c n ≡ true → AreUncut e asked s.apex ds before (drop 1 n) after → ⊥
   parent_uncut before after [] c up deleg above u = false≢true above
@@ -82,12 +82,12 @@ module _ (e : Given) (class : ℕ) (zones : List SignedZone) (anchor : SignedZon
           let ds_is : (asked.rtype == 43) ≡ true = (and_parts (same asked.name asked.name) (asked.rtype == 43) is).1 in
           parent_uncut before after asked.name c (above_itself asked.name) k.delegation (above_name asked.name c asked.rtype ds_is r k) rest
       at_name before after r k (Next lies rest told) =
-          absurd (let both : None ≡ Some c = sym (name_so asked.name TellsNoCut told.lasting told.counts told.step) ∙ r.cut_is in cc)
+          absurd (let both : None ≡ Some c = sym (name_so asked.name TellsNoCut told.validity told.counts told.step) ∙ r.cut_is in cc)
 
       go : IsReferred z asked.name asked.rtype c → AreAllUncut e asked s.apex ds → ⊥
       go r (DownToName {before = before} {after = after} u) = at_name before after r (cut_is z (low asked.name) c (low-low asked.name) r.cut_is) u
       go r (DownToMissing m) =
-          let so = name_so m.name TellsNoneBelow m.told.lasting m.told.counts m.told.step in
+          let so = name_so m.name TellsNoneBelow m.told.validity m.told.counts m.told.step in
           let up : at_or_above (apex_of z) m.name ≡ true = lowered_above s.apex m.name ∙ strictly_at s.apex m.name m.lies.0 in
           absurd (let both : None ≡ Some c = sym (so.below asked.name up m.lies.1) ∙ r.cut_is in cc)
 

@@ -8,7 +8,7 @@ use Rattle.definitions.proofs.Members.{In, contained}
 use Rattle.definitions.proofs.ZoneNames.{lowered_above}
 use Rattle.denial_laws.specs.Leading.{To}
 use Rattle.messages.specs.Message.{Asked}
-use Rattle.answer_judge_facts.specs.declared.lasting.Lasting.{Lasting}
+use Rattle.answer_judge_facts.specs.declared.validity.Validity.{Validity}
 use Rattle.resolution_tree.specs.Laws.{AreAlike, TreesSayOne}
 use Rattle.resolution_tree.specs.Orderly.{IsOrderlyTree, IsOrderlyZone}
 use Rattle.resolution_tree.specs.Tree.{Said, Leads, Says, Resolves, Tree, TreeZone, is_bound, is_within, leads_on, refers_to, zone_at}
@@ -63,14 +63,14 @@ module _ (one : TreesSayOne) (e : Given) (class : ℕ) (zones : List SignedZone)
   anchored = record { there = of.anchor_there; by = inl (refl, refl) }
 
   -- the alias that evidence leads by is the tree's
-  pub led_so : (asked : Asked) → asked.class ≡ class → (n : Name) (l : Option Lasting) → Tells e asked (Leads (To n)) e.anchor e.ds l → Says known whole asked.name asked.rtype (Leads (To n)) from
+  pub led_so : (asked : Asked) → asked.class ≡ class → (n : Name) (l : Option Validity) → Tells e asked (Leads (To n)) e.anchor e.ds l → Says known whole asked.name asked.rtype (Leads (To n)) from
   led_so asked in_class n l x = tells_so e class zones anchor of asked in_class (Leads (To n)) e.anchor e.ds l anchor of.anchor_is anchored x
 
   alike_said : (asked : Asked) (a b : Said) → Says known whole asked.name asked.rtype a from → Says known whole asked.name asked.rtype b from → AreAlike a b
   alike_said asked a b x y = one known whole from asked.name asked.rtype a b in_order (of.in_order anchor of.anchor_there) x y
 
   -- where the tree ends, no alias leads on
-  pub not_led : (asked : Asked) → asked.class ≡ class → (said : Said) (n : Name) (l : Option Lasting) → Says known whole asked.name asked.rtype said from → leads_on said ≡ false → Tells e asked (Leads (To n)) e.anchor e.ds l → ⊥
+  pub not_led : (asked : Asked) → asked.class ≡ class → (said : Said) (n : Name) (l : Option Validity) → Says known whole asked.name asked.rtype said from → leads_on said ≡ false → Tells e asked (Leads (To n)) e.anchor e.ds l → ⊥
   not_led asked in_class said n l says ends x = go (alike_said asked said (Leads (To n)) says (led_so asked in_class n l x))
     where
       go : AreAlike said (Leads (To n)) → ⊥
@@ -78,7 +78,7 @@ module _ (one : TreesSayOne) (e : Given) (class : ℕ) (zones : List SignedZone)
       go (inr both) = both.1
 
   -- where it leads on, it leads to the same name
-  pub same_lead : (asked : Asked) → asked.class ≡ class → (m n : Name) (l : Option Lasting) → Says known whole asked.name asked.rtype (Leads (To m)) from → Tells e asked (Leads (To n)) e.anchor e.ds l → m ≡ n
+  pub same_lead : (asked : Asked) → asked.class ≡ class → (m n : Name) (l : Option Validity) → Says known whole asked.name asked.rtype (Leads (To m)) from → Tells e asked (Leads (To n)) e.anchor e.ds l → m ≡ n
   same_lead asked in_class m n l says x = go (alike_said asked (Leads (To m)) (Leads (To n)) says (led_so asked in_class n l x))
     where
       go : AreAlike (Leads (To m)) (Leads (To n)) → m ≡ n
@@ -100,8 +100,8 @@ module _ (one : TreesSayOne) (e : Given) (class : ℕ) (zones : List SignedZone)
         → Stops e asked ending cuts zone ds before after → IsOnWay ending asked cuts s
     stops_on_way asked in_class cuts zone ds before after s at a (Here judged stops) =
         record { zone = s; ds = ds; anchored = a; down = first_zone known whole asked.name asked.rtype cuts (zone_of s); deepest = λ n above none. first_deepest known whole asked.name asked.rtype cuts (zone_of s) n none; ends = subst (λ (n : Name). EndsAt e asked n ds ending) (sym at) stops }
-    stops_on_way asked in_class cuts zone ds before after s at a (Below {cuts = less} {c = c} {below = below} {between = between} lasting judged way more) =
-        let d : IsDown e zones anchor asked s c below = down_so e class zones anchor of asked in_class zone c ds below lasting s at a way in
+    stops_on_way asked in_class cuts zone ds before after s at a (Below {cuts = less} {c = c} {below = below} {between = between} validity judged way more) =
+        let d : IsDown e zones anchor asked s c below = down_so e class zones anchor of asked in_class zone c ds below validity s at a way in
         let rest : IsOnWay ending asked less d.child = stops_on_way asked in_class less c below between after d.child d.child_is d.anchored more in
         let hands : handed_down known whole asked.name asked.rtype (zone_of s) ≡ Some (zone_of d.child) = handed known whole asked.name asked.rtype (zone_of s) (zone_of d.child) c d.refers d.bound d.found in
         record {
@@ -112,7 +112,7 @@ module _ (one : TreesSayOne) (e : Given) (class : ℕ) (zones : List SignedZone)
           deepest = λ n above none. further_deepest known whole asked.name asked.rtype less (zone_of s) (zone_of d.child) n rest.zone.apex hands rest.down above (rest.deepest n above none);
           ends = rest.ends;
         }
-    stops_on_way asked in_class cuts zone ds before after s at a (TooDeep lasting judged way is) = absurd (no_cuts is)
+    stops_on_way asked in_class cuts zone ds before after s at a (TooDeep validity judged way is) = absurd (no_cuts is)
 
   -- ---- behind aliases
 
@@ -142,11 +142,11 @@ module _ (one : TreesSayOne) (e : Given) (class : ℕ) (zones : List SignedZone)
     reached cuts aliases asked in_class names through before after says (AtOnce w stops) = There (record { named = inl refl; before = before; after = after; stops = stops })
     reached cuts aliases asked in_class names through before after (tree.Ends w x end) (Elsewhere outside is same) = absurd (not_elsewhere asked w outside)
     reached cuts aliases asked in_class names through before after (tree.Led w x more) (Elsewhere outside is same) = absurd (not_elsewhere asked w outside)
-    reached cuts aliases asked in_class names through before after (tree.Ends w x end) (TooMany t led is same) = absurd (not_led asked in_class said t.name t.lasting x end led.tells)
+    reached cuts aliases asked in_class names through before after (tree.Ends w x end) (TooMany t led is same) = absurd (not_led asked in_class said t.name t.validity x end led.tells)
     reached cuts aliases asked in_class names through before after (tree.Led {ns = ms} w x more) (TooMany t led is same) = NoneLeft is (omega arith)
-    reached cuts aliases asked in_class names through before after (tree.Ends w x end) (Led t led stops) = absurd (not_led asked in_class said t.name t.lasting x end led.tells)
+    reached cuts aliases asked in_class names through before after (tree.Ends w x end) (Led t led stops) = absurd (not_led asked in_class said t.name t.validity x end led.tells)
     reached cuts aliases asked in_class names through before after (tree.Led {n = m} {ns = ms} w x more) (Led {aliases = less} {ns = rest} t led stops) =
-        let same : m ≡ t.name = same_lead asked in_class m t.name t.lasting x led.tells in
+        let same : m ≡ t.name = same_lead asked in_class m t.name t.validity x led.tells in
         let later : Resolves known whole from asked.rtype said t.name ms = subst (λ (n : Name). Resolves known whole from asked.rtype said n ms) same more in
         go same (reached cuts less (renamed asked t.name) in_class ms rest t.counts after later stops)
       where

@@ -13,10 +13,10 @@ use Rattle.messages.specs.Message.{Message, message}
 use Rattle.messages.specs.declared.error.MessageError.{MessageError}
 use Rattle.answer_scheme.specs.Answers.{Answers}
 use Rattle.answer_judge_rules.specs.Hashes.{hash_among}
-use Rattle.answer_shared.specs.Accepting.{sorted_records, zone_of}
-use Rattle.answer_shared.specs.Hashing.{hash_in}
-use Rattle.answer_shared.specs.Served.{Group, Served, ahead, answer_groups, chain_names, chain_record, proofs_of, served_of, soa, speaks_for, spoken}
-use Rattle.answer_shared.specs.Told.{TellsGroups}
+use Rattle.answer_terms.specs.Accepting.{sorted_records, zone_of}
+use Rattle.answer_terms.specs.Hashing.{hash_in}
+use Rattle.answer_terms.specs.Served.{ServedRrset, Served, ahead, answer_groups, chain_names, chain_record, proofs_of, served_of, soa, speaks_for, spoken}
+use Rattle.answer_terms.specs.Told.{TellsGroups}
 use Rattle.answer_judge.specs.Judging.{Answer, JudgeInput, Refuses, Says, is_judged}
 use Rattle.answer_judge_keys.specs.Trusted.{is_usable}
 use Rattle.answer_judge.specs.declared.verdict.Refusal.{Refusal}
@@ -54,12 +54,12 @@ no_and false = refl
 
 -- the records of a chain are of its types alone
 pub of_chain : (mode : Mode) (hash : Name → List ℕ) (apex : Name) (sorted : List HandedRr) (t : ℕ) → eqb 47 t ≡ false → eqb 50 t ≡ false → (ns : List Name)
-    → AllByRecursion (λ (g : Group). eqb g.rtype t ≡ false) (map (chain_record (served_of apex mode hash sorted)) ns)
+    → AllByRecursion (λ (g : ServedRrset). eqb g.rtype t ≡ false) (map (chain_record (served_of apex mode hash sorted)) ns)
 of_chain mode hash apex sorted t names hashes [] = tt
 of_chain Nsec hash apex sorted t names hashes (n ∷ ns) = (names, of_chain Nsec hash apex sorted t names hashes ns)
 of_chain (Nsec3 iterations salt optout) hash apex sorted t names hashes (n ∷ ns) = (hashes, of_chain (Nsec3 iterations salt optout) hash apex sorted t names hashes ns)
 
-pub unsigned : (n : Name) (t : ℕ) (gs : List Group) → AllByRecursion (λ (g : Group). eqb g.rtype t ≡ false) gs → list_any (is_signed_rrset n t) gs ≡ false
+pub unsigned : (n : Name) (t : ℕ) (gs : List ServedRrset) → AllByRecursion (λ (g : ServedRrset). eqb g.rtype t ≡ false) gs → list_any (is_signed_rrset n t) gs ≡ false
 unsigned n t [] h = refl
 unsigned n t (g ∷ gs) h = or_from (is_signed_rrset n t g) (list_any (is_signed_rrset n t) gs) (ap (λ b. (b && same g.owner n) && g.signed) h.0) (unsigned n t gs h.1)
 
@@ -91,7 +91,7 @@ module _ (a : Answers) (k : ℕ) (h : JudgeInput) (n : Name) (mode : Mode) (rs :
     m = h.answer_bytes
 
     -- the SOA record, and the chain's that speak for the name
-    abbrev groups : List Group
+    abbrev groups : List ServedRrset
     groups = soa s ∷ proofs_of s (low n ∷ [])
 
     groups_are : answer_groups s n 43 ≡ groups
@@ -100,7 +100,7 @@ module _ (a : Answers) (k : ℕ) (h : JudgeInput) (n : Name) (mode : Mode) (rs :
     tells : TellsGroups a.verifies k m read.records h.apex given.at given.life given.keys groups
     tells = subst (TellsGroups a.verifies k m read.records h.apex given.at given.life given.keys) groups_are given.groups_are
 
-    of_types : (t : ℕ) → eqb 6 t ≡ false → eqb 47 t ≡ false → eqb 50 t ≡ false → AllByRecursion (λ (g : Group). eqb g.rtype t ≡ false) groups
+    of_types : (t : ℕ) → eqb 6 t ≡ false → eqb 47 t ≡ false → eqb 50 t ≡ false → AllByRecursion (λ (g : ServedRrset). eqb g.rtype t ≡ false) groups
     of_types t start names hashes = (start, of_chain mode (hash_in a.hash mode) h.apex (sorted_records rs) t names hashes (filter (λ o. list_any (speaks_for s o) (low n ∷ [])) (chain_names s)))
 
     ordinary : AllByRecursion is_ordinary groups

@@ -8,7 +8,7 @@ use Rattle.definitions.specs.Zone.{Verdict, NoType, verdict}
 use Rattle.definitions.specs.ZoneChain.{Mode, optout_of}
 use Rattle.messages.specs.HandedRr.{HandedRr}
 use Rattle.messages.specs.Message.{Asked}
-use Rattle.answer_shared.specs.Accepting.{zone_of}
+use Rattle.answer_terms.specs.Accepting.{zone_of}
 use Rattle.answer_judge.specs.Judged.{AnswersAs, judged}
 use Rattle.answer_judge.specs.Judging.{JudgeInput, Refuses, Says, answer_of}
 use Rattle.answer_judge.specs.declared.verdict.Refusal.TheVariants as r

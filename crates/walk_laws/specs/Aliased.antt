@@ -11,12 +11,12 @@ use Rattle.messages.specs.HandedRr.{HandedRr}
 use Rattle.messages.specs.Message.{Asked}
 use Rattle.messages.specs.WrittenLaws.{IsQuestion}
 use Rattle.answer_scheme.specs.Answers.{Answers}
-use Rattle.answer_shared.specs.Accepting.{zone_of}
-use Rattle.answer_shared.specs.Asking.{is_allowed}
-use Rattle.answer_shared.specs.EqualTags.{has_equal_tags}
-use Rattle.answer_shared.specs.Hashing.{HashesHold}
-use Rattle.answer_shared.specs.Served.{answer_groups, by_tag}
-use Rattle.answer_shared.specs.Told.{Tells}
+use Rattle.answer_terms.specs.Accepting.{zone_of}
+use Rattle.answer_terms.specs.Asking.{is_allowed}
+use Rattle.answer_terms.specs.EqualTags.{has_equal_tags}
+use Rattle.answer_terms.specs.Hashing.{HashesHold}
+use Rattle.answer_terms.specs.Served.{answer_groups, by_tag}
+use Rattle.answer_terms.specs.Told.{Tells}
 use Rattle.answer_zone.specs.Finding.{finds, redirecting}
 use Rattle.answer_zone_records.specs.AliasFaults.{IsAcceptedWithAliases}
 use Rattle.answer_judge.specs.Meeting.{holds, served_from}

@@ -9,7 +9,7 @@ use Rattle.definitions.specs.Signing.{Fields, fields_data, label_count, signed_o
 use Rattle.definitions.specs.ZoneChain.{Nsec}
 use Rattle.messages.specs.HandedRr.{HandedRr}
 use Rattle.messages.specs.Message.{Asked}
-use Rattle.answer_judge_facts.specs.declared.lasting.Lasting.{Lasting}
+use Rattle.answer_judge_facts.specs.declared.validity.Validity.{Validity}
 use Rattle.resolution_step.specs.Table.{Checked, Tried, checked, tried}
 use Rattle.resolution_step.specs.Versions.{Version}
 use Rattle.resolution_evidence.specs.Given.{Given, Message}
@@ -117,5 +117,5 @@ evidence = record {
 }
 
 -- how long what it tells lasts: the TTL, and the seconds up to the last one of the signatures
-abbrev pub lasting : Lasting
-lasting = record { ttl = 3600; seconds = 500 }
+abbrev pub validity : Validity
+validity = record { ttl = 3600; seconds = 500 }

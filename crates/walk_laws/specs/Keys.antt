@@ -6,8 +6,8 @@ use Rattle.definitions.specs.Name.{Name}
 use Rattle.definitions.specs.ZoneChain.{Mode}
 use Rattle.messages.specs.HandedRr.{HandedRr}
 use Rattle.answer_scheme.specs.Answers.{Answers}
-use Rattle.answer_shared.specs.EqualTags.{has_equal_tags}
-use Rattle.answer_shared.specs.Told.{TellsKeys}
+use Rattle.answer_terms.specs.EqualTags.{has_equal_tags}
+use Rattle.answer_terms.specs.Told.{TellsKeys}
 use Rattle.answer_judge.specs.Meeting.{HasDs, WasGiven, holds}
 use Rattle.answer_judge.specs.Judged.{AnswersAs, judged}
 use Rattle.answer_judge.specs.Judging.{Answer, Says, Refuses, JudgeInput}

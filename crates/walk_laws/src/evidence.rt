@@ -4,7 +4,7 @@ ghost use Rattle.definitions.specs.Zone.{Records};
 ghost use Rattle.resolution_tree.specs.Tree.{Secure};
 ghost use Rattle.resolution_evidence.specs.Truth.{IsOfTree};
 ghost use Rattle.resolution_evidence.specs.Walking.{Follows};
-ghost use Rattle.walk_laws.specs.Evidence.{address, evidence, example, lasting};
+ghost use Rattle.walk_laws.specs.Evidence.{address, evidence, example, validity};
 ghost use Rattle.walk_laws.specs.Evidence.{question, zone};
 
 /// There is evidence of a tree: a trust anchor and two messages of its zone, whose signatures pass.
@@ -17,5 +17,5 @@ pub fn some_evidence_is_of_a_tree()
 /// for how long.
 pub fn some_evidence_tells_a_verdict()
     ensures { let said = Secure example (Records (address ∷ [])) in
-        Follows evidence said question [] (Some lasting) }
+        Follows evidence said question [] (Some validity) }
 {}

@@ -1,4 +1,4 @@
-//! Laws of calling a walk again and again, each time with what the call before wanted.
+//! Laws about a caller that repeats a walk, each time with what the last call wanted.
 #![tactic(auto)]
 
 pub mod evidence;

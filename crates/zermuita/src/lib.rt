@@ -1,6 +1,6 @@
-//! The library for C and for all that calls C: a judgement and a walk from octets to octets, and
-//! what their replies say in words. `include/zermuita.h` declares it, and has the calls over it
-//! that C programs make.
+//! The library for C and languages that call C: judgements and walks from bytes to bytes, and the
+//! texts of replies. `include/zermuita.h` declares it, and has the calls for C programs on top of
+//! it.
 #![tactic(auto)]
 
 mod texts;
@@ -31,13 +31,13 @@ pub struct Text {
 #[unsafe(no_mangle)]
 pub extern "C" fn zermuita_judge_case(
     alloc: Global,
-    handed: &OctetCase,
+    case: &OctetCase,
     out: &mut [u8],
     report: &mut Report,
 ) -> u32
-    ensures { AnswersNumber handed.now out.old out.new report.old report.new result }
+    ensures { AnswersNumber case.now out.old out.new report.old report.new result }
 {
-    judge_octets(alloc, handed, out, report).number()
+    judge_octets(alloc, case, out, report).number()
 }
 
 /// Walks as [`resolve_octets`] does, and gives the number of its code. It takes memory by the
@@ -45,13 +45,13 @@ pub extern "C" fn zermuita_judge_case(
 #[unsafe(no_mangle)]
 pub extern "C" fn zermuita_resolve_evidence(
     alloc: Global,
-    handed: &OctetEvidence,
+    evidence: &OctetEvidence,
     out: &mut [u8],
     report: &mut Report,
 ) -> u32
-    ensures { AnswersWalk handed.now out.old out.new report.old report.new result }
+    ensures { AnswersWalk evidence.now out.old out.new report.old report.new result }
 {
-    resolve_octets(alloc, handed, out, report).number()
+    resolve_octets(alloc, evidence, out, report).number()
 }
 
 /// Whether a reply is a verdict, as 1 or 0.

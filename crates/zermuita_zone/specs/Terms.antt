@@ -2,7 +2,7 @@
 use Rattle.std.specs.Prelude.{false, Some, None, nat_eq, if◌then◌else◌}
 use Rattle.sha2.specs.Sha256.{sha256}
 use Rattle.denial_nsec3_sha1.specs.Iterated.{answered}
-use Rattle.answer_shared.specs.Hashing.{Hasher}
+use Rattle.answer_terms.specs.Hashing.{Hasher}
 use Rattle.answer_publisher.specs.World.{World, world_of}
 use Rattle.server_zone.specs.States.{Digest}
 use Rattle.zermuita_zone.specs.declared.opened.OpenZone.{OpenZone}

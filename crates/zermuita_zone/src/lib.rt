@@ -1,5 +1,5 @@
-//! The library for C of a zone that is served. `include/zermuita_zone.h` declares it, and
-//! `tools/install` puts it beside the library that judges, into one archive.
+//! The library for C that serves a zone. `include/zermuita_zone.h` declares it, and `tools/install`
+//! puts both libraries into one archive.
 #![tactic(auto)]
 
 mod handle;

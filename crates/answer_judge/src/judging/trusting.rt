@@ -7,12 +7,12 @@ ghost use Rattle.answer_judge.specs.Stages.{FindsSigned, FindsUnsigned, trusting
 ghost use Rattle.answer_judge_facts.specs.Asked.{Implies, is_tried_among};
 ghost use Rattle.answer_judge_keys.specs.Trusted.{is_signature, is_usable};
 ghost use Rattle.answer_judge.specs.Judged.{trusting};
-ghost use Rattle.answer_judge_facts.specs.Lasting.{answer_lasting, key_seconds, least_of};
+ghost use Rattle.answer_judge_facts.specs.Validity.{answer_validity, key_seconds, least_or_max};
 ghost use Rattle.answer_judge_keys.specs.DnskeyAnswer.{keys_in};
 ghost use Rattle.answer_judge_facts.specs.Sought.{answer_sought, keys_sought};
 ghost use Rattle.answer_judge_facts.specs.VerifiedProof.{IsVerifiedProof};
 ghost use Rattle.answer_scheme.specs.Answers.{EachAgreeing, SignatureTest};
-ghost use Rattle.answer_shared.specs.EqualTags.{has_equal_tags};
+ghost use Rattle.answer_terms.specs.EqualTags.{has_equal_tags};
 
 use crate::case::Case;
 use crate::verdict::Refusal;
@@ -80,7 +80,7 @@ pub(crate) fn keys_that_may_sign<'a, C: Checks>(
         (C.agrees check_run.new.checks.now) (λ a. let h = case.now in
         let ks = keys.entry.items in let w = trusting_named a h ks in
         let all = key_seconds w pointer_limit h.dnskey_bytes (map spelled records.now) ks in
-        IfOk result (λ _. seconds.new ≡ least_of all)) }
+        IfOk result (λ _. seconds.new ≡ least_or_max all)) }
     ensures agrees { (test : SignatureTest) → C.agrees check_run.new.checks.now test
         → C.agrees check_run.old.checks.now test }
     ensures asked { (test : SignatureTest) → let a = C.answers check_run.old.checks.now in
@@ -132,7 +132,7 @@ pub(crate) fn read_proof<'a, C: Checks>(
         (C.agrees check_run.new.checks.now) (λ a. let h = case.now in
         let w = trusting a h keys.now in let rs = map spelled records.now in
         let m = h.answer_bytes in let q = h.asked.name in let t = h.asked.rtype in
-        IfOk result (λ p. p.lasting ≡ answer_lasting w pointer_limit m rs q t)) }
+        IfOk result (λ p. p.validity ≡ answer_validity w pointer_limit m rs q t)) }
     ensures agrees { (test : SignatureTest) → C.agrees check_run.new.checks.now test
         → C.agrees check_run.old.checks.now test }
     ensures asked { (test : SignatureTest) → let a = C.answers check_run.old.checks.now in

@@ -11,7 +11,7 @@ use crate::publishing::Publisher;
 use crate::signing::{SigningInput, push_inputs};
 use answer_publisher_keys::keys::Publication;
 use answer_scheme::scheme::Scheme;
-use answer_shared::question::is_allowed;
+use answer_terms::question::is_allowed;
 use denial_nsec3_hash::hasher::Nsec3Hasher;
 use keyset::UnixTime;
 use messages::question::Question;

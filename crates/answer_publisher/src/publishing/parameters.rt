@@ -9,9 +9,9 @@ ghost use Rattle.answer_publisher.specs.Parameters.{AnswersParameters, OfBoth, R
 ghost use Rattle.answer_publisher.specs.World.{world_of, world_with};
 ghost use Rattle.answer_publisher_keys.specs.Bindings.{keys_by_tag};
 ghost use Rattle.answer_scheme.specs.Moments.{second_of};
-ghost use Rattle.answer_shared.specs.GroupView.{Presents};
-ghost use Rattle.answer_shared.specs.ModeView.{mode_of};
-ghost use Rattle.answer_shared.specs.Served.{ttl_among};
+ghost use Rattle.answer_terms.specs.GroupView.{Presents};
+ghost use Rattle.answer_terms.specs.ModeView.{mode_of};
+ghost use Rattle.answer_terms.specs.Served.{ttl_among};
 
 use crate::compose::compose_answer;
 use crate::fault::AnswerFault;
@@ -19,7 +19,7 @@ use crate::publishing::Publisher;
 use crate::signing::{SigningInput, push_inputs};
 use answer_publisher_keys::keys::Publication;
 use answer_scheme::scheme::Scheme;
-use answer_shared::mode::Mode;
+use answer_terms::mode::Mode;
 use answer_zone::zone::answers::AUTHORITATIVE;
 use answer_zone_records::group::RrGroup;
 use answer_zone_records::octets::written_octets;

@@ -3,8 +3,8 @@ ghost use Rattle.std.specs.Prelude.{◌≡◌, ◌↔◌, true, map, IfErr, IsEr
 ghost use Rattle.std.specs.List.{AllByRecursion};
 ghost use Rattle.messages.specs.Handed.{IsHanded};
 ghost use Rattle.messages.specs.HandedRr.{handed_of};
-ghost use Rattle.answer_shared.specs.Accepted.{IsAccepted};
-ghost use Rattle.answer_shared.specs.Accepting.{sorted_records};
+ghost use Rattle.answer_terms.specs.Accepted.{IsAccepted};
+ghost use Rattle.answer_terms.specs.Accepting.{sorted_records};
 ghost use Rattle.answer_zone.specs.HashedZone.{accepted_zone};
 ghost use Rattle.answer_publisher.specs.Replacing.{RefusesReplacement, is_too_soon, refused_ahead};
 

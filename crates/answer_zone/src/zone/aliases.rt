@@ -4,14 +4,14 @@ ghost use Rattle.std.specs.List.{AllByRecursion};
 ghost use Rattle.definitions.specs.Name.{IsName};
 ghost use Rattle.messages.specs.Handed.{IsHanded};
 ghost use Rattle.messages.specs.HandedRr.{handed_of};
-ghost use Rattle.answer_shared.specs.Accepting.{sorted_records};
-ghost use Rattle.answer_shared.specs.ModeView.{mode_of};
+ghost use Rattle.answer_terms.specs.Accepting.{sorted_records};
+ghost use Rattle.answer_terms.specs.ModeView.{mode_of};
 ghost use Rattle.answer_zone.specs.Contents.{IsContents};
 ghost use Rattle.answer_zone_records.specs.AliasFaults.{IsAcceptedWithAliases, RefusesZoneWithAliases};
 
 use crate::zone::ZoneRecords;
 use crate::zone::contents::{Contents, contents_in_order};
-use answer_shared::mode::Mode;
+use answer_terms::mode::Mode;
 use answer_zone_records::alias_faults::first_plain_fault;
 use answer_zone_records::fault::ZoneFault;
 use denial_nsec3_hash::hasher::Nsec3Hasher;

@@ -6,11 +6,11 @@ ghost use Rattle.definitions.specs.Zone.{NoName, StarRecords, cut_above, exists,
 ghost use Rattle.definitions.specs.ZoneChain.{optout_of};
 ghost use Rattle.denial_laws.specs.OwnFacts.{spoken};
 ghost use Rattle.denial_laws.specs.Truth.{concerned};
-ghost use Rattle.answer_shared.specs.GroupView.{Adds, Presents};
-ghost use Rattle.answer_shared.specs.HashedLinks.{hashed_said_of};
-ghost use Rattle.answer_shared.specs.Hashing.{hash_in};
-ghost use Rattle.answer_shared.specs.Links.{said_of};
-ghost use Rattle.answer_shared.specs.Served.{chain_ttl, expanded, if_any, proofs_of, rrset, soa, under, unsigned_ns};
+ghost use Rattle.answer_terms.specs.GroupView.{Adds, Presents};
+ghost use Rattle.answer_terms.specs.HashedLinks.{hashed_said_of};
+ghost use Rattle.answer_terms.specs.Hashing.{hash_in};
+ghost use Rattle.answer_terms.specs.Links.{said_of};
+ghost use Rattle.answer_terms.specs.Served.{chain_ttl, expanded, if_any, proofs_of, rrset, soa, under, unsigned_ns};
 ghost use Rattle.answer_zone.specs.Around.{IsAround};
 ghost use Rattle.answer_zone_records.specs.OwnedRecords.{owned_by};
 ghost use Rattle.answer_zone_records.specs.Round.{IsCircle, IsRound};
@@ -23,7 +23,7 @@ ghost use Rattle.answer_zone.specs.Questions.{AnswersItself, IsPlain, LeavesOpen
 use crate::zone::ZoneRecords;
 use crate::zone::around::Around;
 use crate::zone::asked::Asked;
-use answer_shared::mode::Mode;
+use answer_terms::mode::Mode;
 use answer_zone_records::chain::{ChainLink, push_links};
 use answer_zone_records::chains::Chain;
 use answer_zone_records::group::RrGroup;

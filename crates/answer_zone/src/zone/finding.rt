@@ -3,16 +3,16 @@ ghost use Rattle.std.specs.Prelude.{◌≡◌, false, IfOk};
 ghost use Rattle.std.specs.List.{list_any};
 ghost use Rattle.definitions.specs.Name.{low};
 ghost use Rattle.definitions.specs.Zone.{exists, is_live};
-ghost use Rattle.answer_shared.specs.Accepting.{is_alias};
-ghost use Rattle.answer_shared.specs.ModeView.{mode_of};
-ghost use Rattle.answer_zone.specs.Finding.{finds, links_names, redirecting, redirects};
+ghost use Rattle.answer_terms.specs.Accepting.{is_alias};
+ghost use Rattle.answer_terms.specs.ModeView.{mode_of};
+ghost use Rattle.answer_zone.specs.Finding.{finds, links_names, redirecting, zone_redirects};
 ghost use Rattle.answer_zone.specs.Placed.{IsNear};
 ghost use Rattle.answer_zone.specs.Questions.{AnswersItself, zone_of};
 ghost use Rattle.answer_zone_records.specs.OwnedRecords.{owned_by};
 
 use crate::zone::ZoneRecords;
 use crate::zone::asked::Asked;
-use answer_shared::mode::Mode;
+use answer_terms::mode::Mode;
 use answer_zone_records::near::Neighbours;
 use answer_zone_records::owned::Owned;
 use denial_nsec3_hash::hasher::Nsec3Hasher;
@@ -137,7 +137,7 @@ impl<'h, H: Nsec3Hasher> ZoneRecords<'h, H> {
 
     /// Whether a DNAME stands at a name, at or below the apex and below no delegation.
     fn redirects(&self, name: &Name<Vec<u8>>) -> bool
-        ensures { result ≡ redirects (zone_of self.now) (low name.now) }
+        ensures { result ≡ zone_redirects (zone_of self.now) (low name.now) }
     {
         self.has(name, Rtype::DNAME) && self.is_live(name)
     }

@@ -3,7 +3,7 @@ ghost use Rattle.std.specs.Prelude.{◌≡◌, ◌&&◌, false, true, IfSome, Is
 ghost use Rattle.std.specs.List.{list_any};
 ghost use Rattle.definitions.specs.Name.{low, at_or_above};
 ghost use Rattle.definitions.specs.Zone.{cut_above, has, exists};
-ghost use Rattle.answer_shared.specs.Served.{ttl_among};
+ghost use Rattle.answer_terms.specs.Served.{ttl_among};
 ghost use Rattle.answer_zone_records.specs.Near.{shows};
 ghost use Rattle.answer_zone_records.specs.OwnedRecords.{owned_by};
 ghost use Rattle.answer_zone.specs.Placed.{IsCutRecords, IsNear};

@@ -5,7 +5,7 @@ ghost use Rattle.std.specs.Option.{option_map};
 ghost use Rattle.definitions.specs.Name.{low};
 ghost use Rattle.definitions.specs.Reference.{verdict_of};
 ghost use Rattle.denial_laws.specs.NsecRules.{first_some};
-ghost use Rattle.denial_laws.specs.Nsec3Rules.{is_at, covers_hash, is_matched, at_hash, encloses, cut_above, star_at, beyond, enclosed, climbed, hash_denied, last_labels, hash_expanded_by, hash_expanded};
+ghost use Rattle.denial_laws.specs.Nsec3Rules.{is_at, covers_hash, is_matched, at_hash, encloses, cut_above, star_at, beyond, enclosed, by_closest_encloser, hash_denied, last_labels, hash_expanded_by, hash_expanded};
 
 use crate::reference::facts::{NameHash, PlainHashLink, PlainRrset};
 use crate::reference::linked::{at_name, has_dname, is_cut, star_lacks};
@@ -194,7 +194,7 @@ fn enclosed<H: NameHash>(
     )
 }
 
-fn climbed<H: NameHash>(
+fn by_closest_encloser<H: NameHash>(
     alloc: Global,
     apex: &[Octets],
     hash: &H,
@@ -203,7 +203,7 @@ fn climbed<H: NameHash>(
     rtype: u16,
 ) -> Result<Option<PlainVerdict>, AllocError>
     ensures { IfOk result (λ v. option_map verdict_of v
-        ≡ climbed apex.now (H.hash_of hash.now) name.now rtype links.now) }
+        ≡ by_closest_encloser apex.now (H.hash_of hash.now) name.now rtype links.now) }
 {
     let Some((_, parent)) = name.split_first() else {
         return Ok(None);
@@ -215,7 +215,7 @@ fn climbed<H: NameHash>(
     if is_matched(links, at.as_slice()) {
         enclosed(alloc, apex, hash, links, name, parent, rtype)
     } else {
-        climbed(alloc, apex, hash, links, parent, rtype)
+        by_closest_encloser(alloc, apex, hash, links, parent, rtype)
     }
 }
 
@@ -235,7 +235,7 @@ pub(super) fn denied<H: NameHash>(
     if is_matched(links, at.as_slice()) {
         Ok(first_at_hash(apex, links, name, rtype, at.as_slice()))
     } else {
-        climbed(alloc, apex, hash, links, name, rtype)
+        by_closest_encloser(alloc, apex, hash, links, name, rtype)
     }
 }
 

@@ -1,7 +1,7 @@
 use Rattle.std.proofs.Common.{◌≡◌, List, rules, map, subst, sym, ap, ◌∙◌}
-use Rattle.answer_shared.specs.Accepting.{sorted_records}
+use Rattle.answer_terms.specs.Accepting.{sorted_records}
 use Rattle.answer_zone.specs.HashedZone.{accepted_zone}
-use Rattle.answer_shared.specs.ModeView.{mode_of}
+use Rattle.answer_terms.specs.ModeView.{mode_of}
 use Rattle.messages.specs.HandedRr.{HandedRr, handed_of}
 use Rattle.answer.specs.Running.{sofar}
 use Rattle.answer_laws.specs.Simulating.{begin, with_records}

@@ -7,4 +7,4 @@ use Rattle.answer_findings.proofs.sought.judged_ds.Goals as goal
 pub returns : goal.returns
 returns c =
     let wanted = ds_question pointer_limit c.args.case.now (answer_of c.args.own.now) c.args.leads in
-    sought c.args.table.now c.args.case.now c.judged_aside.result _ wanted c.in_ok-question.ensures c.judged_aside.ensures
+    sought c.args.table.now c.args.case.now c.judge_other_question.result _ wanted c.in_ok-question.ensures c.judge_other_question.ensures

@@ -14,11 +14,11 @@ use Rattle.answer_judge.specs.Due.{hashes_beyond, hashes_of_proof}
 use Rattle.answer_judge.specs.Judged.{AnswersAs, ds_authenticates_keys, judged_beyond, judged_proof, said, trusting}
 use Rattle.answer_judge.specs.Judging.{JudgeInput, IsRead, Refuses, RefusesFirst, message_refusal}
 use Rattle.answer_judge_keys.specs.DnskeyAnswer.{keys_in}
-use Rattle.answer_judge_facts.specs.Lasting.{answer_lasting}
+use Rattle.answer_judge_facts.specs.Validity.{answer_validity}
 use Rattle.answer_judge_facts.specs.Sought.{answer_sought}
 use Rattle.answer_judge_facts.specs.Times.{are_unlike, proof_times}
 use Rattle.answer_judge_facts.specs.Verified.{verified_facts}
-use Rattle.answer_judge_facts.specs.declared.lasting.Lasting.{Lasting}
+use Rattle.answer_judge_facts.specs.declared.validity.Validity.{Validity}
 use Rattle.answer_judge.specs.declared.verdict.Refusal.{Refusal}
 use Rattle.answer_judge_facts.proofs.JudgeAsked.{agreed, agreed_by}
 use Rattle.answer_judge.proofs.Decided.{enough, few, last}
@@ -208,8 +208,8 @@ returns-clause-lasts g c = λ test fits.
     let later_own = c.in_ok-usable.ensures.same in
     let second = agreed_by own _ test _ later_own at_proof in
     let later = ap (λ x. with_test x test) later_own in
-    let lasting = c.in_ok-proof.ensures.lasts test second ∙ ap (λ x. answer_lasting (trusting x h held) pointer_limit h.answer_bytes read_rs h.asked.name h.asked.rtype) later in
-    on_ok c.judge_proof.result _ (ap (λ (l : Lasting). Some l) c.shortened.ensures ∙ lasts_as a h keys answer rs ks both held usable read_rs all_read c.keys_that_may_sign.new.seconds c.in_ok-proof.proof.lasting (c.in_ok-usable.ensures.lasts test at_keys) lasting)
+    let validity = c.in_ok-proof.ensures.lasts test second ∙ ap (λ x. answer_validity (trusting x h held) pointer_limit h.answer_bytes read_rs h.asked.name h.asked.rtype) later in
+    on_ok c.judge_proof.result _ (ap (λ (l : Validity). Some l) c.shortened.ensures ∙ lasts_as a h keys answer rs ks both held usable read_rs all_read c.keys_that_may_sign.new.seconds c.in_ok-proof.proof.validity (c.in_ok-usable.ensures.lasts test at_keys) validity)
 
 -- ---- all that are verified are tried of the messages
 

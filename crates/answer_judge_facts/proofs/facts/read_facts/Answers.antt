@@ -11,12 +11,12 @@ use Rattle.answer_judge_facts.specs.Marked.{held_by, is_chain, marked}
 use Rattle.answer_judge_facts.specs.Ranked.{AreRanked, AskedLast, chain_cmp}
 use Rattle.answer_judge_facts.specs.Sought.{answer_sought}
 use Rattle.answer_judge_facts.specs.Verified.{Trusting}
-use Rattle.answer_judge_facts.specs.declared.groups.Group.{Group}
+use Rattle.answer_judge_facts.specs.declared.groups.SignedRrset.{SignedRrset}
 use Rattle.answer_judge_facts.proofs.GroupPlaces.{ranked_next}
 use Rattle.answer_judge_facts.proofs.JudgeAsked.{sought_passes}
 use Rattle.answer_judge_facts.proofs.JudgeCounted.{tries_are}
 use Rattle.answer_judge_facts.proofs.JudgeFacts.{facts_verified, marked_last, over}
-use Rattle.answer_judge_facts.proofs.JudgeLasting.{seconds_are, ttls_are}
+use Rattle.answer_judge_facts.proofs.JudgeValidity.{seconds_are, ttls_are}
 use Rattle.answer_judge_facts.proofs.JudgeSought.{answer_is}
 use Rattle.answer_judge_facts.proofs.JudgeTimes.{times_verified}
 use Rattle.answer_judge_facts.proofs.facts.read_facts.Goals as goal
@@ -79,12 +79,12 @@ returns-clause-lasts g c = λ test h.
     let all = over now old.items old.len len ∙ c.in_ok-verify_groups.ensures.marked test h in
     let new = c.deref-3.result.now in
     let marks = c.deref-3.ensures.value ∙ all in
-    let ttl = c.lasting_of-lasting.ensures.ttl ∙ ttls_are w m rs q t gs sought new marks in
-    let seconds = c.lasting_of-lasting.ensures.seconds ∙ seconds_are w m rs q t gs sought new marks in
+    let ttl = c.validity_of_groups-validity.ensures.ttl ∙ ttls_are w m rs q t gs sought new marks in
+    let seconds = c.validity_of_groups-validity.ensures.seconds ∙ seconds_are w m rs q t gs sought new marks in
     λ i. record { ttl = ttl i; seconds = seconds i }
 
-pub lasting_of-lasting-requires : goal.lasting_of-lasting-requires
-lasting_of-lasting-requires g c =
+pub validity_of_groups-validity-requires : goal.validity_of_groups-validity-requires
+validity_of_groups-validity-requires g c =
     let own = g.C.Checks.answers c.args.check_run.now.checks.now in
     let m = c.args.message.now in
     let rs = map spelled c.args.records.now in
@@ -95,7 +95,7 @@ lasting_of-lasting-requires g c =
     subst AreRanked (sym (c.deref-3.ensures.value ∙ over now old.items old.len len)) (ranked_next (held_by own c.args.trust.now) m rs c.deref_mut.result.now now (c.in_ok-verify_groups.ensures.marked own.verifies (inl refl)) ranked)
 
 -- what passes for the signatures that are tried passes for the groups of what is sought
-module _ (test : SignatureTest) (w : Trusting) (m : List ℕ) (rs : List Spelled) (q : Name) (t : ℕ) (gs now : List Group) (is : now ≡ gs) (last : AskedLast m w.apex rs q t gs) where
+module _ (test : SignatureTest) (w : Trusting) (m : List ℕ) (rs : List Spelled) (q : Name) (t : ℕ) (gs now : List SignedRrset) (is : now ≡ gs) (last : AskedLast m w.apex rs q t gs) where
   groups_pass : Implies (is_tried_among w pointer_limit m (answer_sought pointer_limit m w.apex rs q t) [] rs) test → PassesGroups test w m now rs
   groups_pass passes = subst (λ ys. PassesGroups test w m ys rs) (sym is) (sought_passes test w m (answer_sought pointer_limit m w.apex rs q t) gs rs (answer_is m w.apex rs q t gs last) passes)
 

@@ -1,9 +1,9 @@
 use Rattle.std.proofs.Common.{rules, ◌≡◌, false, subst, ◌||◌, [], ◌∷◌, ◌+◌, ◌++◌, map, take, drop, length, refl, inl, sym, ap, ◌∙◌, arith}
 use Rattle.std.specs.Prelude.{MatchOption, Some, is_some}
 use Rattle.definitions.specs.Limits.{pointer_limit}
-use Rattle.answer_judge_facts.specs.declared.groups.Group.{Group}
+use Rattle.answer_judge_facts.specs.declared.groups.SignedRrset.{SignedRrset}
 use Rattle.answer_judge_facts.specs.Asked.{PassesGroups}
-use Rattle.answer_judge_facts.specs.Lasting.{least_of}
+use Rattle.answer_judge_facts.specs.Validity.{least_or_max}
 use Rattle.answer_judge_facts.specs.Verified.{is_verified}
 use Rattle.answer_judge_facts.proofs.JudgeMarks.{marked_is}
 use Rattle.messages.specs.Record.{spelled}
@@ -13,7 +13,7 @@ use Rattle.answer_scheme.specs.Answers.{with_test}
 use Rattle.answer_judge_facts.proofs.JudgeAsked.{sought_passes}
 use Rattle.answer_judge_facts.proofs.JudgeCounted.{tries_are}
 use Rattle.answer_judge_facts.proofs.JudgeFacts.{last_of, over}
-use Rattle.answer_judge_facts.proofs.JudgeLasting.{key_seconds_are}
+use Rattle.answer_judge_facts.proofs.JudgeValidity.{key_seconds_are}
 use Rattle.answer_judge_facts.proofs.JudgeSought.{keys_are}
 use Rattle.answer_judge_facts.specs.Ranked.{AreRanked}
 use Rattle.answer_judge_facts.proofs.GroupPlaces.{one_ranked}
@@ -46,7 +46,7 @@ returns-clause-exact g c = λ test h.
     let now = c.verify_groups.new.groups in
     let over_all : take c.push.new.self.len (now ++ drop (length now) c.push.new.self.items) ≡ now = over now c.push.new.self.items c.push.new.self.len len in
     let last = c.pop.ensures.value y (omega (arith, len, ap length all)) ∙ ap Some (last_of [] y (take c.push.new.self.len (now ++ drop (length now) c.push.new.self.items)) c.push.new.self.len (over_all ∙ all) (len ∙ sym (ap length over_all)) y) in
-    subst (λ o. MatchOption o (c.was_verified.result ≡ false) (λ (g : Group). c.was_verified.result ≡ is_some g.verified)) last c.was_verified.ensures ∙ marked_is a m rs x
+    subst (λ o. MatchOption o (c.was_verified.result ≡ false) (λ (g : SignedRrset). c.was_verified.result ≡ is_some g.verified)) last c.was_verified.ensures ∙ marked_is a m rs x
     ∙ (λ i. is_some (e.unverified i) || is_verified a pointer_limit m rs (e.owner i) (e.rtype i) (e.items i))
 
 pub returns-clause-lasts : goal.returns-clause-lasts
@@ -62,7 +62,7 @@ returns-clause-lasts g c = λ test h.
     let len : c.push.new.self.len ≡ length c.verify_groups.new.groups = search rules in
     let now = c.verify_groups.new.groups in
     let is = c.deref.ensures.value ∙ over now c.push.new.self.items c.push.new.self.len len ∙ all in
-    c.seconds_of.ensures ∙ ap least_of (key_seconds_are w m rs c.args.keys.now x c.deref.result.now e.owner e.rtype e.items e.unverified is)
+    c.seconds_of.ensures ∙ ap least_or_max (key_seconds_are w m rs c.args.keys.now x c.deref.result.now e.owner e.rtype e.items e.unverified is)
 
 pub seconds_of-requires : goal.seconds_of-requires
 seconds_of-requires g c =

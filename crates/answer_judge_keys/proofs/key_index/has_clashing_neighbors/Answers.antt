@@ -1,5 +1,5 @@
 use Rattle.std.proofs.Common.{◌≡◌, ◌-◌, ◌+◌, ◌||◌, suc, drop, get_or, sym, ap, ◌∙◌, arith, false, refl}
-use Rattle.answer_shared.specs.EqualTags.{clashes}
+use Rattle.answer_terms.specs.EqualTags.{clashes}
 use Rattle.answer_judge_keys.proofs.KeyClashes.{row, row_all, row_end, row_step}
 use Rattle.answer_judge_keys.proofs.key_index.has_clashing_neighbors.Goals as goal
 

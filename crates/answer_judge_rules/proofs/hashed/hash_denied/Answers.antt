@@ -27,10 +27,10 @@ returns-clause-hashes g c =
     let a = g.C.Checks.answers c.args.checks.now in
     let before = g.C.Checks.hashed c.args.checks.now in
     let mid = g.C.Checks.hashed c.hash_name.new.checks in
-    let after = g.C.Checks.hashed c.climbed.new.checks in
+    let after = g.C.Checks.hashed c.by_closest_encloser.new.checks in
     let m : is_matched fs c.in_ok-name.name.hash.items ≡ false = ap (is_matched fs) (sym c.deref.ensures.value) ∙ sym c.is_matched.ensures ∙ c.if-is_matched.false in
-    subst (λ (n : Name). HashesInTurn (fails_as a.hash c.args.chain.now.first.now) (hashed_denied apex (hash_as a.hash c.args.chain.now.first.now) n fs) before after c.climbed.result) (c.in_ok-name.ensures.name ∙ c.for_ref.ensures)
+    subst (λ (n : Name). HashesInTurn (fails_as a.hash c.args.chain.now.first.now) (hashed_denied apex (hash_as a.hash c.args.chain.now.first.now) n fs) before after c.by_closest_encloser.result) (c.in_ok-name.ensures.name ∙ c.for_ref.ensures)
     (hashed_unmatched apex c.args.chain.now.first.now fs q a (g.C.Checks.answers c.hash_name.new.checks) c.in_ok-name.name.hash.items c.hash_name.ensures.same c.in_ok-name.ensures.hash
-    before mid after c.in_ok-name.name c.climbed.result m
+    before mid after c.in_ok-name.name c.by_closest_encloser.result m
     (subst (λ (n : Name). HashesInTurn (fails_as a.hash c.args.chain.now.first.now) (n ∷ []) before mid (Ok c.in_ok-name.name)) (sym c.in_ok-name.ensures.name) c.in_ok-name.ensures.hashes)
-    c.climbed.ensures.hashes)
+    c.by_closest_encloser.ensures.hashes)

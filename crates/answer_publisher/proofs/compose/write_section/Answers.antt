@@ -1,7 +1,7 @@
 use Rattle.std.proofs.Common.{[], Err, ap, refl, map, subst, sym, ◌+◌, ◌∙◌}
 use Rattle.std.specs.Prelude.{if◌then◌else◌}
 use Rattle.std.specs.List.{AllZip}
-use Rattle.answer_shared.specs.GroupView.{IsRrsigData}
+use Rattle.answer_terms.specs.GroupView.{IsRrsigData}
 use Rattle.std.proofs.lemmas.List.{length-map}
 use Rattle.std.proofs.lemmas.Result.{err_from_is_err_and}
 use Rattle.answer_publisher.proofs.Refusals.{section_refused, signatures_refused, signing_refused}

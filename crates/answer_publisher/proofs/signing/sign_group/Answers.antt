@@ -1,4 +1,4 @@
-use Rattle.answer_shared.specs.GroupView.{IsRrsigData}
+use Rattle.answer_terms.specs.GroupView.{IsRrsigData}
 use Rattle.answer_publisher.proofs.SignMade.{AllZip-pushed}
 use Rattle.answer_publisher.proofs.signing.sign_group.Goals as goal
 

@@ -1,6 +1,6 @@
 use Rattle.std.proofs.Common.{take, map}
 use Rattle.std.specs.List.{AllZip}
-use Rattle.answer_shared.specs.GroupView.{IsRrsigData}
+use Rattle.answer_terms.specs.GroupView.{IsRrsigData}
 use Rattle.answer_publisher.proofs.signing.sign_group.Given as goal
 
 abbrev pub invariant-loop-key : goal.invariant-loop-key

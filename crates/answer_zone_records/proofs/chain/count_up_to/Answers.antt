@@ -2,7 +2,7 @@ use Rattle.std.proofs.Common.{rules}
 use Rattle.std.proofs.lemmas.List.Sorted.{IsPartitionPoint-from_clause}
 use Rattle.definitions.specs.Name.{name_cmp}
 use Rattle.definitions.proofs.NameLaws.{name_cmp_total}
-use Rattle.answer_shared.specs.Links.{ChainLink}
+use Rattle.answer_terms.specs.Links.{ChainLink}
 use Rattle.answer_zone_records.specs.Round.{is_up_to}
 use Rattle.answer_zone_records.proofs.Rounds.{up_to_partitioned}
 use Rattle.answer_zone_records.proofs.chain.count_up_to.Goals as goal

@@ -1,7 +1,7 @@
 use Rattle.std.proofs.Common.{◌<◌, length, map, take}
 use Rattle.std.specs.List.{AllByRecursion}
 use Rattle.definitions.specs.Name.{Name, low}
-use Rattle.answer_shared.specs.Links.{link_speaks}
+use Rattle.answer_terms.specs.Links.{link_speaks}
 use Rattle.answer_zone_records.specs.ChainPlaces.{AreAt}
 use Rattle.answer_zone_records.specs.Round.{IsRound}
 use Rattle.answer_zone_records.proofs.chain.link_places.Given as goal

@@ -1,7 +1,7 @@
 use Rattle.std.proofs.Common.{map, sym, subst}
 use Rattle.messages.specs.HandedRr.{handed_of}
 use Rattle.answer_zone_records.specs.MadeLinks.{IsChain}
-use Rattle.answer_shared.specs.ModeView.{mode_of}
+use Rattle.answer_terms.specs.ModeView.{mode_of}
 use Rattle.answer_zone_records.specs.declared.chains.Chain.TheVariants.{Hashes}
 use Rattle.answer_zone_records.proofs.chains.made_chain.Goals as goal
 

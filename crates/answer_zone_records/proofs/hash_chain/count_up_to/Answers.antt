@@ -2,7 +2,7 @@ use Rattle.std.proofs.Common.{rules}
 use Rattle.std.proofs.lemmas.List.Sorted.{IsPartitionPoint-from_clause}
 use Rattle.std.proofs.lemmas.Cmp.{nat_list_cmp_total}
 use Rattle.definitions.specs.ZoneChain.{hash_cmp}
-use Rattle.answer_shared.specs.HashedLinks.{HashedLink}
+use Rattle.answer_terms.specs.HashedLinks.{HashedLink}
 use Rattle.answer_zone_records.specs.Round.{is_hash_up_to}
 use Rattle.answer_zone_records.proofs.Rounds.{up_to_partitioned}
 use Rattle.answer_zone_records.proofs.hash_chain.count_up_to.Goals as goal

@@ -1,7 +1,7 @@
 use Rattle.std.proofs.Common.{◌≡◌, ℕ, List, ◌+◌, ◌<◌, [], ◌∷◌, ◌++◌, length, map, take, sym, ap, subst, ◌∙◌, arith}
 use Rattle.std.specs.List.{AllByRecursion}
 use Rattle.std.proofs.lemmas.List.{take_all}
-use Rattle.answer_shared.specs.HashedLinks.{hashed_link_at_or_around, hashed_link_speaks}
+use Rattle.answer_terms.specs.HashedLinks.{hashed_link_at_or_around, hashed_link_speaks}
 use Rattle.answer_zone_records.specs.ChainPlaces.{AreAt}
 use Rattle.answer_zone_records.proofs.ChainSpoken.{all_more, more_hashes, no_more}
 use Rattle.answer_zone_records.proofs.hash_chain.hash_places.Goals as goal

@@ -1,6 +1,6 @@
 use Rattle.std.proofs.Common.{◌<◌, length, map, take}
 use Rattle.std.specs.List.{AllByRecursion}
-use Rattle.answer_shared.specs.HashedLinks.{hashed_link_speaks}
+use Rattle.answer_terms.specs.HashedLinks.{hashed_link_speaks}
 use Rattle.answer_zone_records.specs.ChainPlaces.{AreAt}
 use Rattle.answer_zone_records.proofs.hash_chain.hash_places.Given as goal
 

@@ -1,7 +1,7 @@
 use Rattle.std.proofs.Common.{◌≡◌, ◌+◌, [], ◌∷◌, ◌++◌, drop, sym, ap, subst, ◌∙◌, append_assoc, arith}
 use Rattle.std.specs.List.{AllByRecursion}
 use Rattle.std.proofs.lemmas.List.{append-nil, drop_all}
-use Rattle.answer_shared.proofs.Climbing.{all_append}
+use Rattle.answer_terms.proofs.Climbing.{all_append}
 use Rattle.answer_zone_records.specs.MadeLinks.{HasOctets, hashed_from}
 use Rattle.answer_zone_records.proofs.ZoneGroups.{left_is}
 use Rattle.answer_zone_records.proofs.hash_chain.hashed_links.Goals as goal

@@ -1,5 +1,5 @@
 use Rattle.std.proofs.Common.{ℕ, ◌-◌, ◌<◌, [], ◌∷◌, length, sym, subst, arith}
-use Rattle.answer_shared.specs.HashedLinks.{HashedLink, hashed_link_at_or_around}
+use Rattle.answer_terms.specs.HashedLinks.{HashedLink, hashed_link_at_or_around}
 use Rattle.answer_zone_records.specs.ChainPlaces.{AreAt}
 use Rattle.answer_zone_records.proofs.Rounds.{around_at_end, around_at_place}
 use Rattle.answer_zone_records.proofs.hash_chain.place_around.Goals as goal

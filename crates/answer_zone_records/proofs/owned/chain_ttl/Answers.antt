@@ -2,7 +2,7 @@ use Rattle.std.proofs.Common.{◌≡◌, ap, map, min, subst, ◌∙◌}
 use Rattle.std.specs.Prelude.{IfOk}
 use Rattle.std.specs.List.{find}
 use Rattle.messages.specs.HandedRr.{handed_of}
-use Rattle.answer_shared.specs.Served.{chain_ttl, minimum_of}
+use Rattle.answer_terms.specs.Served.{chain_ttl, minimum_of}
 use Rattle.answer_zone_records.specs.OwnedRecords.{is_of_type}
 use Rattle.answer_zone_records.proofs.OwnedFacts.{chain_ttl_by, chain_ttl_owned}
 use Rattle.answer_zone_records.proofs.owned.chain_ttl.Goals as goal

@@ -1,5 +1,5 @@
 use Rattle.std.proofs.Common.{take, drop, slice_set, sym, ap, ◌∙◌}
-use Rattle.denial_sorted.specs.Kin.{moved}
+use Rattle.denial_sorted.specs.Neighbour.{moved}
 use Rattle.denial_sorted.proofs.Moved.{set_behind}
 use Rattle.denial_sorted.proofs.starts.move_behind.Goals as goal
 

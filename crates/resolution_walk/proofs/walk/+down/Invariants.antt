@@ -5,5 +5,5 @@ use Rattle.resolution_walk.proofs.walk.+down.Given as goal
 abbrev pub decreases-descend : goal.decreases-descend
 decreases-descend l = 2 * l.cuts + 1
 
-abbrev pub decreases-below : goal.decreases-below
-decreases-below l = 2 * l.cuts
+abbrev pub decreases-descend_below : goal.decreases-descend_below
+decreases-descend_below l = 2 * l.cuts

@@ -59,8 +59,8 @@ returns t c =
     let target = c.in-Ok.target in
     let longer = c.in_ok-with_name.field-0.items in
     let walk = c.in_ok-walk.walk in
-    let w = c.behind.result in
-    let kept = c.behind.ensures in
+    let w = c.walk_after_alias.result in
+    let kept = c.walk_after_alias.ensures in
     let through = ap (λ (v : Vec Name). v.items) kept.through in
     let led : IsLed e asked cuts before target =
     subst (λ (r : Result Target End). MatchResult r (IsLed e asked cuts before) (EndsHere e asked cuts before)) c.in-Ok.is c.in_ok-end.ensures in

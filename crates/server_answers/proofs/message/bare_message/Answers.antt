@@ -1,6 +1,6 @@
 use Rattle.answer_publisher.specs.Replacing.{noted}
 use Rattle.answer_publisher.specs.World.{AnswersQuestion, SpellsAnswer, world_of}
-use Rattle.answer_shared.specs.Asking.{is_allowed}
+use Rattle.answer_terms.specs.Asking.{is_allowed}
 use Rattle.messages.specs.Questions.{asked_of}
 use Rattle.server_answers.specs.Responding.{unsigned}
 use Rattle.server_answers.proofs.Choosing.{bare_by, latest_err, latest_ok, rest_either}

@@ -1,7 +1,7 @@
 use Rattle.std.proofs.Common.{◌≡◌, ◌∙◌, sym, rules}
 use Rattle.answer_publisher.specs.World.{world_of}
 use Rattle.messages.specs.Questions.{asked_of}
-use Rattle.server_answers.specs.Unheld.{has_answers}
+use Rattle.server_answers.specs.Synthesized.{has_answers}
 use Rattle.server_answers.proofs.Choosing.{held_by, memory_fault, not_held, same_publisher}
 use Rattle.server_answers.proofs.subset.is_held.Goals as goal
 

@@ -42,7 +42,7 @@ returns-in-Ok g c =
           (λ test agrees. agrees_too g.C.Checks.agrees _ now test agrees (search rules)) c.in-Ok.ensures.decided;
       lasts = λ test fits.
           let fit = ⊎_elim (λ e. inl e) (λ agrees. inr (agrees_too g.C.Checks.agrees _ now test agrees (search rules))) fits in
-          lasts_beyond own _ (g.C.Checks.agrees now) c.args.self.now c.judge_messages.new.lasting (ap g.C.Checks.answers c.new-check_run.ensures.checks) (search rules) c.in-Ok.ensures.lasts test fit;
+          lasts_beyond own _ (g.C.Checks.agrees now) c.args.self.now c.judge_messages.new.validity (ap g.C.Checks.answers c.new-check_run.ensures.checks) (search rules) c.in-Ok.ensures.lasts test fit;
       asked = λ test implies before.
           let passes = case_passes own _ c.args.self.now test (ap g.C.Checks.answers c.new-check_run.ensures.checks) (search rules) (search rules) implies in
           let asked_now = c.in-Ok.ensures.asked test passes (subst (λ v. g.C.Checks.asked_only v test) (sym c.new-check_run.ensures.checks) before) in

@@ -11,7 +11,7 @@ use Rattle.answer_judge_facts.specs.Asked.{Implies, is_tried_among}
 use Rattle.answer_judge_facts.specs.Counted.{tries}
 use Rattle.answer_judge_keys.specs.Trusted.{is_trusted}
 use Rattle.answer_judge.specs.Judging.{JudgeInput}
-use Rattle.answer_judge_facts.specs.Lasting.{key_seconds, least_of}
+use Rattle.answer_judge_facts.specs.Validity.{key_seconds, least_or_max}
 use Rattle.answer_judge_facts.specs.Sought.{keys_sought}
 use Rattle.answer_judge_facts.specs.Verified.{Trusting, is_verified}
 use Rattle.answer_judge_facts.proofs.JudgeAsked.{agreed_by}
@@ -34,8 +34,8 @@ module _ (own : Answers) (test : SignatureTest) (h now : JudgeInput) (is : now �
         omega (arith, tried, zero, due),
       )
 
-  lasts_as : (n : ℕ) → n ≡ least_of (key_seconds w pointer_limit now.dnskey_bytes rs held) → n ≡ least_of (key_seconds (trusting_named (with_test own test) h ks) pointer_limit h.dnskey_bytes rs ks)
-  lasts_as n e = e ∙ (λ i. least_of (key_seconds (w_is i) pointer_limit (is i).dnskey_bytes rs (items i)))
+  lasts_as : (n : ℕ) → n ≡ least_or_max (key_seconds w pointer_limit now.dnskey_bytes rs held) → n ≡ least_or_max (key_seconds (trusting_named (with_test own test) h ks) pointer_limit h.dnskey_bytes rs ks)
+  lasts_as n e = e ∙ (λ i. least_or_max (key_seconds (w_is i) pointer_limit (is i).dnskey_bytes rs (items i)))
 
   -- where a test passes for the signatures that are tried then, it passes for them as they are held against the keys
   tried_pass : Implies (is_tried_among (trusting_named own h ks) pointer_limit h.dnskey_bytes (keys_sought h.apex ks) [] rs) test

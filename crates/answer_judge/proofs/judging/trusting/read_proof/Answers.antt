@@ -6,7 +6,7 @@ use Rattle.messages.specs.Record.{spelled}
 use Rattle.answer_scheme.specs.Answers.{with_test}
 use Rattle.answer_judge_facts.specs.Asked.{Implies, is_tried_among}
 use Rattle.answer_judge.specs.Judging.{JudgeInput}
-use Rattle.answer_judge_facts.specs.Lasting.{answer_lasting}
+use Rattle.answer_judge_facts.specs.Validity.{answer_validity}
 use Rattle.answer_judge_facts.specs.Sought.{answer_sought}
 use Rattle.answer_judge_facts.specs.VerifiedProof.{IsVerifiedProof}
 use Rattle.answer_judge.proofs.judging.trusting.read_proof.Goals as goal
@@ -38,7 +38,7 @@ returns-clause-lasts g c = λ test fits.
     let a = with_test (g.C.Checks.answers c.args.check_run.now.checks.now) test in
     let rs = map spelled c.args.records.now in
     transport
-    (λ i. IfOk c.read_facts.result (λ p. p.lasting ≡ answer_lasting (record { answers = a; apex = (is i).apex; keys = c.in_ok-index.ensures i; now = moment i }) pointer_limit (is i).answer_bytes rs (is i).asked.name (is i).asked.rtype))
+    (λ i. IfOk c.read_facts.result (λ p. p.validity ≡ answer_validity (record { answers = a; apex = (is i).apex; keys = c.in_ok-index.ensures i; now = moment i }) pointer_limit (is i).answer_bytes rs (is i).asked.name (is i).asked.rtype))
     (c.read_facts.ensures.lasts test fits)
 
 pub returns-clause-asked : goal.returns-clause-asked

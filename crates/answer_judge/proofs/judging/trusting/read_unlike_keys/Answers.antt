@@ -1,7 +1,7 @@
 use Rattle.std.proofs.Common.{◌≡◌, map, inr, refl, sym, ap, subst, ◌∙◌}
 use Rattle.messages.specs.Record.{spelled}
 use Rattle.answer_judge_keys.specs.DnskeyAnswer.{keys_in}
-use Rattle.answer_shared.specs.EqualTags.{has_equal_tags}
+use Rattle.answer_terms.specs.EqualTags.{has_equal_tags}
 use Rattle.answer_judge.proofs.judging.trusting.read_unlike_keys.Goals as goal
 
 pub returns-then-are_equal-clause-equal : goal.returns-then-are_equal-clause-equal

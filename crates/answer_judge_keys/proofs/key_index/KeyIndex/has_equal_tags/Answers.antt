@@ -1,5 +1,5 @@
 use Rattle.std.proofs.Common.{subst, IfSome, ap, ◌∙◌}
-use Rattle.answer_shared.specs.EqualTags.{has_equal_tags}
+use Rattle.answer_terms.specs.EqualTags.{has_equal_tags}
 use Rattle.answer_judge_keys.specs.KeyOrder.{IsRanking}
 use Rattle.answer_judge_keys.proofs.KeyClashes.{tags_moved}
 use Rattle.answer_judge_keys.proofs.key_index.KeyIndex.has_equal_tags.Goals as goal

@@ -1,5 +1,5 @@
 use Rattle.std.proofs.Common.{arith, rules}
-use Rattle.answer_shared.specs.Served.{written_rr}
+use Rattle.answer_terms.specs.Served.{written_rr}
 use Rattle.answer_publisher.proofs.Refusals.{long_data, room_more}
 use Rattle.answer_publisher.proofs.compose.Section.push.Goals as goal
 

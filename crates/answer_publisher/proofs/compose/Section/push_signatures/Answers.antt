@@ -1,6 +1,6 @@
 use Rattle.std.proofs.Common.{◌≡◌, [], ◌∷◌, length, subst, sym, ap, ◌∙◌, ◌++◌, arith}
 use Rattle.std.specs.List.{flat_map}
-use Rattle.answer_shared.specs.Served.{written_rr}
+use Rattle.answer_terms.specs.Served.{written_rr}
 use Rattle.answer_publisher.specs.Composed.{RefusesRecords, rrsig_of}
 use Rattle.std.proofs.lemmas.Result.{err_from_is_err_and}
 use Rattle.messages.proofs.Lists.{map-map}

@@ -2,13 +2,13 @@ use Rattle.std.proofs.Common.{[], ◌∷◌}
 use Rattle.answer_publisher.specs.Answering.{AnswersKeys, RefusesKeys, ahead_of_records, apex_question}
 use Rattle.answer_publisher_keys.specs.Bindings.{dnskeys, keys_by_tag, published}
 use Rattle.answer_publisher.specs.Composed.{IsAnswer, RefusesGroups}
-use Rattle.answer_shared.specs.Given.{GivesKeys}
-use Rattle.answer_shared.specs.Served.{by_tag, key_group, keys_ttl}
+use Rattle.answer_terms.specs.Given.{GivesKeys}
+use Rattle.answer_terms.specs.Served.{by_tag, key_group, keys_ttl}
 use Rattle.answer_publisher.proofs.ApexAnswers.{apex_answered}
 use Rattle.answer_publisher.proofs.WritesGiven.{keys_given}
-use Rattle.answer_shared.proofs.ZoneData.{if_ok_map}
+use Rattle.answer_terms.proofs.ZoneData.{if_ok_map}
 use Rattle.answer_scheme.specs.Moments.{second_of}
-use Rattle.answer_shared.specs.Hashing.{served}
+use Rattle.answer_terms.specs.Hashing.{served}
 use Rattle.answer_zone.specs.HashedZone.{accepted_zone}
 use Rattle.answer_publisher_keys.specs.declared.keys.Publication.TheVariants.{Present, SignsKeys}
 use Rattle.answer_publisher.proofs.Refusals.{apex_refused, if_err_map}

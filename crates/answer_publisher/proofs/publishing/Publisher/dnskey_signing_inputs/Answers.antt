@@ -1,7 +1,7 @@
 use Rattle.std.proofs.Common.{◌≡◌, ◌∙◌, [], ◌∷◌}
-use Rattle.answer_shared.proofs.ZoneData.{if_ok_map}
-use Rattle.answer_shared.specs.Hashing.{served}
-use Rattle.answer_shared.specs.Served.{key_group, keys_ttl}
+use Rattle.answer_terms.proofs.ZoneData.{if_ok_map}
+use Rattle.answer_terms.specs.Hashing.{served}
+use Rattle.answer_terms.specs.Served.{key_group, keys_ttl}
 use Rattle.answer_zone.specs.HashedZone.{accepted_zone}
 use Rattle.answer_scheme.specs.Moments.{second_of}
 use Rattle.answer_publisher_keys.specs.Bindings.{keys_by_tag}
@@ -10,7 +10,7 @@ use Rattle.answer_publisher.specs.Inputs.{all_inputs}
 use Rattle.answer_publisher.specs.World.{present_keys}
 use Rattle.answer_publisher.proofs.InputsMade.{inputs_of_one}
 use Rattle.answer_publisher.proofs.publishing.Publisher.dnskey_signing_inputs.Goals as goal
-use Rattle.answer_shared.specs.GroupView.{view_of}
+use Rattle.answer_terms.specs.GroupView.{view_of}
 
 pub returns : goal.returns
 returns g c =

@@ -1,5 +1,5 @@
 use Rattle.std.proofs.Common.{rules}
-use Rattle.answer_shared.proofs.AllowedTypes.{allowed_plain, inside_apex}
+use Rattle.answer_terms.proofs.AllowedTypes.{allowed_plain, inside_apex}
 use Rattle.messages.specs.Questions.{asked_of}
 use Rattle.answer_publisher.proofs.publishing.Publisher.message.Goals as goal
 

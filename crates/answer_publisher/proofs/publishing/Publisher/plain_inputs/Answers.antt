@@ -1,8 +1,8 @@
 use Rattle.std.proofs.Common.{◌≡◌, ◌++◌, ◌∙◌, false, length, ap, map, subst, rules}
 use Rattle.definitions.specs.Zone.{verdict}
-use Rattle.answer_shared.specs.GroupView.{view_of}
-use Rattle.answer_shared.specs.Hashing.{served}
-use Rattle.answer_shared.specs.Served.{answer_groups}
+use Rattle.answer_terms.specs.GroupView.{view_of}
+use Rattle.answer_terms.specs.Hashing.{served}
+use Rattle.answer_terms.specs.Served.{answer_groups}
 use Rattle.answer_zone.specs.HashedZone.{accepted_zone}
 use Rattle.answer_zone.specs.ZoneAnswers.{answered}
 use Rattle.answer_scheme.specs.Moments.{second_of}

@@ -3,10 +3,10 @@ use Rattle.std.specs.Prelude.{Err, IfErr, IfOk, Ok, OnOk, Result}
 use Rattle.std.specs.List.{AllByRecursion}
 use Rattle.definitions.specs.Limits.{pointer_limit}
 use Rattle.definitions.specs.Zone.{verdict}
-use Rattle.answer_shared.specs.Given.{GivesAnswer}
-use Rattle.answer_shared.specs.Hashing.{served}
-use Rattle.answer_shared.specs.Served.{by_tag}
-use Rattle.answer_shared.proofs.ZoneData.{if_ok_map}
+use Rattle.answer_terms.specs.Given.{GivesAnswer}
+use Rattle.answer_terms.specs.Hashing.{served}
+use Rattle.answer_terms.specs.Served.{by_tag}
+use Rattle.answer_terms.proofs.ZoneData.{if_ok_map}
 use Rattle.answer_zone.specs.HashedZone.{accepted_zone}
 use Rattle.answer_zone.specs.ZoneAnswers.{answered}
 use Rattle.answer_scheme.specs.Moments.{second_of}

@@ -6,7 +6,7 @@ use Rattle.definitions.proofs.Members.{contained}
 use Rattle.denial_laws.specs.Truth.{concerned}
 use Rattle.denial_laws.proofs.NameFacts.{above-low}
 use Rattle.denial_laws.proofs.ZoneCuts.{has_owner}
-use Rattle.answer_shared.specs.Accepting.{zone_with}
+use Rattle.answer_terms.specs.Accepting.{zone_with}
 use Rattle.answer_zone.proofs.Concerned.{all_concerned}
 use Rattle.answer_zone.proofs.Failures.{fails_within}
 use Rattle.answer_zone.proofs.Verdicts.{has_soa}

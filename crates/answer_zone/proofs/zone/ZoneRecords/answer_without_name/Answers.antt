@@ -3,10 +3,10 @@ use Rattle.definitions.specs.Name.{low}
 use Rattle.definitions.specs.Zone.{NoName, StarNoType, StarRecords, cut_above, data_at, star_under, verdict}
 use Rattle.definitions.specs.ZoneChain.{optout_of}
 use Rattle.denial_laws.specs.OwnFacts.{kept_ancestor}
-use Rattle.answer_shared.specs.Hashing.{hash_in}
-use Rattle.answer_shared.specs.Served.{expanded, proofs_of, soa, spoken}
-use Rattle.answer_shared.proofs.ZoneAnswers.{groups_expanded, groups_without_name, groups_without_star_type}
-use Rattle.answer_shared.proofs.ZoneData.{if_ok_map}
+use Rattle.answer_terms.specs.Hashing.{hash_in}
+use Rattle.answer_terms.specs.Served.{expanded, proofs_of, soa, spoken}
+use Rattle.answer_terms.proofs.ZoneAnswers.{groups_expanded, groups_without_name, groups_without_star_type}
+use Rattle.answer_terms.proofs.ZoneData.{if_ok_map}
 use Rattle.answer_zone.specs.HashedZone.{served_by}
 use Rattle.answer_zone.specs.Questions.{zone_of}
 use Rattle.answer_zone.specs.ZoneAnswers.{Holds}

@@ -3,7 +3,7 @@ use Rattle.definitions.specs.Name.{low}
 use Rattle.definitions.specs.Zone.{star_under}
 use Rattle.definitions.specs.ZoneChain.{optout_of}
 use Rattle.denial_laws.specs.OwnFacts.{kept_ancestor}
-use Rattle.answer_shared.specs.Accepting.{zone_with}
+use Rattle.answer_terms.specs.Accepting.{zone_with}
 use Rattle.answer_zone.proofs.Enclosers.{closer_found}
 use Rattle.answer_zone.proofs.zone.ZoneRecords.around.Goals as goal
 

@@ -7,7 +7,7 @@ use Rattle.definitions.specs.Zone.{has, is_delegation}
 use Rattle.definitions.proofs.ZoneNames.{low-low}
 use Rattle.denial_laws.proofs.NameFacts.{strictly-low}
 use Rattle.messages.specs.HandedRr.{HandedRr}
-use Rattle.answer_shared.specs.Accepting.{zone_with}
+use Rattle.answer_terms.specs.Accepting.{zone_with}
 use Rattle.answer_zone_records.specs.OwnedRecords.{is_of_type}
 use Rattle.answer_zone.specs.Cuts.{Refers}
 use Rattle.answer_zone.proofs.Placing.{cut_owned, has_owned, none_refers, not_referred_here, refers_above, refers_here}

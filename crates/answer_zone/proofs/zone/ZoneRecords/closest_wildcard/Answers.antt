@@ -4,8 +4,8 @@ use Rattle.definitions.specs.Zone.{star_under}
 use Rattle.definitions.proofs.ZoneNames.{low-low}
 use Rattle.denial_laws.specs.OwnFacts.{kept_ancestor}
 use Rattle.denial_laws.proofs.NameFacts.{above-low, strictly_at}
-use Rattle.answer_shared.specs.Accepting.{zone_with}
-use Rattle.answer_shared.proofs.ZoneData.{if_ok_map}
+use Rattle.answer_terms.specs.Accepting.{zone_with}
+use Rattle.answer_terms.proofs.ZoneData.{if_ok_map}
 use Rattle.answer_zone.specs.Placed.{shown_ancestor}
 use Rattle.answer_zone.proofs.Enclosers.{shown_is_kept}
 use Rattle.answer_zone.proofs.Placing.{exists_here, none_further, none_strictly}

@@ -1,7 +1,7 @@
 use Rattle.std.proofs.Common.{sym, ap, ◌∙◌}
 use Rattle.definitions.specs.Name.{low}
-use Rattle.answer_shared.specs.Accepting.{zone_with}
-use Rattle.answer_shared.specs.ModeView.{mode_of}
+use Rattle.answer_terms.specs.Accepting.{zone_with}
+use Rattle.answer_terms.specs.ModeView.{mode_of}
 use Rattle.answer_zone.proofs.Spoken.{covered_hash, covered_itself}
 use Rattle.answer_zone.proofs.zone.ZoneRecords.covered_name.Goals as goal
 

@@ -4,7 +4,7 @@ use Rattle.definitions.specs.Name.{low, strictly_above}
 use Rattle.definitions.specs.Zone.{has, is_delegation}
 use Rattle.definitions.proofs.ZoneNames.{above_itself, low-low}
 use Rattle.denial_laws.proofs.NameFacts.{strictly-low}
-use Rattle.answer_shared.specs.Accepting.{zone_with}
+use Rattle.answer_terms.specs.Accepting.{zone_with}
 use Rattle.answer_zone.specs.Placed.{IsCutRecords}
 use Rattle.answer_zone.proofs.Placing.{AreLeft, behind_first, found, found_none, found_some, left_at_first, left_below, left_cut, left_first, left_passes, left_stops, left_takes, passed, suffixes_are, uncut_outside}
 use Rattle.answer_zone.proofs.zone.ZoneRecords.cut_above.Goals as goal

@@ -2,7 +2,7 @@ use Rattle.std.proofs.Common.{◌≡◌, length}
 use Rattle.std.specs.Prelude.{IfSome}
 use Rattle.definitions.specs.Name.{low}
 use Rattle.definitions.specs.Zone.{cut_above}
-use Rattle.answer_shared.specs.Accepting.{zone_with}
+use Rattle.answer_terms.specs.Accepting.{zone_with}
 use Rattle.answer_zone.specs.Placed.{IsCutRecords}
 use Rattle.answer_zone.proofs.Placing.{AreLeft, found, left_cut}
 use Rattle.answer_zone.proofs.zone.ZoneRecords.cut_above.Given as goal

@@ -1,6 +1,6 @@
 use Rattle.std.proofs.Common.{List, [], ◌∷◌, map}
 use Rattle.definitions.specs.Name.{Name, low}
-use Rattle.answer_shared.specs.Served.{proofs_of, soa}
+use Rattle.answer_terms.specs.Served.{proofs_of, soa}
 use Rattle.answer_zone.specs.HashedZone.{served_by}
 use Rattle.answer_zone_records.proofs.ZoneLinks.{added}
 use Rattle.answer_zone.proofs.zone.ZoneRecords.denial.Goals as goal

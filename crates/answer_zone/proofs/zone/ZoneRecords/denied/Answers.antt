@@ -1,10 +1,10 @@
 use Rattle.std.proofs.Common.{List, [], ◌∷◌, sym, ap, subst, ◌∙◌}
 use Rattle.definitions.specs.Name.{Name, low}
-use Rattle.answer_shared.specs.Accepting.{zone_with}
-use Rattle.answer_shared.specs.Served.{proofs_of, soa}
-use Rattle.answer_shared.proofs.ZoneData.{if_ok_map}
+use Rattle.answer_terms.specs.Accepting.{zone_with}
+use Rattle.answer_terms.specs.Served.{proofs_of, soa}
+use Rattle.answer_terms.proofs.ZoneData.{if_ok_map}
 use Rattle.answer_zone.specs.HashedZone.{HashesEach, served_by}
-use Rattle.answer_shared.specs.ModeView.{mode_of}
+use Rattle.answer_terms.specs.ModeView.{mode_of}
 use Rattle.answer_zone.specs.ZoneAnswers.{Holds}
 use Rattle.answer_zone.proofs.Spoken.{denied_hashes, denied_names}
 use Rattle.answer_zone.proofs.zone.ZoneRecords.denied.Goals as goal

@@ -4,7 +4,7 @@ use Rattle.std.specs.List.{list_any}
 use Rattle.definitions.specs.Name.{at_or_above, low}
 use Rattle.definitions.specs.Zone.{cut_above}
 use Rattle.definitions.proofs.ZoneNames.{low-low}
-use Rattle.answer_shared.specs.Accepting.{zone_with}
+use Rattle.answer_terms.specs.Accepting.{zone_with}
 use Rattle.answer_zone_records.specs.declared.owned.Cut.{Cut}
 use Rattle.answer_zone.specs.Cuts.{is_cut_off}
 use Rattle.answer_zone.specs.Placed.{IsCutRecords}

@@ -1,7 +1,7 @@
 use Rattle.std.proofs.Common.{◌≡◌, ◌&&◌, true, false, sym, ap, ◌∙◌}
 use Rattle.definitions.specs.Name.{low, at_or_above}
 use Rattle.definitions.specs.Zone.{exists}
-use Rattle.answer_shared.specs.Accepting.{zone_with}
+use Rattle.answer_terms.specs.Accepting.{zone_with}
 use Rattle.definitions.proofs.ZoneNames.{low-low}
 use Rattle.answer_zone.proofs.Placing.{exists_here, none_strictly}
 use Rattle.answer_zone.proofs.zone.ZoneRecords.expands.Goals as goal

@@ -1,6 +1,6 @@
 use Rattle.std.proofs.Common.{ℕ, List, Vec, Global, arith, rules}
 use Rattle.definitions.specs.Name.{low}
-use Rattle.answer_shared.specs.Hashing.{hash_in}
+use Rattle.answer_terms.specs.Hashing.{hash_in}
 use Rattle.answer_zone.proofs.Failures.{fails_one, hashed_all, hashed_more, none_hashed}
 use Rattle.answer_zone_records.proofs.ZoneGroups.{written_more}
 use Rattle.answer_zone.proofs.zone.ZoneRecords.hashes_of.Goals as goal

@@ -1,6 +1,6 @@
 use Rattle.std.proofs.Common.{◌≡◌, map, take}
 use Rattle.definitions.specs.Name.{low}
-use Rattle.answer_shared.specs.Hashing.{hash_in}
+use Rattle.answer_terms.specs.Hashing.{hash_in}
 use Rattle.answer_zone.specs.HashedZone.{AreHashed}
 use Rattle.answer_zone.proofs.zone.ZoneRecords.hashes_of.Given as goal
 

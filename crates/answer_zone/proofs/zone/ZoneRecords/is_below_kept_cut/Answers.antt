@@ -5,7 +5,7 @@ use Rattle.definitions.specs.Name.{low}
 use Rattle.definitions.specs.Zone.{cut, has, is_delegation}
 use Rattle.definitions.proofs.NameLaws.{labels_decide}
 use Rattle.definitions.proofs.ZoneNames.{low-low}
-use Rattle.answer_shared.specs.Accepting.{zone_with}
+use Rattle.answer_terms.specs.Accepting.{zone_with}
 use Rattle.answer_zone_records.specs.OwnedRecords.{is_of_type}
 use Rattle.answer_zone.proofs.Kept.{by_cut, kept_cut_is}
 use Rattle.answer_zone.proofs.Placing.{cut_here, cut_unlike, has_owned, refers_above}

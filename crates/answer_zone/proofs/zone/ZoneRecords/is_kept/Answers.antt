@@ -4,7 +4,7 @@ use Rattle.definitions.specs.Zone.{kept_owners}
 use Rattle.definitions.proofs.ZoneNames.{above_itself}
 use Rattle.denial_laws.proofs.NameFacts.{above-low}
 use Rattle.answer_zone_records.specs.Near.{shows}
-use Rattle.answer_shared.specs.Accepting.{zone_with}
+use Rattle.answer_terms.specs.Accepting.{zone_with}
 use Rattle.answer_zone.proofs.Placing.{any_lowered}
 use Rattle.answer_zone.proofs.zone.ZoneRecords.is_kept.Goals as goal
 

@@ -4,7 +4,7 @@ use Rattle.std.specs.Option.{is_none}
 use Rattle.definitions.specs.Name.{at_or_above, low}
 use Rattle.definitions.specs.Zone.{cut_above}
 use Rattle.denial_laws.proofs.NameFacts.{above-low}
-use Rattle.answer_shared.specs.Accepting.{zone_with}
+use Rattle.answer_terms.specs.Accepting.{zone_with}
 use Rattle.answer_zone_records.specs.declared.owned.Cut.{Cut}
 use Rattle.answer_zone.specs.Placed.{IsCutRecords}
 use Rattle.answer_zone.proofs.Placing.{if_some_first, is_none_by}

@@ -1,6 +1,6 @@
 use Rattle.std.proofs.Common.{[], refl, sym, subst}
 use Rattle.std.specs.List.{AllZip}
-use Rattle.answer_shared.specs.GroupView.{Presents}
+use Rattle.answer_terms.specs.GroupView.{Presents}
 use Rattle.answer_zone.proofs.zone.ZoneRecords.missing.Goals as goal
 
 pub returns-clause-answer : goal.returns-clause-answer

@@ -1,8 +1,8 @@
 use Rattle.std.proofs.Common.{◌≡◌, ◌∷◌, [], ◌++◌, sym, ap, subst, ◌∙◌}
 use Rattle.std.specs.List.{AllZip}
 use Rattle.definitions.specs.Name.{low}
-use Rattle.answer_shared.specs.GroupView.{Presents}
-use Rattle.answer_shared.specs.Served.{rrset, unsigned_ns}
+use Rattle.answer_terms.specs.GroupView.{Presents}
+use Rattle.answer_terms.specs.Served.{rrset, unsigned_ns}
 use Rattle.answer_zone.specs.HashedZone.{served_by}
 use Rattle.answer_zone.proofs.Verdicts.{unsigned_presents}
 use Rattle.answer_zone.proofs.zone.ZoneRecords.name_servers.Goals as goal

@@ -3,7 +3,7 @@ use Rattle.std.specs.List.{list_any}
 use Rattle.definitions.specs.Name.{at_or_above}
 use Rattle.definitions.specs.Zone.{kept_owners}
 use Rattle.definitions.specs.ZoneChain.{optout_of}
-use Rattle.answer_shared.specs.Accepting.{zone_with}
+use Rattle.answer_terms.specs.Accepting.{zone_with}
 use Rattle.answer_zone.proofs.zone.ZoneRecords.near_kept.Goals as goal
 
 pub returns : goal.returns

@@ -1,5 +1,5 @@
 use Rattle.std.proofs.Common.{ap}
-use Rattle.answer_shared.specs.ModeView.{mode_of}
+use Rattle.answer_terms.specs.ModeView.{mode_of}
 use Rattle.answer_zone.proofs.zone.ZoneRecords.new.Goals as goal
 
 pub returns-clause-zone : goal.returns-clause-zone

@@ -4,9 +4,9 @@ use Rattle.definitions.specs.Name.{low, strictly_above}
 use Rattle.definitions.specs.Zone.{Delegated, has}
 use Rattle.definitions.specs.ZoneChain.{optout_of}
 use Rattle.denial_laws.specs.OwnFacts.{open_spoken}
-use Rattle.answer_shared.specs.Hashing.{hash_in}
-use Rattle.answer_shared.specs.Served.{proofs_of, unsigned_ns}
-use Rattle.answer_shared.proofs.ZoneAnswers.{groups_open_delegated}
+use Rattle.answer_terms.specs.Hashing.{hash_in}
+use Rattle.answer_terms.specs.Served.{proofs_of, unsigned_ns}
+use Rattle.answer_terms.proofs.ZoneAnswers.{groups_open_delegated}
 use Rattle.answer_zone.specs.HashedZone.{served_by}
 use Rattle.answer_zone.specs.Questions.{zone_of}
 use Rattle.answer_zone.proofs.Replies.{open_spoke, reply}

@@ -2,9 +2,9 @@ use Rattle.std.proofs.Common.{[], ◌∷◌, refl, sym, subst}
 use Rattle.std.specs.List.{AllZip}
 use Rattle.definitions.specs.Name.{low}
 use Rattle.denial_laws.specs.OwnFacts.{open_spoken}
-use Rattle.answer_shared.specs.Accepting.{zone_with}
-use Rattle.answer_shared.specs.GroupView.{Presents}
-use Rattle.answer_shared.specs.Served.{proofs_of, soa}
+use Rattle.answer_terms.specs.Accepting.{zone_with}
+use Rattle.answer_terms.specs.GroupView.{Presents}
+use Rattle.answer_terms.specs.Served.{proofs_of, soa}
 use Rattle.answer_zone.specs.HashedZone.{served_by}
 use Rattle.answer_zone_records.proofs.ZoneLinks.{added}
 use Rattle.answer_zone.proofs.zone.ZoneRecords.open_missing.Goals as goal

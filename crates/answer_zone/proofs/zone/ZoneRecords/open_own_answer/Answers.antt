@@ -5,10 +5,10 @@ use Rattle.definitions.specs.Zone.{NoName, NoType, StarNoType, StarRecords, cut_
 use Rattle.definitions.specs.ZoneChain.{optout_of}
 use Rattle.definitions.proofs.ZoneNames.{low-low}
 use Rattle.denial_laws.specs.OwnFacts.{kept_ancestor, open_spoken}
-use Rattle.answer_shared.specs.Hashing.{hash_in}
-use Rattle.answer_shared.specs.Served.{expanded, proofs_of}
-use Rattle.answer_shared.proofs.ZoneAnswers.{groups_open_expanded}
-use Rattle.answer_shared.proofs.ZoneData.{if_ok_map}
+use Rattle.answer_terms.specs.Hashing.{hash_in}
+use Rattle.answer_terms.specs.Served.{expanded, proofs_of}
+use Rattle.answer_terms.proofs.ZoneAnswers.{groups_open_expanded}
+use Rattle.answer_terms.proofs.ZoneData.{if_ok_map}
 use Rattle.answer_zone.specs.HashedZone.{served_by}
 use Rattle.answer_zone.specs.Questions.{zone_of}
 use Rattle.answer_zone.specs.ZoneAnswers.{Holds}

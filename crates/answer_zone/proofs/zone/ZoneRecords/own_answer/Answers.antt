@@ -4,9 +4,9 @@ use Rattle.definitions.specs.Zone.{NoType, Records, data_at, has, verdict}
 use Rattle.definitions.specs.ZoneChain.{optout_of}
 use Rattle.definitions.proofs.ZoneNames.{low-low}
 use Rattle.std.specs.List.{list_any}
-use Rattle.answer_shared.specs.Hashing.{hash_in}
-use Rattle.answer_shared.specs.Served.{proofs_of, rrset, soa, spoken, under}
-use Rattle.answer_shared.proofs.ZoneAnswers.{groups_found, groups_without_type}
+use Rattle.answer_terms.specs.Hashing.{hash_in}
+use Rattle.answer_terms.specs.Served.{proofs_of, rrset, soa, spoken, under}
+use Rattle.answer_terms.proofs.ZoneAnswers.{groups_found, groups_without_type}
 use Rattle.answer_zone_records.specs.OwnedRecords.{is_of_type}
 use Rattle.answer_zone.specs.HashedZone.{AreHashed, served_by}
 use Rattle.answer_zone.specs.Questions.{zone_of}

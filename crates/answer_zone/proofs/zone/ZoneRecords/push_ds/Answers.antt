@@ -2,9 +2,9 @@ use Rattle.std.proofs.Common.{◌≡◌, [], ◌∷◌, true, false, sym, ap, su
 use Rattle.std.specs.Prelude.{if◌then◌else◌}
 use Rattle.definitions.specs.Name.{low}
 use Rattle.definitions.specs.Zone.{has}
-use Rattle.answer_shared.specs.Accepting.{zone_with}
-use Rattle.answer_shared.specs.GroupView.{Adds}
-use Rattle.answer_shared.specs.Served.{rrset}
+use Rattle.answer_terms.specs.Accepting.{zone_with}
+use Rattle.answer_terms.specs.GroupView.{Adds}
+use Rattle.answer_terms.specs.Served.{rrset}
 use Rattle.answer_zone.specs.HashedZone.{served_by}
 use Rattle.std.specs.List.{list_any}
 use Rattle.answer_zone_records.specs.OwnedRecords.{is_of_type}

@@ -1,9 +1,9 @@
 use Rattle.std.proofs.Common.{◌≡◌, List, map, sym, ap, subst, ◌∙◌}
-use Rattle.answer_shared.specs.GroupView.{Adds}
-use Rattle.answer_shared.specs.HashedLinks.{HashedLink, hashed_said_of}
+use Rattle.answer_terms.specs.GroupView.{Adds}
+use Rattle.answer_terms.specs.HashedLinks.{HashedLink, hashed_said_of}
 use Rattle.answer_zone_records.specs.Round.{IsCircle}
-use Rattle.answer_shared.specs.Hashing.{hash_in}
-use Rattle.answer_shared.specs.Served.{chain_ttl}
+use Rattle.answer_terms.specs.Hashing.{hash_in}
+use Rattle.answer_terms.specs.Served.{chain_ttl}
 use Rattle.answer_zone.proofs.zone.ZoneRecords.push_hashed_proofs.Goals as goal
 
 pub push_hashed_links-requires : goal.push_hashed_links-requires

@@ -1,9 +1,9 @@
 use Rattle.std.proofs.Common.{◌≡◌, List, map, sym, ap, subst, ◌∙◌}
 use Rattle.definitions.specs.Name.{Name, low}
-use Rattle.answer_shared.specs.GroupView.{Adds}
-use Rattle.answer_shared.specs.Links.{ChainLink, said_of}
+use Rattle.answer_terms.specs.GroupView.{Adds}
+use Rattle.answer_terms.specs.Links.{ChainLink, said_of}
 use Rattle.answer_zone_records.specs.Round.{IsRound}
-use Rattle.answer_shared.specs.Served.{chain_ttl}
+use Rattle.answer_terms.specs.Served.{chain_ttl}
 use Rattle.answer_zone.proofs.zone.ZoneRecords.push_named_proofs.Goals as goal
 
 pub push_links-requires : goal.push_links-requires

@@ -2,9 +2,9 @@ use Rattle.std.proofs.Common.{List, ap, sym, subst, ◌∙◌}
 use Rattle.std.proofs.lemmas.Result.{on_ok_weaker}
 use Rattle.definitions.specs.Name.{Name, low}
 use Rattle.denial_laws.specs.OwnFacts.{open_spoken}
-use Rattle.answer_shared.specs.Accepting.{zone_with}
-use Rattle.answer_shared.specs.GroupView.{Adds}
-use Rattle.answer_shared.specs.Served.{proofs_of}
+use Rattle.answer_terms.specs.Accepting.{zone_with}
+use Rattle.answer_terms.specs.GroupView.{Adds}
+use Rattle.answer_terms.specs.Served.{proofs_of}
 use Rattle.answer_zone.specs.HashedZone.{HashesEach, served_by}
 use Rattle.answer_zone.proofs.Spoken.{open_names, open_star_names}
 use Rattle.answer_zone.proofs.zone.ZoneRecords.push_open_proofs.Goals as goal

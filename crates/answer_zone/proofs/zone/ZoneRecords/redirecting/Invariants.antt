@@ -1,5 +1,5 @@
 use Rattle.std.proofs.Common.{◌≡◌, length}
-use Rattle.answer_shared.specs.Accepting.{zone_with}
+use Rattle.answer_terms.specs.Accepting.{zone_with}
 use Rattle.answer_zone.specs.Finding.{redirecting}
 use Rattle.answer_zone.proofs.Redirecting.{redirecting_among}
 use Rattle.answer_zone.proofs.zone.ZoneRecords.redirecting.Given as goal

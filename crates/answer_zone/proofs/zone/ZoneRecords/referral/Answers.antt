@@ -1,8 +1,8 @@
 use Rattle.std.proofs.Common.{[], ◌∷◌, ◌++◌, refl, sym, subst}
 use Rattle.std.specs.List.{AllZip}
 use Rattle.definitions.specs.Name.{low}
-use Rattle.answer_shared.specs.GroupView.{Presents}
-use Rattle.answer_shared.specs.Served.{if_any, proofs_of, unsigned_ns}
+use Rattle.answer_terms.specs.GroupView.{Presents}
+use Rattle.answer_terms.specs.Served.{if_any, proofs_of, unsigned_ns}
 use Rattle.answer_zone.specs.HashedZone.{served_by}
 use Rattle.answer_zone_records.proofs.ZoneLinks.{adds_then, added}
 use Rattle.answer_zone.proofs.zone.ZoneRecords.referral.Goals as goal

@@ -1,7 +1,7 @@
 use Rattle.std.proofs.Common.{◌≡◌, true, sym, ap, subst, ◌∙◌}
 use Rattle.std.specs.List.{AllByRecursion, find}
 use Rattle.definitions.specs.Name.{same}
-use Rattle.answer_shared.proofs.ZoneData.{data_are, label_count-low}
+use Rattle.answer_terms.proofs.ZoneData.{data_are, label_count-low}
 use Rattle.answer_zone_records.specs.GroupRecords.{HoldsRrset}
 use Rattle.answer_zone_records.specs.OwnedRecords.{is_of_type, ttl_in}
 use Rattle.answer_zone_records.proofs.OwnedFacts.{all_owned, rrset_owned, ttl_owned}

@@ -1,11 +1,11 @@
 use Rattle.std.proofs.Common.{◌≡◌, ap, subst, ◌∙◌}
 use Rattle.definitions.specs.Name.{low}
 use Rattle.definitions.specs.Zone.{has}
-use Rattle.answer_shared.specs.Accepting.{zone_with}
-use Rattle.answer_shared.specs.GroupView.{Presents}
-use Rattle.answer_shared.specs.Served.{rrset, soa}
+use Rattle.answer_terms.specs.Accepting.{zone_with}
+use Rattle.answer_terms.specs.GroupView.{Presents}
+use Rattle.answer_terms.specs.Served.{rrset, soa}
 use Rattle.answer_zone_records.specs.ZoneInOrder.{AreZoneRecords}
-use Rattle.answer_shared.proofs.ZoneData.{if_ok_map}
+use Rattle.answer_terms.proofs.ZoneData.{if_ok_map}
 use Rattle.answer_zone.specs.HashedZone.{served_by}
 use Rattle.answer_zone.proofs.Verdicts.{has_soa}
 use Rattle.answer_zone.proofs.zone.ZoneRecords.soa.Goals as goal

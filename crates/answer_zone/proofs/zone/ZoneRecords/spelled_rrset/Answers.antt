@@ -4,10 +4,10 @@ use Rattle.std.specs.List.{find, list_any}
 use Rattle.std.proofs.lemmas.Bool.{false≢true}
 use Rattle.definitions.specs.Name.{Name, low}
 use Rattle.definitions.specs.Zone.{data_at}
-use Rattle.answer_shared.specs.Accepting.{zone_with}
-use Rattle.answer_shared.specs.GroupView.{Presents}
-use Rattle.answer_shared.specs.Served.{Group, chain_ttl, owner_among, rrset, spelled_among, ttl_among, written_among}
-use Rattle.answer_shared.proofs.ZoneData.{if_ok_map}
+use Rattle.answer_terms.specs.Accepting.{zone_with}
+use Rattle.answer_terms.specs.GroupView.{Presents}
+use Rattle.answer_terms.specs.Served.{ServedRrset, chain_ttl, owner_among, rrset, spelled_among, ttl_among, written_among}
+use Rattle.answer_terms.proofs.ZoneData.{if_ok_map}
 use Rattle.messages.specs.HandedRr.{HandedRr}
 use Rattle.answer_zone_records.specs.OwnedRecords.{is_of_type}
 use Rattle.answer_zone_records.proofs.OwnedFacts.{has_first, owner_or, owner_owned}
@@ -28,7 +28,7 @@ returns g c =
       | in-Some w ↦ ap (λ o. o.now) w.owner-is ∙ w.owner-owner.ensures ∙ ap (owner_or (low n)) (w.in-Some.ensures ∙ ap (find (is_of_type t)) c.requires.owned) ∙ owner_owned n t rs
       | in-None w ↦ absurd (false≢true (has_first {A = HandedRr} (λ r. r) (is_of_type t) c.args.owned.now None w.in-None.ensures ∙ ap (list_any (is_of_type t)) c.requires.owned ∙ has_owned apex rs n t ∙ c.requires.there))
     ] in
-    let G : Name → ℕ → Group = λ o m. record { owner = o; source = low n; rtype = t; ttl = m; written = written_among rs (low n) t; datas = data_at (zone_with apex rs) (low n) t; signed = true } in
+    let G : Name → ℕ → ServedRrset = λ o m. record { owner = o; source = low n; rtype = t; ttl = m; written = written_among rs (low n) t; datas = data_at (zone_with apex rs) (low n) t; signed = true } in
     let owned = c.in_ok-copy_name.ensures ∙ there ∙ sym (ap (λ b. if b then spelled_among rs (low n) else owner_among rs (low n) t) c.requires.plain) in
     let ttl = sym (ap (λ b. if b then chain_ttl apex rs else ttl_among rs (low n) t) c.requires.plain) in
     let s = served_by g.H.Nsec3Hasher.hash_of c.args.self.now in

@@ -3,9 +3,9 @@ use Rattle.std.proofs.lemmas.Bool.{and_parts}
 use Rattle.definitions.specs.Name.{Name, low, strictly_above}
 use Rattle.definitions.specs.Zone.{Delegated, has, verdict}
 use Rattle.definitions.specs.ZoneChain.{optout_of}
-use Rattle.answer_shared.specs.Hashing.{hash_in}
-use Rattle.answer_shared.specs.Served.{if_any, proofs_of, spoken, unsigned_ns}
-use Rattle.answer_shared.proofs.ZoneAnswers.{groups_delegated}
+use Rattle.answer_terms.specs.Hashing.{hash_in}
+use Rattle.answer_terms.specs.Served.{if_any, proofs_of, spoken, unsigned_ns}
+use Rattle.answer_terms.proofs.ZoneAnswers.{groups_delegated}
 use Rattle.answer_zone.specs.HashedZone.{served_by}
 use Rattle.answer_zone.specs.Questions.{zone_of}
 use Rattle.answer_zone.proofs.Replies.{reply}

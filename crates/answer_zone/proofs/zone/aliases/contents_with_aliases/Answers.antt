@@ -1,7 +1,7 @@
 use Rattle.std.proofs.Common.{◌≡◌, map, false, Some, None}
 use Rattle.messages.specs.HandedRr.{handed_of}
-use Rattle.answer_shared.specs.Accepting.{sorted_records}
-use Rattle.answer_shared.specs.ModeView.{mode_of}
+use Rattle.answer_terms.specs.Accepting.{sorted_records}
+use Rattle.answer_terms.specs.ModeView.{mode_of}
 use Rattle.answer_zone_records.specs.AliasFaults.{IsAcceptedWithAliases, IsChained, RefusesPlainList, RefusesZoneWithAliases, first_plain_fault, has_disorder}
 use Rattle.answer_zone_records.proofs.ZoneFaults.{plainly, refused_plainly}
 use Rattle.answer_zone_records.proofs.ZoneMade.{accepted_with_aliases, if_err_more, if_ok_both, refused_with_aliases}

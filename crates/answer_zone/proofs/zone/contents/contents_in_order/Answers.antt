@@ -4,8 +4,8 @@ use Rattle.denial_chain_owners.specs.Conditions.{IsOneClass}
 use Rattle.definitions.specs.Sorting.{sort_by}
 use Rattle.messages.specs.Handed.{IsHanded}
 use Rattle.messages.specs.HandedRr.{handed_of, is_meta}
-use Rattle.answer_shared.specs.Accepting.{is_alias, sorted_records}
-use Rattle.answer_shared.specs.ModeView.{mode_of}
+use Rattle.answer_terms.specs.Accepting.{is_alias, sorted_records}
+use Rattle.answer_terms.specs.ModeView.{mode_of}
 use Rattle.answer_zone_records.specs.AliasFaults.{IsPlainList, RefusesPlainList, has_disorder}
 use Rattle.answer_zone_records.specs.MadeLinks.{IsMade, IsUnmade}
 use Rattle.answer_zone_records.specs.OwnedRecords.{IsInternet}

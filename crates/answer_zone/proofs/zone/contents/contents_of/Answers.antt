@@ -1,8 +1,8 @@
 use Rattle.std.proofs.Common.{◌≡◌, map, None}
 use Rattle.messages.specs.HandedRr.{handed_of}
-use Rattle.answer_shared.specs.Accepted.{IsAccepted}
-use Rattle.answer_shared.specs.ModeView.{mode_of}
-use Rattle.answer_shared.proofs.ZoneData.{if_ok_map}
+use Rattle.answer_terms.specs.Accepted.{IsAccepted}
+use Rattle.answer_terms.specs.ModeView.{mode_of}
+use Rattle.answer_terms.proofs.ZoneData.{if_ok_map}
 use Rattle.answer_zone_records.specs.AliasFaults.{IsChained, RefusesPlainList}
 use Rattle.answer_zone_records.specs.Faults.{RefusesZone, first_fault}
 use Rattle.answer_zone_records.proofs.ZoneFaults.{faultless, plain_list}

@@ -2,10 +2,10 @@ use Rattle.std.proofs.Common.{◌≡◌, ℕ, List, [], ◌∷◌, ◌++◌, map
 use Rattle.std.specs.Prelude.{nat_lt, length}
 use Rattle.definitions.specs.Name.{low}
 use Rattle.definitions.specs.Signing.{label_count}
-use Rattle.answer_shared.specs.GroupView.{Presents, canonical_view}
-use Rattle.answer_shared.specs.Links.{group_of}
-use Rattle.answer_shared.specs.Served.{written_rr}
-use Rattle.answer_shared.proofs.ZoneData.{if_ok_map, label_count-low}
+use Rattle.answer_terms.specs.GroupView.{Presents, canonical_view}
+use Rattle.answer_terms.specs.Links.{group_of}
+use Rattle.answer_terms.specs.Served.{written_rr}
+use Rattle.answer_terms.proofs.ZoneData.{if_ok_map, label_count-low}
 use Rattle.answer_zone_records.proofs.chain.ChainLinkKeptLink.group.Goals as goal
 
 pub returns : goal.returns

@@ -3,7 +3,7 @@ use Rattle.std.proofs.Math.Seq.{take-length}
 use Rattle.std.proofs.lemmas.List.{length-map}
 use Rattle.messages.proofs.Lists.{map-map, same_octets}
 use Rattle.answer_zone_records.specs.GroupRecords.{record_under}
-use Rattle.answer_shared.specs.Served.{written_rr}
+use Rattle.answer_terms.specs.Served.{written_rr}
 use Rattle.answer_zone_records.proofs.ZoneGroups.{not_empty, written_more}
 use Rattle.answer_zone_records.proofs.group.RrGroup.canonical_form.Goals as goal
 

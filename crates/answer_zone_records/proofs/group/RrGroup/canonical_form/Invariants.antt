@@ -1,6 +1,6 @@
 use Rattle.std.proofs.Common.{◌≡◌, map, take}
 use Rattle.answer_zone_records.specs.GroupRecords.{record_under}
-use Rattle.answer_shared.specs.Served.{written_rr}
+use Rattle.answer_terms.specs.Served.{written_rr}
 use Rattle.answer_zone_records.proofs.group.RrGroup.canonical_form.Given as goal
 
 abbrev pub invariant-loop-octets : goal.invariant-loop-octets

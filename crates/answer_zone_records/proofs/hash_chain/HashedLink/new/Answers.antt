@@ -1,5 +1,5 @@
 use Rattle.std.proofs.Common.{◌≡◌, sym, arith, rules}
-use Rattle.answer_shared.proofs.Octets.{are_octets}
+use Rattle.answer_terms.proofs.Octets.{are_octets}
 use Rattle.answer_zone_records.proofs.hash_chain.HashedLink.new.Goals as goal
 
 pub returns-clause-octets : goal.returns-clause-octets

@@ -5,7 +5,7 @@ use Rattle.messages.specs.Questions.{asked_of}
 use Rattle.answer_events.specs.declared.event.Act.TheVariants as act
 use Rattle.answer_outcomes.specs.declared.outcome.Outcome.TheVariants as outcome
 use Rattle.answer_publisher.specs.declared.fault.AnswerFault.TheVariants as refusal
-use Rattle.answer_shared.specs.Asking.{is_allowed}
+use Rattle.answer_terms.specs.Asking.{is_allowed}
 use Rattle.answer.specs.declared.simulation.run.Run.{Run}
 use Rattle.answer.specs.Results.{Results}
 use Rattle.answer.specs.Running.{Serves, sofar, world_in}

@@ -1,8 +1,0 @@
-use Rattle.std.proofs.Common.{◌≡◌, drop, map}
-use Rattle.std.specs.List.{filter_map}
-use Rattle.answer_judge_facts.specs.Lasting.{held_for, least, least_of}
-use Rattle.answer_judge_facts.specs.Marked.{times_by}
-use Rattle.answer_judge_facts.proofs.lasting.least_held.Given as goal
-
-abbrev pub invariant-loop-group : goal.invariant-loop-group
-invariant-loop-group l = least l.least (map (held_for l.moment) (filter_map times_by (drop l.group-index l.groups))) ≡ least_of (map (held_for l.moment) (filter_map times_by l.groups))

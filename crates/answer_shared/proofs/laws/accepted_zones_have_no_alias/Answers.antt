@@ -1,5 +1,0 @@
-use Rattle.answer_shared.proofs.Servable.{accepted_unaliased}
-use Rattle.answer_shared.proofs.laws.accepted_zones_have_no_alias.Goals as goal
-
-pub returns : goal.returns
-returns c = accepted_unaliased

@@ -1,6 +1,0 @@
-use Rattle.std.proofs.Common.{◌≡◌, map, take}
-use Rattle.resolution_octets.specs.ReadMessages.{message_of}
-use Rattle.resolution_octets.proofs.handed.handed.Given as goal
-
-abbrev pub invariant-loop-message : goal.invariant-loop-message
-invariant-loop-message l = l.handed.items ≡ map message_of (take l.message-index l.read)

@@ -1,5 +1,0 @@
-use Rattle.std.proofs.Common.{rules}
-use Rattle.resolution_octets.proofs.said.end_replied.Goals as goal
-
-pub returns : goal.returns
-returns c = record { error = c.in_ok-error.error; is_error = c.in_ok-error.ensures; is = search rules }

@@ -1,0 +1,179 @@
+//! Where the messages of a zone lead.
+ghost use Rattle.std.specs.Prelude.{◌≡◌, IfErr, IfOk, MatchResult};
+ghost use Rattle.resolution_evidence.specs.Given.{IsOf};
+ghost use Rattle.resolution_evidence.specs.Told.{told};
+ghost use Rattle.resolution_walk.specs.Between.{IsAnswerUntold, IsNothing, IsUnanswered};
+ghost use Rattle.resolution_walk.specs.Ended.{IsHop};
+ghost use Rattle.resolution_walk.specs.Judged.{IsCountedBetween, IsLast, IsToldWay};
+ghost use Rattle.resolution_walk.specs.Judged.{are_keys_refused, is_of_keys};
+ghost use Rattle.resolution_walk.specs.Stopping.{IsCounted, IsStop, IsHopUntold};
+
+use crate::ending::{JudgedHop, Uncut};
+use crate::evidence::Evidence;
+use crate::names_between::search_down_to;
+use crate::place::{case_of, judged_hop, own_step, untold, wanting};
+use crate::query::ZoneQuery;
+use resolution_evidence::{Case, Counts, JudgedStep, Refusal, Step};
+use std::alloc::{AllocError, Global};
+
+/// An answer to the question that tells nothing of the way.
+#[derive(Clone, Copy, Debug, PartialEq, Eq)]
+struct Unanswered {
+    /// Why it was refused, if it was.
+    refusal: Option<Refusal>,
+    /// How often was verified and hashed for it.
+    counts: Counts,
+}
+
+/// Where the messages of a zone lead with a question: by the answer to it, and where that tells
+/// nothing of the way, by answers for DS at the names between. What is counted so far comes with
+/// it.
+pub(crate) fn in_zone(
+    alloc: Global,
+    evidence: &Evidence,
+    query: &ZoneQuery,
+    counts: Counts,
+) -> Result<JudgedHop, AllocError>
+    ensures leads { IfOk result (IsHop evidence.now query.now) }
+    ensures stops { IfOk result (IsStop evidence.now query.now) }
+    ensures counted { IfOk result (IsCounted evidence.now query.now counts) }
+{
+    match case_of(evidence, query.zone, query.ds, query.question) {
+        Some(case) => by_answer(alloc, evidence, query, &case, counts),
+        None => wanting(alloc, evidence, query.zone, query.question, counts),
+    }
+}
+
+/// Where the answer to the question leads, or answers for DS where that tells nothing of the way.
+fn by_answer(
+    alloc: Global,
+    evidence: &Evidence,
+    query: &ZoneQuery,
+    case: &Case,
+    counts: Counts,
+) -> Result<JudgedHop, AllocError>
+    requires { let q = query.now in IsOf evidence.now q.zone q.ds q.asked case.now }
+    ensures leads { IfOk result (IsHop evidence.now query.now) }
+    ensures stops { IfOk result (IsStop evidence.now query.now) }
+    ensures counted { IfOk result (IsCounted evidence.now query.now counts) }
+{
+    let judged_step = own_step(alloc, evidence, case)?;
+    let (validity, own) = (judged_step.validity, judged_step.counts);
+    let sums = counts.plus(own);
+    match told_way(judged_step.step) {
+        Ok(step) => {
+            let so_far = JudgedStep {
+                step,
+                validity,
+                counts: sums,
+            };
+            judged_hop(alloc, query, so_far)
+        }
+        Err(refusal) => {
+            let untold = Unanswered {
+                refusal,
+                counts: own,
+            };
+            search_between(alloc, evidence, query, untold, counts)
+        }
+    }
+}
+
+/// What is told of the way, or why nothing is.
+fn told_way(step: Step) -> Result<Step, Option<Refusal>>
+    ensures { let said = told step in
+        MatchResult result (λ s. IsToldWay said (told s)) (IsNothing said) }
+{
+    match step {
+        Step::Untold(refusal) => Err(refusal),
+        Step::NoCut | Step::NoneBelow => Err(None),
+        step => Ok(step),
+    }
+}
+
+/// Where answers for DS lead at the names between; or nowhere, if no delegation is there. The
+/// answer to the question tells nothing.
+fn search_between(
+    alloc: Global,
+    evidence: &Evidence,
+    query: &ZoneQuery,
+    untold: Unanswered,
+    counts: Counts,
+) -> Result<JudgedHop, AllocError>
+    requires { let q = query.now in
+        IsAnswerUntold evidence.now q.asked q.zone q.ds untold.refusal untold.counts }
+    ensures leads { IfOk result (IsHop evidence.now query.now) }
+    ensures stops { IfOk result (IsStop evidence.now query.now) }
+    ensures counted { IfOk result (IsCounted evidence.now query.now counts) }
+{
+    let sums = counts.plus(untold.counts);
+    let way = down_between(alloc, evidence, query, &untold.refusal, sums)?;
+    match way {
+        Ok(judged_hop) => Ok(judged_hop),
+        Err(uncut) => {
+            let all = uncut.counts();
+            untold_there(alloc, query, untold.refusal, all)
+        }
+    }
+}
+
+/// The end where the answer to a question tells nothing, with what is counted so far.
+fn untold_there(
+    alloc: Global,
+    query: &ZoneQuery,
+    refusal: Option<Refusal>,
+    counts: Counts,
+) -> Result<JudgedHop, AllocError>
+    ensures hops { IfOk result (λ t. IsHopUntold query.now refusal t.hop) }
+    ensures counted { IfOk result (λ t. t.counts ≡ counts) }
+{
+    let hop = untold(alloc, query, refusal)?;
+    Ok(JudgedHop {
+        hop,
+        validity: None,
+        counts,
+    })
+}
+
+/// Where answers for DS lead at the names between. None is looked at if the zone's keys are
+/// refused, since no answer of the zone tells anything then.
+fn down_between(
+    alloc: Global,
+    evidence: &Evidence,
+    query: &ZoneQuery,
+    refusal: &Option<Refusal>,
+    counts: Counts,
+) -> Result<Result<JudgedHop, Uncut>, AllocError>
+    requires { let q = query.now in IsUnanswered evidence.now q.asked q.zone q.ds }
+    ensures leads { IfOk result (λ r. IfOk r (IsHop evidence.now query.now)) }
+    ensures stops { IfOk result (λ r. IfOk r (IsStop evidence.now query.now)) }
+    ensures counted { IfOk result (IsCountedBetween evidence.now query.now counts) }
+    ensures last { let q = query.now in let last = IsLast evidence.now q.asked q.zone q.ds in
+        IfOk result (λ r. IfErr r (λ u. last refusal.now)) }
+{
+    if are_keys_refused(refusal) {
+        Ok(Err(Uncut::SoFar(counts)))
+    } else {
+        search_down_to(alloc, evidence, query, &query.question.name, counts)
+    }
+}
+
+/// Whether a message was refused for the zone's keys, which each of the zone's messages is judged
+/// by.
+fn are_keys_refused(refusal: &Option<Refusal>) -> bool
+    ensures { result ≡ are_keys_refused refusal.now }
+{
+    match refusal {
+        Some(refusal) => is_of_keys(*refusal),
+        None => false,
+    }
+}
+
+fn is_of_keys(refusal: Refusal) -> bool
+    ensures { result ≡ is_of_keys refusal }
+{
+    match refusal {
+        Refusal::BadDnskeyMessage | Refusal::EqualTags | Refusal::NoTrustedKey => true,
+        _ => false,
+    }
+}
