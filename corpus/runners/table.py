@@ -1,4 +1,4 @@
-"""The tables of corpus/README.md, from what was kept of the runs."""
+"""The tables of corpus/README.md and corpus/said/differences.tsv, from what was kept of the runs."""
 
 from __future__ import annotations
 
@@ -13,6 +13,7 @@ from .outcome import SAID, TOP, Case, Said, groups, mark, verdict
 ORDER = ["zermuita", "unbound", "bind", "ldns", "knot-resolver", "powerdns", "dnspython"]
 BEGIN, END = "<!-- written by corpus/run table: begin -->\n", "<!-- written by corpus/run table: end -->\n"
 README = TOP / "README.md"
+DIFFERENCES = SAID / "differences.tsv"
 WORDS = {"accepts": "accepted", "refuses": "refused", "differs": "otherwise"}
 
 
@@ -33,11 +34,12 @@ def cell(of: dict[str, str]) -> str:
     if not asked:
         return "not asked"
     rest = [f"{counts[it]} {word}" for it, word in WORDS.items() if counts[it]]
-    return f"{counts['agrees']} of {asked}" + (": " + ", ".join(rest) if rest else "")
+    return f"{counts['agrees']}/{asked}" + (": " + ", ".join(rest) if rest else "")
 
 
 def of_lines(head: list[str], rows: list[list[str]]) -> str:
-    return "".join("| " + " | ".join(it) + " |\n" for it in [head, ["---"] * len(head), *rows])
+    first, *others = ("| " + " | ".join(it) + " |\n" for it in [head, *rows])
+    return "".join([first, "|---" * len(head) + "|\n", *others])
 
 
 def by_group(all_cases: dict[str, list[Case]], told: dict[str, dict[str, Any]]) -> str:
@@ -60,7 +62,7 @@ def reason_of(validator: str, kind: str, case: Case) -> Reason | None:
 
 
 def differences(all_cases: dict[str, list[Case]], told: dict[str, dict[str, Any]]) -> tuple[str, list[str]]:
-    """A row for each reason, with the cases; and what has none."""
+    """A line for each reason, with the cases; and what has none."""
     found: dict[tuple[str, Reason], list[str]] = collections.defaultdict(list)
     unknown = []
     for validator, of in told.items():
@@ -75,7 +77,7 @@ def differences(all_cases: dict[str, list[Case]], told: dict[str, dict[str, Any]
                     else:
                         found[validator, reason].append(case["id"])
     rows = [[validator, reason.text, spans(ids)] for (validator, reason), ids in found.items()]
-    return of_lines(["validator", "what differs, and what the standards have", "cases"], rows), unknown
+    return "".join("\t".join(it) + "\n" for it in [["validator", "difference", "cases"], *rows]), unknown
 
 
 def spans(ids: list[str]) -> str:
@@ -100,7 +102,8 @@ def write() -> int:
     told, all_cases = kept(), groups([])
     versions = of_lines(["validator", "version", "date of the last run, of all groups or of some"], [[name, of["version"], of["date"]] for name, of in told.items()])
     rows, unknown = differences(all_cases, told)
-    text = f"{BEGIN}\n{versions}\n{by_group(all_cases, told)}\n{rows}\n{END}"
+    DIFFERENCES.write_text(rows)
+    text = f"{BEGIN}\n{versions}\n{by_group(all_cases, told)}\n{END}"
     page = README.read_text()
     page, count = re.subn(re.escape(BEGIN) + ".*" + re.escape(END), lambda _it: text, page, flags=re.DOTALL)
     if count != 1:
