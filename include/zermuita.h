@@ -1,12 +1,14 @@
 /*
- * What a signed DNS zone says of a name, judged from messages alone (RFC 4035, 5), and what a tree of zones says of it from a trust
- * anchor down. zermuita_judge(3) and docs/use/CALLING.md say how a zone's messages are judged, what each reply proves and under which
- * premises; zermuita_resolve(3) and docs/use/RESOLVING.md how the way from a trust anchor is walked.
+ * Validates DNSSEC answers (RFC 4035, 5). zermuita_judge() validates one zone's answer, given the zone's DS set and DNSKEY
+ * answer. zermuita_resolve() validates the whole path from a trust anchor to a name. docs/use/CALLING.md and
+ * docs/use/RESOLVING.md show how to use them.
  *
- * The library checks no signature. Its caller passes those that it has checked, and the library gives a verdict, a refusal, or
- * signatures that are still to be checked. It keeps nothing between calls, calls nothing back but malloc, realloc and free, and
- * frees all memory before a call returns. It is thread-safe: it has no state, so any number of calls may run at once, on the same
- * octets too, as long as no octets change.
+ * The library checks no signature: it lists the signatures that have to be checked, and the caller checks them with a library of
+ * its own. It keeps no state between calls, calls nothing but malloc, realloc and free, and frees all memory before a call
+ * returns. It is thread-safe: threads may use the same bytes at once if nothing changes them.
+ *
+ * tools/man makes the man pages and docs/use/REPLIES.md from the comments of this file. `@page` begins a man page, which covers
+ * the declarations up to the next one.
  */
 #ifndef ZERMUITA_H
 #define ZERMUITA_H
@@ -15,215 +17,66 @@
 #include <stdint.h>
 #include <string.h>
 
+/*
+ * @page zermuita_version: version of the library
+ *
+ * ZERMUITA_VERSION_NUMBER is the version of the header that a program was compiled with, ZERMUITA_VERSION the same as text. Below
+ * 1.0 a minor version may break callers and has its own SONAME; from 1.0 on, only a major version may.
+ */
 #define ZERMUITA_VERSION_MAJOR 0
 #define ZERMUITA_VERSION_MINOR 2
 #define ZERMUITA_VERSION_PATCH 0
 #define ZERMUITA_VERSION "0.2.0"
-/* As zermuita_version() gives it. */
 #define ZERMUITA_VERSION_NUMBER (ZERMUITA_VERSION_MAJOR << 16 | ZERMUITA_VERSION_MINOR << 8 | ZERMUITA_VERSION_PATCH)
 
 #ifdef __cplusplus
 extern "C" {
 #endif
 
-/* What a call answers. The comment behind each is what zermuita_strerror says of it. */
-enum zermuita_reply {
-    /*
-     * Verdicts: secure, but for ZERMUITA_OPTOUT and ZERMUITA_INSECURE, which are insecure, and for ZERMUITA_DELEGATED and
-     * ZERMUITA_REFERRAL, which prove where the zone ends and leave open whether the name is secure. The output, which is what is
-     * written to `out`:
-     *
-     *   ZERMUITA_RECORDS, ZERMUITA_WILDCARD      the records' data (zermuita_next_record)
-     *   ZERMUITA_ALIAS, ZERMUITA_WILDCARD_ALIAS  the target, a name in wire form (zermuita_next_name)
-     *   ZERMUITA_DNAME                           the DNAME's owner, and the name that `name` of the case becomes; the owner alone
-     *                                            where that would have more than 255 octets: YXDOMAIN (RFC 6672, 2.2)
-     *   ZERMUITA_REFERRAL                        the cut's name, and behind it its DS set, in the form of `ds`
-     *   ZERMUITA_DELEGATED                       the name of the topmost delegation, where the answer proves which; else nothing
-     *   others                                   nothing
-     *
-     * With `places` 1 the places of the records that are verified for the verdict stand in front of that (zermuita_take_places),
-     * with each verdict but ZERMUITA_INSECURE.
-     *
-     * Every verdict except ZERMUITA_INSECURE vouches for the NSEC and NSEC3 records whose signatures pass and for the DNSKEY set;
-     * ZERMUITA_RECORDS and ZERMUITA_WILDCARD also for the RRset that was asked for, the replies of an alias for its CNAME or DNAME
-     * record, and ZERMUITA_REFERRAL for its DS set. None vouches for anything else: the SOA record beside a denial, the NS set of
-     * a referral and the CNAME that servers make of a DNAME are not verified. ZERMUITA_DELEGATED alone does not say whether DS
-     * records beside it are verified: with `places` 1 those that are verified have places, where the output names the delegation.
-     * A verdict is about `name` and `rtype` of its call alone. ZERMUITA_NODATA for type DS at `apex` itself says nothing of the
-     * parent's DS set: ask the parent's servers, with the parent as `apex`. The reply of an alias says only where `name` leads:
-     * ask for the target next, from the root down. Do not follow it where `name` is not the client's name, as in a search for a
-     * delegation above that: the client's name leads elsewhere.
-     */
-    ZERMUITA_RECORDS = 0,         /* the name has records of the type */
-    ZERMUITA_NODATA = 1,          /* the name has no records of the type */
-    ZERMUITA_NXDOMAIN = 2,        /* there is no such name */
-    ZERMUITA_WILDCARD = 3,        /* a wildcard stands for the name and has records of the type */
-    ZERMUITA_WILDCARD_NODATA = 4, /* a wildcard stands for the name and has no records of the type */
-    ZERMUITA_DELEGATED = 5,       /* the name is at or below a delegation */
-    ZERMUITA_OPTOUT = 6,          /* an opt-out chain leaves open what is there */
-    ZERMUITA_INSECURE = 7,        /* no DS record can be checked, so nothing vouches for the zone's keys */
-    ZERMUITA_ALIAS = 8,           /* the name has a CNAME record */
-    ZERMUITA_WILDCARD_ALIAS = 9,  /* a wildcard stands for the name and has a CNAME record */
-    ZERMUITA_DNAME = 10,          /* a name above has a DNAME record */
-    ZERMUITA_REFERRAL = 11,       /* the name is at or below a delegation with DS records */
+/* Returns the version of the running library: 65,536 times major plus 256 times minor plus patch. */
+uint32_t zermuita_version(void);
 
-    /*
-     * Refusals: why there is no verdict. 21, 22 and 25 are bogus once the steps that docs/use/CALLING.md has for each are done: 25
-     * also comes for answers of a zone below. `ede` says what to tell the client.
-     */
-    ZERMUITA_QUESTION_NOT_ALLOWED = 16,   /* the name is not in the zone, the class is not IN, or the type is not judged */
-    ZERMUITA_BAD_DNSKEY_MESSAGE = 17,     /* the DNSKEY answer is not a message */
-    ZERMUITA_BAD_ANSWER_MESSAGE = 18,     /* the answer is not a message */
-    ZERMUITA_QUESTION_MISMATCH = 19,      /* a message answers another question */
-    ZERMUITA_EQUAL_TAGS = 20,             /* two different keys have one tag */
-    ZERMUITA_NO_TRUSTED_KEY = 21,         /* no key that a DS record names signs the DNSKEY set */
-    ZERMUITA_MIXED_NSEC3_PARAMETERS = 22, /* NSEC3 records have different parameters */
-    ZERMUITA_ITERATIONS_OVER_LIMIT = 23,  /* the NSEC3 iterations are over the limit */
-    ZERMUITA_HASH_FAILED = 24,            /* a name was not hashed */
-    ZERMUITA_NOT_PROVEN = 25,             /* the signed records prove no verdict */
-    ZERMUITA_OUT_OF_MEMORY = 26,          /* memory ran out */
-    ZERMUITA_MIXED_VERSIONS = 27,         /* signatures have different times, and one moment is demanded */
-    ZERMUITA_MESSAGE_TOO_LONG = 28,       /* a message is too long in canonical form, or costs too much work */
-    ZERMUITA_TOO_MANY_SIGNATURES = 29,    /* more signatures are to be checked than the case allows */
+/*
+ * @page zermuita_next_part: length-prefixed bytes
+ *
+ * The functions that read DS sets, entries and outputs are built on these. Use them for byte strings of your own, such as a DS
+ * set or an RSA key.
+ *
+ * @see zermuita_next_ask zermuita_next_record
+ */
 
-    /* Of zermuita_resolve alone. */
-    ZERMUITA_NOTHING_TOLD = 30, /* a zone's answer tells nothing of the way to the name */
-    ZERMUITA_OUTSIDE = 31,      /* the name is not at or below the trust anchor, or DS is asked for at it */
-
-    /* What the library needs. */
-    ZERMUITA_ASK = 32,              /* signatures are to be checked */
-    ZERMUITA_WANT = 33,             /* messages are wanted */
-    ZERMUITA_BUFFER_TOO_SMALL = 34, /* the reply has more octets than there is room for */
-
-    /* What cannot be read. */
-    ZERMUITA_BAD_APEX = 35,       /* the name of the zone is not a name in wire form */
-    ZERMUITA_BAD_DS_SET = 36,     /* the DS set is not DS records behind their lengths */
-    ZERMUITA_BAD_NAME = 37,       /* the name that was asked for is not a name in wire form */
-    ZERMUITA_BAD_SIGNATURES = 38, /* the checked signatures are not entries */
-    ZERMUITA_BAD_CASE = 39,       /* a size or a flag is unknown, octets are null, or no_ds contradicts ds */
-    ZERMUITA_BAD_MESSAGES = 40,   /* the messages are not messages behind the names that they are of */
-
-    /* Limits of zermuita_resolve, which say why there is no verdict, too. */
-    ZERMUITA_TOO_MANY_CUTS = 48,     /* more delegations are on the way to the name than are allowed */
-    ZERMUITA_TOO_MANY_ALIASES = 49,  /* more aliases are on the way to the name than are allowed */
-    ZERMUITA_TOO_MANY_MESSAGES = 50, /* more messages are wanted than the evidence may have */
-
-    /*
-     * One more refusal, with `ede` 12. Nothing is proved, and the answer is not bogus: records of it verify, but not all that the RFCs
-     * ask for are there. docs/use/CALLING.md has the valid answers that bring it, and what to do then.
-     */
-    ZERMUITA_INCOMPLETE_DENIAL = 51 /* records verify, but a denial record that the proof needs is missing */
-};
-
-/* Octets. Where there are none, `len` is 0, and `data` may be null. */
+/* A byte string. `data` may be null if `len` is 0. */
 struct zermuita_octets {
     const uint8_t *data;
     size_t len;
 };
 
-/*
- * What is judged: set it to zero, then its size, then what the question needs. Names are in wire form, without pointers (RFC
- * 1035, 3.1).
- *
- * A record of `ds` counts if it is of one of the `algorithms` and has a digest of SHA-256 or SHA-384. A zone of which no record
- * counts is insecure (RFC 4035, 5.2). `no_ds` says that there is no DS record: without it a `ds` of no octets is
- * ZERMUITA_BAD_CASE, and so is a `ds` of some beside it.
- */
-struct zermuita_case {
-    size_t size;                       /* sizeof(struct zermuita_case) */
-    struct zermuita_octets apex;       /* the name of the zone */
-    struct zermuita_octets ds;         /* the parent's DS set: each record's data behind its length in two octets */
-    struct zermuita_octets dnskey;     /* the zone's answer for its DNSKEY records, a whole message */
-    struct zermuita_octets answer;     /* its answer to the question, a whole message */
-    struct zermuita_octets name;       /* the name that was asked for */
-    struct zermuita_octets checked;    /* the signatures that were checked so far, as entries back to back, in any order */
-    uint64_t now;                      /* the moment at which signatures must hold, in seconds since 1970 */
-    uint16_t rtype;                    /* the type that was asked for */
-    uint16_t rclass;                   /* the class that was asked for: 1 */
-    uint16_t max_nsec3_iterations;     /* how many iterations of a name's hash are allowed (RFC 9276, 3.2) */
-    uint32_t one_moment;               /* 1: the signatures of `answer` must have one inception and one expiration; 0: any */
-    uint32_t as_received;              /* 1: messages are judged as they came; 0: names in data in canonical form first */
-    struct zermuita_octets algorithms; /* the algorithms that the caller checks, an octet each; none: all */
-    uint32_t max_signatures;           /* how many signatures of both messages are to be checked at most; 0: 16 */
-    uint32_t other_question;           /* 1: the answer may be one to another question of the zone; 0: to this one */
-    uint32_t no_ds;                    /* 1: the parent proved a delegation without DS records; 0: `ds` has some */
-    uint32_t places;                   /* 1: a verdict says which records of `answer` are verified for it; 0: it does not */
-};
-
-/*
- * What a walk from a trust anchor down is handed: set it to zero, then its size, then what the question needs. Names are in wire
- * form, without pointers; the class is 1. The same records of `ds` count as in a case; where none does, the evidence is refused as
- * ZERMUITA_BAD_DS_SET, since a trust anchor that cannot be checked is set wrongly.
- */
-struct zermuita_evidence {
-    size_t size;                       /* sizeof(struct zermuita_evidence) */
-    struct zermuita_octets anchor;     /* the name of the trust anchor's zone, in any case; for the root one octet, 0 */
-    struct zermuita_octets ds;         /* its DS set: each record's data behind its length in two octets */
-    struct zermuita_octets name;       /* the name that is asked for */
-    struct zermuita_octets messages;   /* the messages so far, back to back, in any order (zermuita_put_message) */
-    struct zermuita_octets checked;    /* the signatures that were checked so far, as entries back to back, in any order */
-    struct zermuita_octets algorithms; /* the algorithms that the caller checks, an octet each; none: all */
-    uint64_t now;                      /* the moment at which signatures must hold, in seconds since 1970 */
-    uint16_t rtype;                    /* the type that is asked for */
-    uint16_t max_nsec3_iterations;     /* how many iterations of a name's hash are allowed (RFC 9276, 3.2) */
-    uint16_t max_cuts;                 /* how many delegations are gone down for a name at most; 0: 32, so 1 is the least */
-    uint16_t max_aliases;              /* how many aliases are followed at most; 0: 16, so 1 is the least; beyond 255: 255 */
-    uint16_t one_moment;               /* 1: the signatures of an answer must have one inception and one expiration; 0: any */
-    uint16_t max_messages;             /* beside so many messages no more are wanted; 0: 128 */
-    uint32_t max_signatures;           /* how many entries `checked` may have with those that are asked for; 0: 256 */
-};
-
-/* Whether a name that has no DS record is a delegation: promised of a zone that does not change, whatever `one_moment` is. */
-enum zermuita_delegates {
-    ZERMUITA_DELEGATES_UNKNOWN = 0, /* nothing is said of it */
-    ZERMUITA_DELEGATES_YES = 1,     /* the name is a delegation, to a zone that is not signed */
-    ZERMUITA_DELEGATES_NO = 2       /* the name is none: the zone itself answers for it */
-};
-
-/*
- * What is said beside a reply. A verdict may be kept for `ttl` seconds, and not beyond the second `until`. Up to there the same
- * case has the same verdict of 0 to 7, but for ZERMUITA_DELEGATED without a name, ZERMUITA_NODATA for DS with `delegates` 0 and
- * ZERMUITA_OPTOUT of a wildcard's alias. For these three, and for replies 8 to 11, what the reply proves stays true until then, but
- * the reply itself may change when another signature of the message becomes valid. Both are 0 with ZERMUITA_INSECURE of a case,
- * which no record says, and without a verdict. Where a verdict rests on several judgements of the answer, as the cut of
- * ZERMUITA_DELEGATED and `delegates` do, they are the least of all; zermuita_resolve has the least of all that its way rests on.
- *
- * `ede` is 1 or 2 with ZERMUITA_INSECURE where there are DS records (RFC 8914, 4.2 and 4.3); with a refusal it says what to tell
- * the client (7: a signature expired, 10: there is none, 12: a denial is missing, ..), 0 where there is nothing to tell.
- */
-struct zermuita_report {
-    size_t size;            /* sizeof(struct zermuita_report), set before the call */
-    size_t len;             /* how many octets the output has, even if there is no room for it; what follows is of it too */
-    uint64_t until;         /* the last second, since 1970, in which the verdict stands, as said above */
-    uint64_t verifications; /* how many signatures the judgements looked up in `checked`; look-ups for places do not count */
-    uint64_t hashes;        /* how many names the judgements hashed; with ZERMUITA_ASK both are of those made before it */
-    uint32_t ttl;           /* for how many seconds from its message's arrival the verdict may be kept (RFC 4035, 5.3.3) */
-    uint16_t ede;           /* the code of an extended error (RFC 8914); 0: none, as code 0 of the RFC is never meant */
-    uint16_t delegates;     /* with ZERMUITA_NODATA for DS: a number of enum zermuita_delegates; else 0 */
-};
-
-/* The library's own functions. They take no null pointer: call zermuita_judge, zermuita_resolve and zermuita_strerror instead. */
-uint32_t zermuita_judge_case(const struct zermuita_case *handed, uint8_t *out, size_t out_len, struct zermuita_report *report);
-uint32_t zermuita_resolve_evidence(const struct zermuita_evidence *handed, uint8_t *out, size_t out_len,
-                                   struct zermuita_report *report);
-void zermuita_reply_text(uint32_t reply, struct zermuita_octets *text);
-
-/* Whether a reply is a verdict, and whether it says why there is none: 1 or 0. */
-uint32_t zermuita_is_verdict(uint32_t reply);
-uint32_t zermuita_is_refusal(uint32_t reply);
-
-/* The version of the library that runs: 65,536 times major and 256 times minor and patch. */
-uint32_t zermuita_version(void);
-
-/* A reply's name and a sentence. The text is valid as long as the program runs. */
-static inline const char *zermuita_strerror(enum zermuita_reply reply) {
-    static const uint8_t none[1] = {0};
-    struct zermuita_octets text = {none, 0};
-    zermuita_reply_text((uint32_t)reply, &text);
-    return (const char *)text.data;
+/* Returns the big-endian number in the first `width` bytes. */
+static inline size_t zermuita_number(const uint8_t *octets, size_t width) {
+    size_t number = 0;
+    for (size_t i = 0; i < width; i++) {
+        number = number << 8 | octets[i];
+    }
+    return number;
 }
 
-/* Puts a pointer in the place of null where there are no octets. Gives 0 where null has a length. */
+/*
+ * Removes the first part from `rest`: a length in `width` bytes and that many bytes, which `part` then points to. Returns 1, or 0
+ * and changes nothing if `rest` holds no whole part.
+ */
+static inline int zermuita_next_part(struct zermuita_octets *rest, size_t width, struct zermuita_octets *part) {
+    size_t len = rest->len < width ? 0 : zermuita_number(rest->data, width);
+    if (rest->len < width || rest->len - width < len) {
+        return 0;
+    }
+    part->data = rest->data + width;
+    part->len = len;
+    rest->data += width + len;
+    rest->len -= width + len;
+    return 1;
+}
+
+/* Replaces a null pointer of length 0 with another pointer. Returns 0 if the pointer is null and the length is not 0, else 1. */
 static inline int zermuita_octets_are(struct zermuita_octets *octets) {
     static const uint8_t none[1] = {0};
     if (octets->data == NULL && octets->len == 0) {
@@ -232,20 +85,465 @@ static inline int zermuita_octets_are(struct zermuita_octets *octets) {
     return octets->data != NULL;
 }
 
-/* How many octets the library may read of a case or of evidence, and write of a report, whatever size the caller's have. */
-#define ZERMUITA_CASE_ROOM 256
-#define ZERMUITA_REPORT_ROOM 128
+/*
+ * @page zermuita_strerror: replies of zermuita_judge and zermuita_resolve
+ *
+ * zermuita_resolve(3) has what differs there. A resolver answers SERVFAIL to a reply that it does not know. Initialise a variable
+ * for the reply to ZERMUITA_BAD_CASE, since 0 is a verdict.
+ *
+ * @see zermuita_judge zermuita_resolve
+ * @standards RFC 4035, section 4.3, defines secure, insecure and bogus.
+ */
+
+/* What a call returns. The comment after each value is the text of zermuita_strerror(). */
+enum zermuita_reply {
+    /*
+     * # Verdicts
+     *
+     * 0 to 4 and 8 to 10 are secure, 6 and 7 insecure. 5 and 11 show where the zone ends and are no answer for a client. 2 to 4
+     * and 9 never come under opt-out. A verdict is about the `name` and `rtype` of its call and about no other question.
+     */
+
+    /*
+     * Includes a wildcard that is queried by its own name.
+     *
+     * Do: Answer NOERROR with the data in the output, whatever the message's RCODE.
+     */
+    ZERMUITA_RECORDS = 0, /* the name has records of the type */
+    /*
+     * The name exists and has no CNAME record. For DS see `delegates`. Compact denial (RFC 9824) signs this for names that do not
+     * exist.
+     *
+     * Do: Answer NODATA.
+     */
+    ZERMUITA_NODATA = 1, /* the name has no records of the type */
+    /*
+     * Nor is there a name below it, or a wildcard that matches.
+     *
+     * Do: Answer NXDOMAIN.
+     */
+    ZERMUITA_NXDOMAIN = 2, /* there is no such name */
+    /*
+     * The name itself does not exist.
+     *
+     * Do: Answer NOERROR with the data in the output.
+     */
+    ZERMUITA_WILDCARD = 3, /* a wildcard stands for the name and has records of the type */
+    /*
+     * The name itself does not exist. The wildcard has no CNAME record.
+     *
+     * Do: Answer NODATA.
+     */
+    ZERMUITA_WILDCARD_NODATA = 4, /* a wildcard stands for the name and has no records of the type */
+    /*
+     * The output has the topmost delegation if the answer proves which one it is. For DS it is above the name.
+     *
+     * Do: Judge the same message for DS at that name, with `other_question` 1. Without a name, query for DS at the names between
+     * `apex` and `name`.
+     */
+    ZERMUITA_DELEGATED = 5, /* the name is at or below a delegation */
+    /*
+     * A span covers the name or one above it, so an unsigned delegation may be there (RFC 5155, 6).
+     *
+     * Do: Use the message as unsigned. If it answers another question, query for the name first.
+     */
+    ZERMUITA_OPTOUT = 6, /* an opt-out chain leaves open what is there */
+    /*
+     * Or `no_ds` is 1. No message is read (RFC 4035, 5.2).
+     *
+     * Do: Use the message as unsigned.
+     */
+    ZERMUITA_INSECURE = 7, /* no DS record can be checked, so nothing vouches for the zone's keys */
+    /*
+     * The output has the target, about which nothing is proved.
+     *
+     * Do: Answer with the CNAME record and resolve the target from the trust anchor.
+     */
+    ZERMUITA_ALIAS = 8, /* the name has a CNAME record */
+    /*
+     * The same. The name itself does not exist.
+     *
+     * Do: The same.
+     */
+    ZERMUITA_WILDCARD_ALIAS = 9, /* a wildcard stands for the name and has a CNAME record */
+    /*
+     * The output has its owner and the new name, unless that exceeds 255 bytes.
+     *
+     * Do: Answer with the DNAME record and a CNAME record made from it (RFC 6672, 3.1), and resolve the new name. Without one,
+     * answer YXDOMAIN.
+     */
+    ZERMUITA_DNAME = 10, /* a name above has a DNAME record */
+    /*
+     * The output has the delegation and its DS set, provided the zone has DS records only at delegations.
+     *
+     * Do: Go on in the zone below with these as `apex` and `ds`.
+     */
+    ZERMUITA_REFERRAL = 11, /* the name is at or below a delegation with DS records */
+
+    /*
+     * # Refusals
+     *
+     * They say why there is no verdict. Only 23 proves anything: a forged, altered or truncated message may cause the others.
+     * "Ask another server" means: fetch the message again from a server that has not been asked. After three servers answer
+     * SERVFAIL, with the last `ede`, or 22 if no server replied; 21, 22 and 25 are bogus then.
+     */
+
+    /*
+     * Types 0, 41, 46 to 48, 50, 51 and 128 to 255 never are.
+     *
+     * Do: Judge CNAME and DNAME with `other_question` 1. Answer REFUSED for other classes.
+     */
+    ZERMUITA_QUESTION_NOT_ALLOWED = 16, /* the name is not in the zone, the class is not IN, or the type is not judged */
+    /* Do: Ask another server. */
+    ZERMUITA_BAD_DNSKEY_MESSAGE = 17, /* the DNSKEY answer is not a message */
+    /*
+     * It has no question, for example.
+     *
+     * Do: Ask another server.
+     */
+    ZERMUITA_BAD_ANSWER_MESSAGE = 18, /* the answer is not a message */
+    /*
+     * Case is ignored. `answer` is compared only with `other_question` 0.
+     *
+     * Do: Drop it. Over UDP wait for the right one; over TCP ask another server.
+     */
+    ZERMUITA_QUESTION_MISMATCH = 19, /* a message answers another question */
+    /*
+     * Rare and allowed (RFC 4034, appendix B), but trying each key lets an attacker multiply the work (CVE-2023-50387). Found
+     * before signatures are checked, so a forged answer causes it too.
+     *
+     * Do: Ask another server.
+     */
+    ZERMUITA_EQUAL_TAGS = 20, /* two different keys have one tag */
+    /*
+     * No signature is valid at `now` under a key in `ds`: it is forged or expired, clocks differ, or `ds` is out of date.
+     *
+     * Do: Ask other servers for both sets.
+     */
+    ZERMUITA_NO_TRUSTED_KEY = 21, /* no key that a DS record names signs the DNSKEY set */
+    /*
+     * No valid answer does this.
+     *
+     * Do: Ask another server.
+     */
+    ZERMUITA_MIXED_NSEC3_PARAMETERS = 22, /* NSEC3 records have different parameters */
+    /*
+     * This is proved, and nothing about the name. It comes before any verdict.
+     *
+     * Do: Answer SERVFAIL. Using the message as unsigned (RFC 9276, 3.2) lets anyone forge names in the zone and in those below.
+     */
+    ZERMUITA_ITERATIONS_OVER_LIMIT = 23, /* the NSEC3 iterations are over the limit */
+    /* Do: Never returned. */
+    ZERMUITA_HASH_FAILED = 24, /* a name was not hashed */
+    /*
+     * No RRset that a verdict can rest on is verified: the answer is forged, stripped, cut off (TC), for a query without DO, or
+     * from a zone below; or clocks differ.
+     *
+     * Do: In this order: retry over TCP if TC is set; refresh a cached DNSKEY answer; query for DS to find a zone below; ask
+     * another server.
+     */
+    ZERMUITA_NOT_PROVEN = 25, /* the signed records prove no verdict */
+    /* Do: Call again later, or answer SERVFAIL. */
+    ZERMUITA_OUT_OF_MEMORY = 26, /* memory ran out */
+    /*
+     * Only with `one_moment` 1.
+     *
+     * Do: Ask again, then answer SERVFAIL; or judge with `one_moment` 0, without its protection.
+     */
+    ZERMUITA_MIXED_VERSIONS = 27, /* signatures have different times, and one moment is demanded */
+    /*
+     * Over 65,535 bytes in canonical form; or over 4,096 bytes and more than 64 RRSIG records or 32,768 labels of owners.
+     *
+     * Do: Judge with `as_received` 1, then ask another server.
+     */
+    ZERMUITA_MESSAGE_TOO_LONG = 28, /* a message is too long in canonical form, or costs too much work */
+    /* Do: Ask another server. */
+    ZERMUITA_TOO_MANY_SIGNATURES = 29, /* more signatures are to be checked than the case allows */
+
+    /*
+     * # Replies of zermuita_resolve only
+     *
+     * They also say why there is no verdict.
+     */
+
+    /*
+     * It is about a delegation elsewhere, for example.
+     *
+     * Do: Ask another server for it.
+     */
+    ZERMUITA_NOTHING_TOLD = 30, /* a zone's answer tells nothing of the way to the name */
+    /*
+     * Or the target of an alias is not.
+     *
+     * Do: Use another trust anchor, if there is one.
+     */
+    ZERMUITA_OUTSIDE = 31, /* the name is not at or below the trust anchor, or DS is asked for at it */
+
+    /*
+     * # Requests
+     *
+     * The library needs something before it can reply.
+     */
+
+    /* Do: Check those in the output and call again. */
+    ZERMUITA_ASK = 32, /* signatures are to be checked */
+    /* Do: Fetch those in the output and call again. */
+    ZERMUITA_WANT = 33, /* messages are wanted */
+    /* Do: Call again with room for `len` bytes. */
+    ZERMUITA_BUFFER_TOO_SMALL = 34, /* the reply has more octets than there is room for */
+
+    /*
+     * # Errors of the caller
+     *
+     * Correct the call. If `ds` came from the library, answer SERVFAIL: the zone is not insecure.
+     */
+    ZERMUITA_BAD_APEX = 35,       /* the name of the zone is not a name in wire form */
+    ZERMUITA_BAD_DS_SET = 36,     /* the DS set is not DS records behind their lengths */
+    ZERMUITA_BAD_NAME = 37,       /* the name that was asked for is not a name in wire form */
+    ZERMUITA_BAD_SIGNATURES = 38, /* the checked signatures are not entries */
+    ZERMUITA_BAD_CASE = 39,       /* a size or a flag is unknown, octets are null, or no_ds contradicts ds */
+    ZERMUITA_BAD_MESSAGES = 40,   /* the messages are not messages behind the names that they are of */
+
+    /*
+     * # Limits of zermuita_resolve
+     *
+     * They also say why there is no verdict. Answer SERVFAIL.
+     */
+    ZERMUITA_TOO_MANY_CUTS = 48,     /* more delegations are on the way to the name than are allowed */
+    ZERMUITA_TOO_MANY_ALIASES = 49,  /* more aliases are on the way to the name than are allowed */
+    ZERMUITA_TOO_MANY_MESSAGES = 50, /* more messages are wanted than the evidence may have */
+
+    /*
+     * # One more refusal
+     *
+     * It is not bogus, since some servers leave the missing record out of valid answers.
+     */
+
+    /*
+     * It is one that RFC 4035, 3.1.3.4, or RFC 5155, 8.3, requires. `ede` is 12.
+     *
+     * Do: As for 25, but query for DS only if an NSEC3 record has the opt-out flag.
+     */
+    ZERMUITA_INCOMPLETE_DENIAL = 51 /* records verify, but a denial record that the proof needs is missing */
+};
 
 /*
- * Judges a case. Where the output's `report->len` octets are at most `out_len`, they are written to the front of `out`; else nothing
- * is, and the reply is ZERMUITA_BUFFER_TOO_SMALL. `out` may be null where `out_len` is 0, and `report` where it is not wanted.
- * Nothing that the library reads may overlap `out` or `report`.
+ * Sets `text` to what zermuita_strerror() returns: ASCII with a terminating zero, which `len` counts. For languages that cannot
+ * call an inline function.
+ */
+void zermuita_reply_text(uint32_t reply, struct zermuita_octets *text);
+
+/*
+ * Returns 1 if a reply is a verdict, else 0. Both functions are in the library and not inline, so that a program knows the
+ * replies of a later library.
+ */
+uint32_t zermuita_is_verdict(uint32_t reply);
+
+/* Returns 1 if a reply says why there is no verdict, else 0. Requests and errors of the caller are neither. */
+uint32_t zermuita_is_refusal(uint32_t reply);
+
+/*
+ * Returns the name of a reply and a sentence, such as "ZERMUITA_NXDOMAIN: there is no such name", or "not a reply of this
+ * library". Do not write to or free the text.
+ */
+static inline const char *zermuita_strerror(enum zermuita_reply reply) {
+    static const uint8_t none[1] = {0};
+    struct zermuita_octets text = {none, 0};
+    zermuita_reply_text((uint32_t)reply, &text);
+    return (const char *)text.data;
+}
+
+/*
+ * @page zermuita_judge: validates a zone's answer to a question
  *
- * On ZERMUITA_ASK `out` has signatures that are to be checked: check each (zermuita_next_ask), put the octets of `out` at the end
- * of `checked`, and call again. Put no entry there that was not checked, or could not be: it stands for a signature that fails.
- * There is no need to count: where more are to be checked than `max_signatures`, the reply is ZERMUITA_TOO_MANY_SIGNATURES. Beside a
- * DS set a message of over 4,096 octets with more than 64 RRSIG records, or owners of more than 32,768 labels in all, is
- * ZERMUITA_MESSAGE_TOO_LONG.
+ * zermuita_judge() takes the DS set of a zone, its DNSKEY answer and its answer to a question. It returns what the zone says
+ * about the name and type, or why that is not proved (RFC 4035, section 5; RFC 5155, section 8).
+ *
+ * Set the case to zero, set its size, then what the question needs; set the size of the report. Wrong sizes, also those of
+ * version 0.1, are ZERMUITA_BAD_CASE. Fields left at 0 mean: check signatures of all algorithms, up to 16; no NSEC3 iterations;
+ * signatures of any times; canonical form; an answer to this question; no record indexes. `now`, `rtype` and `rclass` have no
+ * default.
+ *
+ * Names are in wire form without compression pointers, in any case (RFC 1035, section 3.1). Numbers are big-endian. Messages are
+ * complete, without the two length bytes of TCP.
+ *
+ * # Checking signatures
+ *
+ * With ZERMUITA_ASK the output lists signatures that have to be checked. Check each one (zermuita_next_ask(3)), append the output
+ * to `checked`, and call again. An answer whose signatures pass takes two calls, which is tested, not proved. If a signature
+ * fails, the next call lists those that could still verify the same RRset.
+ *
+ * An entry of `checked` that says 1 is trusted. Append only entries that you have checked: an unchecked one counts as a signature
+ * that fails, and of two entries for one signature the first counts. If a signature could not be checked, for lack of memory or a
+ * device, check it again or answer SERVFAIL. Entries of a DNSKEY answer, whose signed bytes begin with 0 and 48, are valid for
+ * every answer under the same keys: keep those that pass as long as that DNSKEY answer. Drop the entries of other answers: they
+ * do no harm, but each look-up compares them.
+ *
+ * # Output
+ *
+ * The output begins with the indexes of verified records if `places` is 1 (zermuita_take_places(3)). Then:
+ *
+ * - ZERMUITA_RECORDS, ZERMUITA_WILDCARD: the data of each record, prefixed by its length in two bytes, in canonical order and
+ *   form (RFC 4034, section 6): zermuita_next_record(3).
+ * - ZERMUITA_ALIAS, ZERMUITA_WILDCARD_ALIAS: the target: zermuita_next_name(3).
+ * - ZERMUITA_DNAME: the owner of the DNAME record and the name that `name` becomes, if that has at most 255 bytes.
+ * - ZERMUITA_REFERRAL: the name of the delegation, followed by its DS set in the form of `ds`.
+ * - ZERMUITA_DELEGATED: the name of the topmost delegation, or nothing if the answer does not prove which one it is.
+ * - ZERMUITA_ASK: the signatures to check.
+ * - All others: nothing.
+ *
+ * If `out_len` is too small, nothing is written, the reply is ZERMUITA_BUFFER_TOO_SMALL, and the report is that of the call with
+ * enough room. `out` may be null if `out_len` is 0, and `report` may be null. Nothing that the library reads may overlap `out` or
+ * `report`.
+ *
+ * Follow an alias only if `name` is the client's name. For a shorter name, as when DS was queried for a name above the client's,
+ * judge the same message once more with the client's name and `other_question` 1.
+ *
+ * # Other languages
+ *
+ * zermuita_judge(), zermuita_resolve() and zermuita_strerror() are inline functions. A language that cannot call them calls
+ * zermuita_judge_case(), zermuita_resolve_evidence() and zermuita_reply_text() directly, with three conditions. No pointer is
+ * null, not even that of an empty byte string. The case or evidence is in ZERMUITA_CASE_ROOM readable bytes with zeros after its
+ * last field. The report is in ZERMUITA_REPORT_ROOM writable bytes, with its size set.
+ *
+ * # Caveats
+ *
+ * It is proved that a verdict is the zone's, under premises that docs/proof/PROMISES.md of the source lists: well-formed zones,
+ * messages in which nothing is forged, and others. ZERMUITA_NODATA for DS at `apex` says nothing about the parent's DS set.
+ *
+ * @see zermuita_next_ask zermuita_next_record zermuita_resolve zermuita_strerror zermuita_version
+ * @standards RFC 4033, 4034 and 4035; RFC 5155; RFC 6672; RFC 6840; RFC 8198; RFC 8914; RFC 9077; RFC 9276.
+ */
+
+/* What is judged. */
+struct zermuita_case {
+    size_t size;                    /* sizeof(struct zermuita_case) */
+    struct zermuita_octets apex;    /* the name of the zone */
+    /*
+     * The parent's DS set: the data of each DS record, prefixed by its length in two bytes. Take it from a trust anchor, from the
+     * output of ZERMUITA_RECORDS for DS at this name with the parent as `apex`, or from that of ZERMUITA_REFERRAL. Never take it
+     * from an unjudged message, from ZERMUITA_WILDCARD, or from a question for DS at `apex` itself: under any DS set but the
+     * parent's a verdict means nothing. A record counts if its algorithm is in `algorithms` and its digest is SHA-256 or SHA-384.
+     */
+    struct zermuita_octets ds;
+    struct zermuita_octets dnskey;  /* the zone's answer for its DNSKEY set, a whole message */
+    struct zermuita_octets answer;  /* its answer to the question, a whole message */
+    struct zermuita_octets name;    /* the name of the question */
+    struct zermuita_octets checked; /* the signatures checked so far: entries back to back, in any order */
+    uint64_t now;                   /* the time at which signatures have to be valid, in seconds since 1970 */
+    uint16_t rtype;                 /* the type of the question */
+    uint16_t rclass;                /* the class of the question: 1 */
+    uint16_t max_nsec3_iterations;  /* the most NSEC3 iterations that are accepted (RFC 9276, section 3.2), for example 100 */
+    /*
+     * 1: the signatures that verify the RRsets of `answer` must have one inception and one expiration. Use it only for servers
+     * that sign every answer anew and do not round both times: it refuses valid answers of zones that are signed in advance. 0:
+     * any times.
+     */
+    uint32_t one_moment;
+    /*
+     * 1: messages are judged byte by byte. 0: names in the data of the types of RFC 4034, section 6.2, except NSEC, are expanded
+     * and put in lower case first (RFC 6840, section 5.1).
+     */
+    uint32_t as_received;
+    /*
+     * The algorithms that the caller checks, a byte each. If it is empty, all count: then a zone with an unsupported algorithm is
+     * refused and not insecure.
+     */
+    struct zermuita_octets algorithms;
+    /*
+     * The most signatures of both messages that are checked; 0: 16. Signatures that are requested count, and entries of `checked`
+     * whose signatures are in one of the messages (KeyTrap, CVE-2023-50387). If `checked` has all that are needed, the limit does
+     * not apply.
+     */
+    uint32_t max_signatures;
+    /*
+     * 1: the answer may be one to another question of the zone, such as a cached denial (RFC 8198); questions for CNAME and DNAME
+     * are judged too. 0: such an answer is ZERMUITA_QUESTION_MISMATCH.
+     */
+    uint32_t other_question;
+    /*
+     * 1: the parent proved that `apex` is a delegation without DS records, and `ds` is empty. Only ZERMUITA_NODATA for DS with
+     * `delegates` 1, with the parent as `apex`, proves this. 0: `ds` has records. Anything else is ZERMUITA_BAD_CASE, so that a
+     * forgotten `ds` never makes a zone insecure.
+     */
+    uint32_t no_ds;
+    uint32_t places; /* 1: the output begins with the indexes of the verified records of `answer`; 0: it does not */
+};
+
+/* Whether a name without DS records is a delegation. This is proved for a zone that does not change. */
+enum zermuita_delegates {
+    ZERMUITA_DELEGATES_UNKNOWN = 0, /* not known */
+    ZERMUITA_DELEGATES_YES = 1,     /* the name is a delegation to an unsigned zone */
+    ZERMUITA_DELEGATES_NO = 2       /* it is not: the zone itself answers for the name */
+};
+
+/* What a call reports besides its reply. */
+struct zermuita_report {
+    size_t size; /* sizeof(struct zermuita_report), set before the call */
+    size_t len;  /* how many bytes the output has, also if they do not fit */
+    /*
+     * The last second, since 1970, in which the verdict holds. Up to then the same case has the same verdict of 0 to 7, except
+     * ZERMUITA_DELEGATED without a name, ZERMUITA_NODATA for DS with `delegates` 0, and ZERMUITA_OPTOUT for a wildcard's alias.
+     * For those and for 8 to 11 what the reply proves stays true, but the reply may change when another signature becomes valid.
+     */
+    uint64_t until;
+    uint64_t verifications; /* how many signatures were looked up in `checked`, except for record indexes and for `ede` */
+    /*
+     * How many names were hashed. With ZERMUITA_ASK and ZERMUITA_TOO_MANY_SIGNATURES both counts end where signatures were
+     * missing; with ZERMUITA_MESSAGE_TOO_LONG and errors of the caller they are 0.
+     */
+    uint64_t hashes;
+    /*
+     * For how many seconds after the message's arrival the verdict may be kept: the least TTL of the records that are verified
+     * for it and of the original TTLs of their signatures (RFC 4035, section 5.3.3; RFC 9077). `ttl` and `until` are 0 with
+     * ZERMUITA_INSECURE and without a verdict. If a verdict rests on several judgements of the message, they are the least of
+     * all.
+     */
+    uint32_t ttl;
+    /*
+     * An extended error (RFC 8914) for the client, or 0 for none. With ZERMUITA_INSECURE: 2 if no record of `ds` has a known
+     * digest, 1 if those that have one are of other algorithms, 0 with `no_ds`. With refusals: 7 expired, 8 not yet valid, 9 no
+     * key that `ds` names, 10 no signatures, 12 a denial record is missing, 27 iterations, 6 bogus otherwise.
+     */
+    uint16_t ede;
+    uint16_t delegates; /* with ZERMUITA_NODATA for DS: a value of enum zermuita_delegates; else 0 */
+};
+
+/* How many bytes the library may read of a case or of evidence, whatever its size: room for later versions. */
+#define ZERMUITA_CASE_ROOM 256
+/* How many bytes the library may write of a report. */
+#define ZERMUITA_REPORT_ROOM 128
+
+/* The function behind zermuita_judge(), for other languages. */
+uint32_t zermuita_judge_case(const struct zermuita_case *handed, uint8_t *out, size_t out_len, struct zermuita_report *report);
+
+/*
+ * Judges a case.
+ *
+ *     struct zermuita_case handed = {
+ *         .size = sizeof handed, .apex = apex, .ds = ds, .dnskey = dnskey,
+ *         .answer = answer, .name = name, .rtype = 1, .rclass = 1,
+ *         .now = time(NULL), .max_nsec3_iterations = 100,
+ *         .algorithms = algorithms, .no_ds = parent_proved_no_ds,
+ *     };
+ *     uint8_t checked[65536], out[65536];
+ *     struct zermuita_report report = {.size = sizeof report};
+ *     enum zermuita_reply reply = ZERMUITA_BAD_CASE;
+ *     size_t len = 0;
+ *     for (;;) {
+ *         handed.checked = (struct zermuita_octets){checked, len};
+ *         reply = zermuita_judge(&handed, out, sizeof out, &report);
+ *         if (reply != ZERMUITA_ASK || report.len > sizeof checked - len) {
+ *             break; // done, or a larger buffer is needed
+ *         }
+ *         struct zermuita_ask ask;
+ *         uint8_t *next = out;
+ *         for (size_t left = report.len; zermuita_next_ask(&next, &left, &ask);) {
+ *             zermuita_answer(&ask, signature_passes(&ask)); // by your library
+ *         }
+ *         memcpy(checked + len, out, report.len);
+ *         len += report.len;
+ *     }
  */
 static inline enum zermuita_reply zermuita_judge(const struct zermuita_case *handed, uint8_t *out, size_t out_len,
                                                  struct zermuita_report *report) {
@@ -280,33 +578,254 @@ static inline enum zermuita_reply zermuita_judge(const struct zermuita_case *han
 }
 
 /*
- * Walks from a trust anchor down to the zone that has the name, over the messages that it is handed, and through aliases from the
- * anchor again. Room, null and overlaps are as with zermuita_judge. What is written:
+ * @page zermuita_next_ask: signatures to check
  *
- *   ZERMUITA_WANT                            messages that are wanted (zermuita_next_wanted): put the answer to each at the end of
- *                                            `messages`, and call again
- *   ZERMUITA_ASK                             signatures that are to be checked, as zermuita_judge writes them
- *   ZERMUITA_RECORDS, ZERMUITA_WILDCARD      the zone's name, and the records' data (zermuita_next_record): secure
- *   ZERMUITA_NODATA, ZERMUITA_NXDOMAIN,      the zone's name: secure
- *   ZERMUITA_WILDCARD_NODATA
- *   ZERMUITA_DNAME                           nothing: secure, and the name that a DNAME record leads to would be too long: YXDOMAIN
- *   ZERMUITA_INSECURE                        the name of the delegation below which nothing is signed
- *   ZERMUITA_OPTOUT                          the name of the zone whose opt-out leaves the name open: insecure
- *   refusals up to 27,                       the zone, the name and the type of the answer that is refused, or that tells nothing, in
- *   ZERMUITA_INCOMPLETE_DENIAL,              the form of a message that is wanted; with ZERMUITA_OUT_OF_MEMORY nothing. With 17 and
- *   ZERMUITA_NOTHING_TOLD                    19 to 21 the zone's DNSKEY answer is refused, by which that answer is judged
- *   others                                   nothing
+ * With ZERMUITA_ASK the output is a list of entries. An entry has four parts: the DNSKEY data prefixed by their length in two
+ * bytes, the signed bytes prefixed by their length in four, the signature prefixed by its length in two, and one byte that is 1
+ * if the signature passes and else 0.
  *
- * With each reply that says something of the name, the names that aliases led through stand in front of that (zermuita_take_aliases):
- * with verdicts, with refusals that have octets, with ZERMUITA_OUTSIDE and with the three limits.
+ * Check each signature, in any order or in parallel, and mark the entry. Nothing else of the RRSIG record needs a check: the
+ * library lists only signatures that are valid at the time of the case. Mark an entry with an unsupported algorithm as failed. If
+ * you implement RFC 5011, leave DS records of revoked keys out of `ds` and mark entries of such keys as failed: the library
+ * ignores the REVOKE flag.
  *
- * What is secure or insecure may be kept for `ttl` seconds from the arrival of the oldest message that it rests on, and not beyond
- * the second `until`: both are the least of each zone's step of the way, through all aliases. With other replies they are 0.
- * `verifications` and `hashes` are those of all judgements of the walk, in this call, also of those before ZERMUITA_WANT, ZERMUITA_ASK
- * and ZERMUITA_TOO_MANY_SIGNATURES; with ZERMUITA_OUT_OF_MEMORY, ZERMUITA_MESSAGE_TOO_LONG and where octets cannot be read they are 0.
- * With a refusal up to 27 and with ZERMUITA_INCOMPLETE_DENIAL `ede` says why, as with zermuita_judge of that answer; with
- * ZERMUITA_INSECURE it is that of zermuita_judge beside the delegation's DS records: 0 where it is proved that there is none.
- * `delegates` is 0.
+ *     struct zermuita_ask ask;
+ *     uint8_t *next = out;
+ *     size_t left = report.len;
+ *     while (zermuita_next_ask(&next, &left, &ask)) {
+ *         zermuita_answer(&ask, signature_passes(&ask));
+ *     }
+ *
+ * @see zermuita_judge zermuita_resolve
+ * @standards RFC 4034, sections 2 and 3.
+ */
+
+/* A signature to check. It points into the output, and is valid until that is written or freed. */
+struct zermuita_ask {
+    struct zermuita_octets dnskey;    /* the data of the DNSKEY record: flags, protocol, algorithm, key (RFC 4034, section 2.1) */
+    struct zermuita_octets key;       /* the key alone, in the format of its algorithm */
+    struct zermuita_octets octets;    /* the signed bytes */
+    struct zermuita_octets signature; /* as in the RRSIG record */
+    uint8_t algorithm;                /* the algorithm number of key and signature (RFC 4034, appendix A.1) */
+    uint8_t *passes;                  /* where zermuita_answer() writes */
+};
+
+/* Removes the first entry from the `*len` bytes at `*next`. Returns 1, or 0 and changes nothing if there is none. */
+static inline int zermuita_next_ask(uint8_t **next, size_t *len, struct zermuita_ask *ask) {
+    struct zermuita_octets rest;
+    rest.data = *next;
+    rest.len = *len;
+    if (!zermuita_next_part(&rest, 2, &ask->dnskey) || !zermuita_next_part(&rest, 4, &ask->octets)
+        || !zermuita_next_part(&rest, 2, &ask->signature) || rest.len == 0 || ask->dnskey.len < 4) {
+        return 0;
+    }
+    ask->algorithm = ask->dnskey.data[3];
+    ask->key.data = ask->dnskey.data + 4;
+    ask->key.len = ask->dnskey.len - 4;
+    ask->passes = *next + (*len - rest.len);
+    *next = ask->passes + 1;
+    *len = rest.len - 1;
+    return 1;
+}
+
+/*
+ * Marks an entry: its signature passes if `passes` is 1. Any other value means that it fails, also a library's negative error
+ * code.
+ */
+static inline void zermuita_answer(const struct zermuita_ask *ask, int passes) {
+    *ask->passes = passes == 1;
+}
+
+/*
+ * @page zermuita_next_record: reading an output
+ *
+ * These functions read an output from front to back: first the record indexes (if `places` is 1), then names, then records. Each
+ * removes what it returns from the front of `rest`, and returns 0 without a change if `rest` begins with something else.
+ * Everything points into the output, and is valid until that is written or freed.
+ *
+ *     struct zermuita_octets rest = {out, report.len}, rdata;
+ *     while (zermuita_next_record(&rest, &rdata)) {
+ *         use(rdata.data, rdata.len);
+ *     }
+ *
+ * A referral:
+ *
+ *     struct zermuita_octets rest = {out, report.len}, name;
+ *     zermuita_next_name(&rest, &name);
+ *     enter_zone(name, rest); // the rest is its DS set
+ *
+ * @see zermuita_judge zermuita_next_wanted zermuita_resolve
+ * @standards RFC 1035, section 3.1; RFC 4034, section 6; RFC 4035, sections 3.2.3 and 5.3.
+ */
+
+/* Removes the data of one record. Records come in canonical order. */
+static inline int zermuita_next_record(struct zermuita_octets *rest, struct zermuita_octets *rdata) {
+    return zermuita_next_part(rest, 2, rdata);
+}
+
+/*
+ * Removes a name in wire form: labels of up to 63 bytes prefixed by their lengths, the root label last, at most 255 bytes in
+ * total.
+ */
+static inline int zermuita_next_name(struct zermuita_octets *rest, struct zermuita_octets *name) {
+    size_t len = 0;
+    while (len < rest->len && rest->data[len] != 0) {
+        if (rest->data[len] > 63) {
+            return 0;
+        }
+        len += 1 + (size_t)rest->data[len];
+    }
+    if (len >= rest->len || len >= 255) {
+        return 0;
+    }
+    name->data = rest->data;
+    name->len = len + 1;
+    rest->data += len + 1;
+    rest->len -= len + 1;
+    return 1;
+}
+
+/*
+ * Removes all record indexes: their number in four bytes, and each index in four. The rest is the output with `places` 0.
+ *
+ * The indexes are those of the verified records: the RRset of the question (for an alias its CNAME or DNAME RRset, for a referral
+ * the DS set) and the NSEC and NSEC3 records. ZERMUITA_DELEGATED with a name and ZERMUITA_NODATA for DS have those of each
+ * judgement that the reply rests on. RRSIG records have none: send those that cover the RRsets you send. Unverified records have
+ * none either: SOA records of denials, NS records and addresses of referrals, CNAME records made from a DNAME. Send records with
+ * what is left of `ttl`, never with the TTL in the message.
+ *
+ * With ZERMUITA_OPTOUT the indexes may be those of a wildcard's records under the queried name. It is verified that the wildcard
+ * has them, not that they are this name's: send them without AD.
+ *
+ *     struct zermuita_octets rest = {out, report.len}, places;
+ *     uint32_t place;
+ *     if (zermuita_take_places(&rest, &places)) {
+ *         while (zermuita_next_place(&places, &place)) {
+ *             send_record(&handed.answer, place, ttl_left);
+ *         }
+ *     }
+ */
+static inline int zermuita_take_places(struct zermuita_octets *rest, struct zermuita_octets *places) {
+    size_t count = rest->len < 4 ? 0 : zermuita_number(rest->data, 4);
+    if (rest->len < 4 || (rest->len - 4) / 4 < count) {
+        return 0;
+    }
+    places->data = rest->data + 4;
+    places->len = 4 * count;
+    rest->data += 4 + 4 * count;
+    rest->len -= 4 + 4 * count;
+    return 1;
+}
+
+/*
+ * Removes one index: the number of a record of `answer`, counted from 0 over the answer, authority and additional sections and
+ * over records of all types. Indexes ascend, and each comes once.
+ */
+static inline int zermuita_next_place(struct zermuita_octets *places, uint32_t *place) {
+    if (places->len < 4) {
+        return 0;
+    }
+    *place = (uint32_t)zermuita_number(places->data, 4);
+    places->data += 4;
+    places->len -= 4;
+    return 1;
+}
+
+/*
+ * @page zermuita_resolve: validates a name from a trust anchor down
+ *
+ * zermuita_resolve() walks over messages from a trust anchor down to the zone that has a name, and through aliases from the
+ * anchor again. It returns the verdict of that zone, or from which delegation on the tree is unsigned, or which messages and
+ * signatures it needs (RFC 4035, section 5). It sends nothing: the caller queries the zones' servers, and checks signatures as
+ * for zermuita_judge(3). The result depends only on what is passed in.
+ *
+ * # Output
+ *
+ * Every verdict, every refusal with an output, ZERMUITA_OUTSIDE and the three limits begin with the targets of the aliases on the
+ * way (zermuita_take_aliases(3)). Then:
+ *
+ * - ZERMUITA_RECORDS, ZERMUITA_WILDCARD: the zone's name and the data of the records, prefixed as in zermuita_judge(3). Secure.
+ * - ZERMUITA_NODATA, ZERMUITA_NXDOMAIN, ZERMUITA_WILDCARD_NODATA: the zone's name. Secure.
+ * - ZERMUITA_DNAME: nothing. Secure: the new name would exceed 255 bytes, so the client gets YXDOMAIN.
+ * - ZERMUITA_INSECURE: the delegation below which nothing is signed.
+ * - ZERMUITA_OPTOUT: the zone whose opt-out leaves the name open. Insecure.
+ * - ZERMUITA_WANT: the messages that are needed (zermuita_next_wanted(3)). Append the answers to `messages` and call again.
+ * - ZERMUITA_ASK: the signatures to check (zermuita_next_ask(3)).
+ * - Refusals up to 27, ZERMUITA_INCOMPLETE_DENIAL, ZERMUITA_NOTHING_TOLD: the zone, name and type of the answer that is refused,
+ *   in the form of ZERMUITA_WANT. With 17 and 19 to 21 the zone's DNSKEY answer is refused, not this one.
+ * - ZERMUITA_OUT_OF_MEMORY, ZERMUITA_MESSAGE_TOO_LONG, ZERMUITA_TOO_MANY_SIGNATURES, errors of the caller: nothing, and no
+ *   aliases.
+ * - All others: nothing.
+ *
+ * After a refusal replace the refused message: of two messages for one question of a zone the first counts.
+ *
+ * # Report
+ *
+ * `ttl` and `until` say how long a secure or insecure result may be kept: `ttl` seconds from the arrival of the oldest message
+ * that it rests on, and until the second `until`. Both are the least of all steps. `verifications` and `hashes` count all
+ * judgements of the call, and are 0 with ZERMUITA_OUT_OF_MEMORY, ZERMUITA_MESSAGE_TOO_LONG and errors of the caller. `ede` is
+ * that of zermuita_judge() for the refused answer; with ZERMUITA_INSECURE that of the delegation's DS set, 0 if it is proved that
+ * there is none. `delegates` is 0.
+ *
+ * # Caveats
+ *
+ * It is proved that a reply is what the tree of zones says, under premises that docs/proof/PROMISES.md of the source lists.
+ *
+ * @see zermuita_judge zermuita_next_ask zermuita_next_wanted zermuita_strerror
+ * @standards RFC 1034, section 4.3.2; RFC 4033, 4034 and 4035; RFC 5155; RFC 6672.
+ */
+
+/*
+ * What a walk is given. Set it to zero, then its size, then what the question needs. The class is IN.
+ */
+struct zermuita_evidence {
+    size_t size;                       /* sizeof(struct zermuita_evidence) */
+    struct zermuita_octets anchor;     /* the name of the trust anchor's zone; the root is one byte, 0 */
+    struct zermuita_octets ds;         /* its DS set, as in a case; ZERMUITA_BAD_DS_SET if no record of it counts */
+    struct zermuita_octets name;       /* the name of the question */
+    struct zermuita_octets messages;   /* the messages so far, back to back, in any order (zermuita_put_message(3)) */
+    struct zermuita_octets checked;    /* the signatures checked so far: entries back to back, in any order */
+    struct zermuita_octets algorithms; /* the algorithms that the caller checks, a byte each; empty: all */
+    uint64_t now;                      /* the time at which signatures have to be valid, in seconds since 1970 */
+    uint16_t rtype;                    /* the type of the question */
+    uint16_t max_nsec3_iterations;     /* the most NSEC3 iterations that are accepted (RFC 9276, section 3.2) */
+    uint16_t max_cuts;                 /* the most delegations for one name; 0: 32 */
+    uint16_t max_aliases;              /* the most aliases that are followed; 0: 16; over 255: 255 */
+    uint16_t one_moment;               /* as in a case */
+    uint16_t max_messages;             /* with this many messages no more are requested; 0: 128 */
+    uint32_t max_signatures;           /* the most entries of `checked` and requested signatures together; 0: 256 */
+};
+
+/* The function behind zermuita_resolve(), for other languages. */
+uint32_t zermuita_resolve_evidence(const struct zermuita_evidence *handed, uint8_t *out, size_t out_len,
+                                   struct zermuita_report *report);
+
+/*
+ * Walks over evidence. Null pointers, room and overlaps are as for zermuita_judge().
+ *
+ *     for (;;) {
+ *         handed.messages = (struct zermuita_octets){messages.data, messages.len};
+ *         handed.checked = (struct zermuita_octets){checked.data, checked.len};
+ *         reply = zermuita_resolve(&handed, out, sizeof out, &report);
+ *         struct zermuita_octets rest = {out, report.len}, answer;
+ *         struct zermuita_wanted wanted;
+ *         if (reply == ZERMUITA_WANT) {
+ *             while (zermuita_next_wanted(&rest, &wanted)) {
+ *                 answer = query_servers_of(&wanted); // your transport or cache
+ *                 size_t room = zermuita_message_room(&wanted, answer.len);
+ *                 zermuita_put_message(grown(&messages, room), &wanted, answer);
+ *             }
+ *         } else if (reply == ZERMUITA_ASK) {
+ *             struct zermuita_ask ask;
+ *             uint8_t *next = out;
+ *             for (size_t left = report.len; zermuita_next_ask(&next, &left, &ask);) {
+ *                 zermuita_answer(&ask, signature_passes(&ask)); // by your library
+ *             }
+ *             memcpy(grown(&checked, report.len), out, report.len);
+ *         } else {
+ *             break;
+ *         }
+ *     }
  */
 static inline enum zermuita_reply zermuita_resolve(const struct zermuita_evidence *handed, uint8_t *out, size_t out_len,
                                                    struct zermuita_report *report) {
@@ -339,102 +858,38 @@ static inline enum zermuita_reply zermuita_resolve(const struct zermuita_evidenc
     return reply;
 }
 
-/* The number that `width` octets spell, the highest first. */
-static inline size_t zermuita_number(const uint8_t *octets, size_t width) {
-    size_t number = 0;
-    for (size_t i = 0; i < width; i++) {
-        number = number << 8 | octets[i];
-    }
-    return number;
-}
-
-/* Takes a part behind its length in `width` octets off the front of `rest`. Gives 0 where there is none. */
-static inline int zermuita_next_part(struct zermuita_octets *rest, size_t width, struct zermuita_octets *part) {
-    size_t len = rest->len < width ? 0 : zermuita_number(rest->data, width);
-    if (rest->len < width || rest->len - width < len) {
-        return 0;
-    }
-    part->data = rest->data + width;
-    part->len = len;
-    rest->data += width + len;
-    rest->len -= width + len;
-    return 1;
-}
-
 /*
- * Takes the data of one record off the front of `rest`, which begins as the output of ZERMUITA_RECORDS or ZERMUITA_WILDCARD, or
- * behind the name of a ZERMUITA_REFERRAL. Gives 0 where there are no more. Records come in canonical order.
+ * @page zermuita_next_wanted: messages for zermuita_resolve
+ *
+ *     struct zermuita_octets rest = {out, report.len}, names, name, zone;
+ *     struct zermuita_wanted refused;
+ *     if (zermuita_take_aliases(&rest, &names)) {
+ *         while (zermuita_next_name(&names, &name)) {
+ *             note_alias_target(name);
+ *         }
+ *     }
+ *     if (zermuita_is_refusal(reply) && zermuita_next_wanted(&rest, &refused)) {
+ *         query_another_server(&refused);
+ *     } else if (reply == ZERMUITA_INSECURE || reply == ZERMUITA_OPTOUT) {
+ *         resolve_without_validation(rest); // a delegation, or a zone
+ *     } else if (zermuita_next_name(&rest, &zone)) {
+ *         use(zone, rest); // secure: the rest is the data of the records
+ *     }
+ *
+ * @see zermuita_next_record zermuita_resolve
  */
-static inline int zermuita_next_record(struct zermuita_octets *rest, struct zermuita_octets *rdata) {
-    return zermuita_next_part(rest, 2, rdata);
-}
 
-/*
- * Takes a name in wire form, without pointers, off the front of `rest`: labels of up to 63 octets behind their lengths, the root
- * label last, 255 octets in all (RFC 1035, 3.1). Gives 0 where there is none.
- */
-static inline int zermuita_next_name(struct zermuita_octets *rest, struct zermuita_octets *name) {
-    size_t len = 0;
-    while (len < rest->len && rest->data[len] != 0) {
-        if (rest->data[len] > 63) {
-            return 0;
-        }
-        len += 1 + (size_t)rest->data[len];
-    }
-    if (len >= rest->len || len >= 255) {
-        return 0;
-    }
-    name->data = rest->data;
-    name->len = len + 1;
-    rest->data += len + 1;
-    rest->len -= len + 1;
-    return 1;
-}
-
-/*
- * Takes the places of the records that are verified for a verdict off the front of `rest`, which begins as the output of a case
- * with `places` 1: how many there are in four octets, and each in four. The output with `places` 0 stands behind them. Gives 0
- * where there are none, as with ZERMUITA_INSECURE. With ZERMUITA_OPTOUT they may be those of a wildcard's records under `name`,
- * which are insecure there.
- */
-static inline int zermuita_take_places(struct zermuita_octets *rest, struct zermuita_octets *places) {
-    size_t count = rest->len < 4 ? 0 : zermuita_number(rest->data, 4);
-    if (rest->len < 4 || (rest->len - 4) / 4 < count) {
-        return 0;
-    }
-    places->data = rest->data + 4;
-    places->len = 4 * count;
-    rest->data += 4 + 4 * count;
-    rest->len -= 4 + 4 * count;
-    return 1;
-}
-
-/*
- * Takes a place off the front of `places`: the number of a record of `answer`, counted from 0 over the answer, the authority and
- * the additional section, records of all types. Gives 0 where there are no more. Places ascend, and RRSIG records have none: those
- * that cover an RRset go with its records.
- */
-static inline int zermuita_next_place(struct zermuita_octets *places, uint32_t *place) {
-    if (places->len < 4) {
-        return 0;
-    }
-    *place = (uint32_t)zermuita_number(places->data, 4);
-    places->data += 4;
-    places->len -= 4;
-    return 1;
-}
-
-/* A message that is wanted, or an answer that is refused: of which zone, and to which name and type. */
+/* A message that is needed, or an answer that is refused. */
 struct zermuita_wanted {
-    struct zermuita_octets zone; /* the name of the zone whose servers are to be asked */
-    struct zermuita_octets name; /* the name to ask for */
-    uint16_t rtype;              /* the type to ask for, of class 1 */
+    struct zermuita_octets zone; /* the zone whose servers to query */
+    struct zermuita_octets name; /* the name to query */
+    uint16_t rtype;              /* the type to query, in class 1 */
 };
 
 /*
- * Takes the names that aliases led through off the front of `rest`, which begins as the octets of a reply of zermuita_resolve: their
- * number in four octets, and the names, which zermuita_next_name takes off `names` one by one. Gives 0 where there are none of this
- * form, as where the reply has no octets.
+ * Removes the targets of aliases from `rest`, which is the start of an output of zermuita_resolve(): their number in four bytes,
+ * then the names, which zermuita_next_name() removes from `names` one by one. Returns 1, or 0 and changes nothing if there are
+ * none, as for an empty output.
  */
 static inline int zermuita_take_aliases(struct zermuita_octets *rest, struct zermuita_octets *names) {
     struct zermuita_octets behind = *rest, name;
@@ -455,10 +910,7 @@ static inline int zermuita_take_aliases(struct zermuita_octets *rest, struct zer
     return 1;
 }
 
-/*
- * Takes a message that is wanted off the front of `rest`: two names in wire form, and a type in two octets. Gives 0 where there are no
- * more.
- */
+/* Removes a message that is needed: two names in wire form and a type in two bytes. Returns 1, or 0 if there are no more. */
 static inline int zermuita_next_wanted(struct zermuita_octets *rest, struct zermuita_wanted *wanted) {
     struct zermuita_octets behind = *rest;
     if (!zermuita_next_name(&behind, &wanted->zone) || !zermuita_next_name(&behind, &wanted->name) || behind.len < 2) {
@@ -470,14 +922,15 @@ static inline int zermuita_next_wanted(struct zermuita_octets *rest, struct zerm
     return 1;
 }
 
-/* How many octets a message of `len` octets takes in `messages`. */
+/* Returns how many bytes a message of `len` bytes takes in `messages`. */
 static inline size_t zermuita_message_room(const struct zermuita_wanted *wanted, size_t len) {
     return 2 + wanted->zone.len + 2 + wanted->name.len + 2 + 4 + len;
 }
 
 /*
- * Writes a message to `out`, which has zermuita_message_room octets: the name of its zone and the name that it answers, each behind
- * its length in two octets, the type that it answers in two, and the message behind its length in four.
+ * Writes a message to `out`, which has room for zermuita_message_room() bytes: the zone and the name, each prefixed by its length
+ * in two bytes, the type in two bytes, and the message prefixed by its length in four. The message may come from a cache: then
+ * `wanted` says which question of which zone it answers.
  */
 static inline void zermuita_put_message(uint8_t *out, const struct zermuita_wanted *wanted, struct zermuita_octets message) {
     const struct zermuita_octets names[2] = {wanted->zone, wanted->name};
@@ -495,43 +948,6 @@ static inline void zermuita_put_message(uint8_t *out, const struct zermuita_want
     if (message.len != 0) {
         memcpy(out, message.data, message.len);
     }
-}
-
-/* A signature that is to be checked. Its octets are those of the output, and valid until `out` is written or freed. */
-struct zermuita_ask {
-    struct zermuita_octets dnskey;    /* the data of the DNSKEY record: flags, protocol, algorithm and key (RFC 4034, 2.1) */
-    struct zermuita_octets key;       /* the key alone, as its algorithm writes it */
-    struct zermuita_octets octets;    /* what the signature is made over */
-    struct zermuita_octets signature; /* as the RRSIG record has it */
-    uint8_t algorithm;                /* of the key and the signature (RFC 4034, appendix A.1) */
-    uint8_t *passes;                  /* where zermuita_answer writes */
-};
-
-/*
- * Takes an entry off the front of `*len` octets at `*next`, and moves both behind it. Gives 0 where there are no more. An entry
- * is a DNSKEY record's data behind their length in two octets, the octets that the signature is made over behind their length in
- * four, the signature behind its length in two, and one octet: 1 where the signature passes, else 0.
- */
-static inline int zermuita_next_ask(uint8_t **next, size_t *len, struct zermuita_ask *ask) {
-    struct zermuita_octets rest;
-    rest.data = *next;
-    rest.len = *len;
-    if (!zermuita_next_part(&rest, 2, &ask->dnskey) || !zermuita_next_part(&rest, 4, &ask->octets)
-        || !zermuita_next_part(&rest, 2, &ask->signature) || rest.len == 0 || ask->dnskey.len < 4) {
-        return 0;
-    }
-    ask->algorithm = ask->dnskey.data[3];
-    ask->key.data = ask->dnskey.data + 4;
-    ask->key.len = ask->dnskey.len - 4;
-    ask->passes = *next + (*len - rest.len);
-    *next = ask->passes + 1;
-    *len = rest.len - 1;
-    return 1;
-}
-
-/* Writes into an entry that its signature passes, where `passes` is 1; else, as for a library's negative error, that it fails. */
-static inline void zermuita_answer(const struct zermuita_ask *ask, int passes) {
-    *ask->passes = passes == 1;
 }
 
 #ifdef __cplusplus
