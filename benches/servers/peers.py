@@ -196,7 +196,8 @@ class Nsd(Peer):
         self.write("key.key", f"example. 3600 IN DNSKEY 257 3 13 {words[1]}\n")
         zone = (self.room / "zone").read_text()
         self.write("zone", zone)
-        hashed = ["-n", "-t", "0", "-s", "-"] if self.chain == "nsec3" else []
+        # Without an option for it the salt is empty.
+        hashed = ["-n", "-t", "0"] if self.chain == "nsec3" else []
         run("ldns-signzone", *hashed, "-o", "example.", "-f", self.folder / "signed", self.folder / "zone", self.folder / "key")
         self.write(
             "nsd.conf",

@@ -2,7 +2,7 @@
 
 import socket
 
-from served import EXAMPLE, PORT, SECURE, Server, delv, dig, fail, logged, records_of, run, serial_of, zone_of
+from served import EXAMPLE, FIRST_PORT, SECURE, Server, delv, dig, fail, logged, records_of, run, serial_of, zone_of
 
 # A master file as people write them, without an origin.
 READ = r"""$TTL 5s
@@ -70,11 +70,11 @@ def check_refused(program, room):
     file = room / "no_origin.zone"
     file.write_text(READ)
     for words in (["--chain=nsec5 0 1", folder, EXAMPLE / "example.zone"], [folder, file], ["--origin=a..b", folder, file]):
-        ran = run(program, f"--port={PORT + 1}", *words)
+        ran = run(program, f"--port={FIRST_PORT}", *words)
         if ran.returncode == 0 or (folder / "journal").exists():
             fail("a first start that is none:", words, ran.returncode, ran.stderr[-2000:])
     server = Server(program, folder, "--origin=example.")
-    server.port, server.zone = PORT + 1, file
+    server.port, server.zone = FIRST_PORT, file
     server.start()
     server.stop()
 

@@ -7,7 +7,7 @@ import time
 
 from answers import QUESTIONS, check
 from octets import framed, passed_name
-from served import PORT, Server, fail, first_key, is_logged, logged, zone_of
+from served import PARENT_PORT, PORT, WATCHED_PORT, Server, fail, first_key, is_logged, logged, zone_of
 
 
 def is_next(server, step):
@@ -43,7 +43,7 @@ def roll(server, kind, old, new, is_auto=False):
 class Parent(threading.Thread):
     """A server of the parent: it says a DS set, with a TTL, to all that it is asked by TCP."""
 
-    def __init__(self, port=PORT + 3):
+    def __init__(self, port=PARENT_PORT):
         super().__init__(daemon=True)
         self.records, self.ttl, self.listener = [], 0, socket.create_server(("127.0.0.1", port))
 
@@ -67,10 +67,10 @@ def check_watch(program, room):
     """Reports of a server that watches itself, another server of its zone and one of the parent."""
     parent, zone = Parent(), room / "watch.zone"
     zone.write_text(zone_of(1, 2))
-    places = [f"--watch=127.0.0.1:{PORT}", f"--watch=127.0.0.1:{PORT + 2}", f"--parent=127.0.0.1:{PORT + 3}"]
+    places = [f"--watch=127.0.0.1:{PORT}", f"--watch=127.0.0.1:{WATCHED_PORT}", f"--parent=127.0.0.1:{PARENT_PORT}"]
     server, other = Server(program, room / "watch", "--step=1", "--rate=0"), Server(program, room / "watch-other", "--step=1")
     server.zone = other.zone = zone
-    other.port = PORT + 2
+    other.port = WATCHED_PORT
     begun = len(logged(server))  # the log is that of all servers, and rolls before this one made the same waits
     server.start()
     first_key(server)
@@ -90,7 +90,7 @@ def check_watch(program, room):
     parent.start()
     server.done("key csk ed25519")
     server.done("start algorithm-roll p256 ed25519")
-    if not is_logged(server, begun, event="lacks", server=f"127.0.0.1:{PORT + 2}", what="DNSKEY"):
+    if not is_logged(server, begun, event="lacks", server=f"127.0.0.1:{WATCHED_PORT}", what="DNSKEY"):
         fail("nothing is said of a server without the change")
     time.sleep(3)
     if "report1 is next" not in server.tell("status"):
@@ -98,7 +98,7 @@ def check_watch(program, room):
     follow()
     if not is_logged(server, begun, event="watch", line="report1 algorithm-roll 5", done=True):
         fail("a change that all servers have is not reported:", server.tell("status"))
-    if not is_logged(server, begun, event="lacks", server=f"127.0.0.1:{PORT + 3}", what="DS"):
+    if not is_logged(server, begun, event="lacks", server=f"127.0.0.1:{PARENT_PORT}", what="DS"):
         fail("nothing is said of a parent without the change:", server.tell("status"))
     time.sleep(3)
     if "report2 is next" not in server.tell("status"):

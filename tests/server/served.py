@@ -11,8 +11,12 @@ import sys
 import time
 
 TOP = pathlib.Path(__file__).resolve().parents[2]
+sys.path.append(str(TOP / "tests/aliases"))
+from processes import free_port  # noqa: E402
+
 EXAMPLE = TOP / "examples" / "server"
-PORT = 5391
+# Free ports: of the servers of a folder, of a server that begins anew, of one that is watched, and of the parent's.
+PORT, FIRST_PORT, WATCHED_PORT, PARENT_PORT = (free_port() for _ in range(4))
 # What delv says.
 SECURE, DENIED = "; fully validated", "; negative response, fully validated"
 
