@@ -22,7 +22,7 @@ use Rattle.answer_findings.specs.Judgements.{IsMade, IsMadeInMemory, alias_quest
 use Rattle.answer_findings.specs.Seen.{Seen, SeesVerdict, SeesDelegated, SeesNoDs, SeesAlias, SeesStarAlias, SeesOpen, SeesDname, SeesReferral, answer_found, first_found, found_by, found_or, lead_found, lead_said, referral_found}
 use Rattle.answer_findings.specs.Table.{AgreesWith, Checked, Tried, answers_with}
 use Rattle.resolution_step.specs.Told.{StepSeen, TellsNoCut, TellsNoneBelow, TellsNothing, Search, Sees, Refuses as Refused_so, Wants, IsCutTold, IsSearchTold, IsSeenTold, IsTold, at_cut, cut_said, cut_searched, cut_told, verdict_told}
-use Rattle.resolution_step.specs.declared.telling.Counts.{Counts}
+use Rattle.resolution_step.specs.declared.judged_step.Counts.{Counts}
 use Rattle.resolution_walk.specs.Between.{IsNothing}
 use Rattle.walk_laws.specs.Aliased.{WasGivenWithAliases}
 use Rattle.walk_laws.proofs.Leads.{IsLead, IsLed}

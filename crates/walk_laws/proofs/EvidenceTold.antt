@@ -32,7 +32,7 @@ use Rattle.answer_findings.specs.Found.{IsFoundBy}
 use Rattle.answer_findings.specs.Seen.{SeesVerdict}
 use Rattle.resolution_step.specs.Table.{AgreesWith, Tried, answers_with, passes_in, told}
 use Rattle.resolution_step.specs.Told.{TellsVerdict, Sees}
-use Rattle.resolution_step.specs.declared.telling.Counts.{Counts}
+use Rattle.resolution_step.specs.declared.judged_step.Counts.{Counts}
 use Rattle.resolution_tree.specs.Tree.{Secure}
 use Rattle.resolution_evidence.specs.Given.{judge_input}
 use Rattle.resolution_evidence.specs.Walking.{AtOnce, ByQuestion, Ends, Follows, IsOwnStep}

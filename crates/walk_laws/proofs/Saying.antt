@@ -24,7 +24,7 @@ use Rattle.resolution_tree.specs.Tree.{refers_to}
 use Rattle.resolution_tree.proofs.Verdicts.{delegated_refers, verdict_told as told_verdict}
 use Rattle.resolution_step.specs.KnownDs.{known_ds}
 use Rattle.resolution_step.specs.Told.{StepSeen, TellsNoCut, TellsNoneBelow, TellsNothing, Search, Sees, Refuses as Refused_so, Wants, IsCutTold, IsSearchTold, IsSearched, IsSeenTold, IsTold, at_cut, by_known, cut_searched, cut_told, search_of, verdict_told}
-use Rattle.resolution_step.specs.declared.telling.Counts.{Counts}
+use Rattle.resolution_step.specs.declared.judged_step.Counts.{Counts}
 use Rattle.resolution_walk.specs.Between.{IsNothing}
 use Rattle.walk_laws.proofs.WhetherFound.{IsWhetherFound}
 

@@ -21,7 +21,7 @@ use Rattle.answer_findings.specs.Table.{AgreesWith, Tried, answers_with}
 use Rattle.resolution_tree.specs.Laws.{TreesResolveToOne, TreesSayOne}
 use Rattle.resolution_tree.specs.Tree.{refers_to}
 use Rattle.resolution_step.specs.Told.{StepSeen, IsCutTold, IsTold, at_cut, verdict_told}
-use Rattle.resolution_step.specs.declared.telling.Counts.{Counts}
+use Rattle.resolution_step.specs.declared.judged_step.Counts.{Counts}
 use Rattle.resolution_evidence.specs.Given.{Given, IsOf, judge_input}
 use Rattle.resolution_evidence.specs.Truth.{IsAnchored, SignedZone, zone_of}
 use Rattle.resolution_evidence.specs.Walking.{IsNameStep, IsOwnStep, renamed}

@@ -31,7 +31,7 @@ use Rattle.resolution_tree.specs.Laws.{TreesResolveToOne, TreesSayOne}
 use Rattle.resolution_tree.specs.Tree.{refers_to}
 use Rattle.resolution_step.specs.Told.{StepSeen, IsCutTold, IsTold, at_cut, verdict_told}
 use Rattle.resolution_step.specs.Truth.{zone_of_version}
-use Rattle.resolution_step.specs.declared.telling.Counts.{Counts}
+use Rattle.resolution_step.specs.declared.judged_step.Counts.{Counts}
 use Rattle.resolution_evidence.specs.Given.{Given, IsOf, judge_input}
 use Rattle.resolution_evidence.specs.Truth.{IsAnchored, IsOfTree, SignedZone, zone_of}
 use Rattle.resolution_evidence.specs.Walking.{IsNameStep, IsOwnStep}
