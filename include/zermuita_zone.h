@@ -110,8 +110,9 @@ uint32_t zermuita_zone_open(struct zermuita_zone *zone, const uint8_t *journal, 
                             struct zermuita_zone_report *report);
 
 /*
- * Applies a line without its line feed: a key call, a record for the next replacement, or a replacement. `out` gets `ok` and the
- * actions that are due, or the reason of a refusal. ZERMUITA_ZONE_DONE and ZERMUITA_ZONE_UNTOLD mean that the line is accepted,
+ * Applies a line without its line feed: a key call, a record for the next replacement, or a replacement. Its time is the second that
+ * the clock shows. A report takes the next second, because a second is over only when the next one has begun: otherwise its wait may
+ * end up to a second early. `out` gets `ok` and the actions that are due, or the reason of a refusal. ZERMUITA_ZONE_DONE and ZERMUITA_ZONE_UNTOLD mean that the line is accepted,
  * even if `out` is too small: append it to the journal with a line feed. With any other reply nothing has changed; after a
  * refused replacement its records still wait.
  */

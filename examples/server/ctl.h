@@ -45,18 +45,24 @@ static void log_counts(const struct served *served) {
     log_members("counts", members, count);
 }
 
+/* What is due of a roll that runs, the actions in `names`; false where none is told. */
+static bool read_due(struct served *served, uint32_t roll, char names[TEXT_ROOM], struct zermuita_due *due) {
+    *due = (struct zermuita_due){.size = sizeof *due};
+    uint32_t reply = zermuita_zone_due(&served->zone, roll, (uint8_t *)names, TEXT_ROOM, due);
+    return reply == ZERMUITA_ZONE_DONE && due->phase != ZERMUITA_NO_ROLL && due->len <= TEXT_ROOM;
+}
+
 /* What is due of each roll that runs. */
 static void say_due(struct served *served, FILE *said) {
     for (uint32_t roll = ZERMUITA_KSK_ROLL; roll <= ZERMUITA_ALGORITHM_ROLL; roll++) {
         char names[TEXT_ROOM];
-        struct zermuita_due due = {.size = sizeof due};
-        uint32_t reply = zermuita_zone_due(&served->zone, roll, (uint8_t *)names, sizeof names, &due);
-        if (reply != ZERMUITA_ZONE_DONE || due.phase == ZERMUITA_NO_ROLL || due.len > sizeof names) {
+        struct zermuita_due due;
+        if (!read_due(served, roll, names, &due)) {
             continue;
         }
         fprintf(said, "%s: %s is next", rolls[roll], phases[due.phase]);
         if (due.from != UINT64_MAX) {
-            fprintf(said, " from %" PRIu64 " on, %s", due.from, due.from <= line_moment(served) ? "now" : "not yet");
+            fprintf(said, " from %" PRIu64 " on, %s", due.from, due.from <= clock_moment(served) ? "now" : "not yet");
         }
         for (size_t i = 0; i < due.len; i++) {
             if (names[i] == '\n') {
@@ -98,15 +104,29 @@ static bool is_over(struct pending *pending, uint32_t phase, uint64_t from, uint
     return from <= moment && pending->until <= boot_seconds();
 }
 
+/* Accepts the wait of a roll, if it is over by the clock: where replacements come fast, lines are of moments ahead of that. */
+static bool accept_wait(struct served *served, const char *line, const char *roll, FILE *said) {
+    for (uint32_t at = ZERMUITA_KSK_ROLL; roll != NULL && at <= ZERMUITA_ALGORITHM_ROLL; at++) {
+        char names[TEXT_ROOM];
+        struct zermuita_due due;
+        bool is_next = strcmp(roll, rolls[at]) == 0 && read_due(served, at, names, &due)
+            && strncmp(line, phases[due.phase], strlen("wait1")) == 0;
+        if (is_next && due.from != UINT64_MAX && due.from > clock_moment(served)) {
+            fprintf(said, "refused Wait %" PRIu64 "\n", due.from - clock_moment(served));
+            return false;
+        }
+    }
+    return accept_line(served, line, said);
+}
+
 /* Makes the waits that are over. False where one of them is not made. */
 static bool end_waits(struct served *served) {
     bool are_done = true;
     for (uint32_t roll = ZERMUITA_KSK_ROLL; roll <= ZERMUITA_ALGORITHM_ROLL; roll++) {
         char names[TEXT_ROOM], words[64];
-        struct zermuita_due due = {.size = sizeof due};
-        uint32_t reply = zermuita_zone_due(&served->zone, roll, (uint8_t *)names, sizeof names, &due);
-        bool is_wait = due.phase == ZERMUITA_EXPIRY_1 || due.phase == ZERMUITA_EXPIRY_2;
-        if (reply == ZERMUITA_ZONE_DONE && is_wait && is_over(&served->pending[roll], due.phase, due.from, line_moment(served))) {
+        struct zermuita_due due;
+        bool is_wait = read_due(served, roll, names, &due) && (due.phase == ZERMUITA_EXPIRY_1 || due.phase == ZERMUITA_EXPIRY_2);
+        if (is_wait && is_over(&served->pending[roll], due.phase, due.from, clock_moment(served))) {
             snprintf(words, sizeof words, "%s %s", phases[due.phase], rolls[roll]);
             are_done = end_wait(served, words) && are_done;
         }
@@ -176,7 +196,8 @@ static bool do_command(struct served *served, char *line, FILE *said, bool *is_s
     }
     for (size_t i = 0; i < sizeof calls / sizeof *calls; i++) {
         if (strcmp(word, calls[i]) == 0) {
-            return accept_line(served, line, said);
+            bool is_wait = strncmp(word, "wait", strlen("wait")) == 0;
+            return is_wait ? accept_wait(served, line, first, said) : accept_line(served, line, said);
         }
     }
     fputs("commands: status, due, ds, cds, dnskey, key KIND NAME, start ROLL OLD NEW, report1 ROLL TTL, wait1 ROLL, report2 ROLL TTL, wait2 ROLL, "

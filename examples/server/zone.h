@@ -54,6 +54,16 @@ static uint64_t line_moment(const struct served *served) {
     return now > served->floor ? now : served->floor;
 }
 
+/*
+ * The moment of a line of these words. A report counts for all that was given before it, so also for what was given in its own second:
+ * it takes the next one, in which that second is over. A wait would end up to a second early otherwise.
+ */
+static uint64_t moment_of(const struct served *served, const char *words) {
+    bool is_report = strncmp(words, "report", strlen("report")) == 0;
+    uint64_t next = clock_moment(served) + 1, moment = line_moment(served);
+    return is_report && next > moment ? next : moment;
+}
+
 /* The last moment of a journal's calls on keys and replacements: the last word of each. Other lines have none. */
 static uint64_t last_moment(const uint8_t *journal, size_t len) {
     uint64_t last = 0;
@@ -181,10 +191,10 @@ static bool keep_lines(struct served *served, const char *lines, size_t len, FIL
     return false;
 }
 
-/* Applies a line of words, at the moment, and keeps it. */
+/* Applies a line of words, at its moment, and keeps it. */
 static bool accept_line(struct served *served, const char *words, FILE *said) {
     char line[4096];
-    uint64_t moment = line_moment(served);
+    uint64_t moment = moment_of(served, words);
     int len = snprintf(line, sizeof line, "%s %llu\n", words, (unsigned long long)moment);
     if (len < 0 || (size_t)len >= sizeof line) {
         fputs("the line is too long\n", said);

@@ -1,5 +1,7 @@
-"""Rolls of keys, with waits by hand and by the server itself, and with reports of a server that watches others."""
+"""Rolls of keys, with waits by hand and by the server itself, with reports late in a second, and with reports of a server that watches
+others."""
 
+import datetime
 import socket
 import struct
 import threading
@@ -38,6 +40,81 @@ def roll(server, kind, old, new, is_auto=False):
         check(server, QUESTIONS[:6])
     server.done(f"done {kind}")
     print(f"{kind} from {old} to {new}")
+
+
+ZSK_ROLL = "zsk-double-signature-roll"
+# In seconds: the TTL of reports, and what a line of the log may be late.
+TTL, LATE = 3, 0.1
+
+
+def until_late():
+    """Waits until nine tenths of a second have passed."""
+    time.sleep((0.9 - time.time()) % 1)
+
+
+def report_late(server, step):
+    """Reports late in a second. Gives when."""
+    until_late()
+    reported = time.time()
+    server.done(f"report{step} {ZSK_ROLL} {TTL}")
+    return reported
+
+
+def wait_until_over(server, step, reported):
+    """Tries a wait until it is accepted, which is not before its TTL has passed by the clock."""
+    while not (said := server.tell(f"wait{step} {ZSK_ROLL}")).startswith("ok"):
+        if not said.startswith("refused Wait") or time.time() > reported + TTL + 2:
+            fail(f"wait{step} is answered", said)
+        time.sleep(0.02)
+    if time.time() < reported + TTL:
+        fail(f"wait{step} is accepted {time.time() - reported:.2f} seconds behind a report of TTL {TTL}")
+
+
+def check_late_reports(program, room):
+    """Reports late in a second: no wait ends early, neither by hand, nor by the server itself, nor where replacements come faster than
+    seconds, so that lines are ahead of the clock."""
+    server, file = Server(program, room / "late", "--step=1", "--rate=0"), room / "late.zone"
+    for name in ("a", "b", "c"):
+        server.key(name, "-algorithm", "EC", "-pkeyopt", "ec_paramgen_curve:P-256")
+    file.write_text(zone_of(1, 2))
+    server.zone, begun = file, len(logged(server))
+    server.start()
+    first_key(server, "ksk p256", "zsk a")
+    for command in ("key zsk b", "key zsk c", f"start {ZSK_ROLL} a b"):
+        server.done(command)
+    wait_until_over(server, 1, report_late(server, 1))
+    reported = report_late(server, 2)
+    for serial in range(2, 9):
+        file.write_text(zone_of(serial, 2))
+        server.done(f"reload {file}")
+    wait_until_over(server, 2, reported)
+    server.done(f"done {ZSK_ROLL}")
+    server.stop()
+    server.start("--auto", "--look=1", f"--watch=127.0.0.1:{PORT}")
+    server.done(f"start {ZSK_ROLL} b c")
+    report_late(server, 1)
+    if not is_logged(server, begun, event="watch", line=f"done {ZSK_ROLL}", done=True):
+        fail("a roll is not ended:", server.tell("status"))
+    server.stop()
+    print(f"{check_waits(server, begun)} waits behind reports, most of them late in a second: none ended early")
+
+
+def check_waits(server, begun):
+    """In the log no wait was accepted before the TTL of its report had passed. Gives how many there are."""
+    reports, count = {}, 0
+    for it in logged(server)[begun:]:
+        if it["event"] not in ("command", "wait") or not it["done"]:
+            continue
+        step, *words = it["line"].split()
+        time_of = datetime.datetime.fromisoformat(it["time"].replace("Z", "+00:00")).timestamp()
+        if step.startswith("report"):
+            reports[step[-1], words[0]] = time_of, int(words[1])
+        elif step.startswith("wait"):
+            reported, ttl = reports[step[-1], words[0]]
+            if time_of - reported < ttl - LATE:
+                fail(it["line"], f"was accepted {time_of - reported:.2f} seconds behind a report of TTL {ttl}")
+            count += 1
+    return count
 
 
 class Parent(threading.Thread):
@@ -113,4 +190,5 @@ def check_watch(program, room):
         fail("a roll is not ended:", server.tell("status"))
     for it in (server, other):
         it.stop()
+    check_waits(server, begun)
     print("a roll whose reports are made once two servers and the parent's show the change")

@@ -157,9 +157,13 @@ def is_logged(by, begun, seconds=60, **members):
     return False
 
 
-def first_key(server):
-    server.done("key csk p256")
-    for command in ("start algorithm-roll - p256", "report1 algorithm-roll 0", "wait1 algorithm-roll", "report2 algorithm-roll 0"):
+def first_key(server, *keys):
+    """The first keys of a zone, which no cache has: kind and name of each, or one combined key."""
+    keys = keys or ("csk p256",)
+    for it in keys:
+        server.done(f"key {it}")
+    names = ",".join(it.split()[1] for it in keys)
+    for command in (f"start algorithm-roll - {names}", "report1 algorithm-roll 0", "wait1 algorithm-roll", "report2 algorithm-roll 0"):
         server.done(command)
     server.done("wait2 algorithm-roll")
     server.done("done algorithm-roll")

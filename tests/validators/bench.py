@@ -51,7 +51,8 @@ LIVES = [
 
 
 class Plan(typing.NamedTuple):
-    """Seconds from the first call of a roll to each: how long it takes until all servers have a change, and the TTL."""
+    """Seconds from the first call of a roll to each: how long it takes until all servers have a change, and the TTL. A wait is tried
+    from a second before it is over on, so that it is made as soon as it is accepted."""
 
     propagation: int
     ttl: int
@@ -59,7 +60,7 @@ class Plan(typing.NamedTuple):
     def moments(self):
         moment, moments = 0, []
         for step in STEPS:
-            moments.append(moment)
+            moments.append(moment - 1 if step.startswith("wait") else moment)
             moment += self.ttl if step.startswith("report") else self.propagation
         return moments
 

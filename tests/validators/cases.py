@@ -17,6 +17,8 @@ from zones import BELOW, PLACES, SERVER, said_of
 MARGIN = 0.5
 # In seconds, how long a keeper tries a step that is refused, since a wait is over at a whole second, and how often.
 TRIES, PAUSE = 4, 0.1
+# In seconds, how long before a report that comes late both servers have the change.
+CHANGE = 0.2
 # In seconds, how long a resolver may take beyond a TTL.
 SLACK = 1.5
 
@@ -188,6 +190,20 @@ class Clocked(Zoned):
         """Half the questions are about what was replaced last."""
         touched = [it for it in self.touched if drawn.random() < 0.5][: count // 2]
         return [*touched, *drawn.sample(self.questions, count - len(touched))]
+
+
+class Late(Clocked):
+    """A zone whose roll comes late in a second: right before the report both servers have the change, and right before that resolvers
+    ask for the first time. The wait is made as soon as it is accepted, and what resolvers hold then meets what they ask for anew."""
+
+    async def keep(self, begin):
+        """Goes up to the first wait, whose report is of this moment."""
+        for step, moment in zip(STEPS, (begin - CHANGE, begin, begin + self.reported - 1)):
+            await until(moment)
+            await asyncio.gather(*(self.step(it, step) for it in self.running))
+
+    def drawn_questions(self, drawn, count):
+        return drawn.sample(self.questions, count)
 
 
 async def until(moment):

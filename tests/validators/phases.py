@@ -12,8 +12,8 @@ from zones import Zone
 
 FORKED = multiprocessing.get_context("fork")
 SERVERS = 3
-# Seconds before a roll, and before what differs is asked anew.
-LEAD, PAUSE = 8, 5
+# Seconds before a roll, before what differs is asked anew, and before a report that comes late, when resolvers ask for the first time.
+LEAD, PAUSE, FIRST = 8, 5, 0.6
 
 
 class Told(typing.NamedTuple):
@@ -157,11 +157,33 @@ class Phase:
         return told
 
 
+async def late_in_a_second(phase, ttl, drawn):
+    """Asks each resolver about each zone right before a roll whose report comes late in a second, and while the wait behind it is
+    accepted: many times, since what was asked for then is held for parts of a second alone."""
+    begin = int(time.time()) + LEAD + 0.9
+    keepers = [asyncio.create_task(case.keep(begin)) for case in phase.cases]
+    tasks = []
+
+    def ask(count):
+        for case, validator in itertools.product(phase.cases, phase.validators):
+            for question in case.drawn_questions(drawn, count):
+                tasks.append(asyncio.create_task(phase.tell(validator, case, question)))
+
+    await asyncio.sleep(begin - FIRST - time.time())
+    ask(2)
+    await asyncio.sleep(begin + ttl - 1 - time.time())
+    while time.time() < begin + ttl + 2:
+        ask(1)
+        await asyncio.sleep(0.1)
+    await asyncio.gather(*keepers)
+    return await asyncio.gather(*tasks)
+
+
 async def by_the_clock(phase, replacements, late, per_second, drawn):
     """Asks each resolver some questions about each zone, each second, while keys roll, zones are replaced at these moments, and for a
     while behind."""
-    # Steps come in the midst of a second, since moments are whole ones.
-    begin = int(time.time()) + LEAD + 0.3
+    # Steps come late in a second, since moments are whole ones: a report that is rounded down would end its wait early.
+    begin = int(time.time()) + LEAD + 0.9
     end = begin + max(it.steps[-1] for it in phase.cases) + LEAD
     keepers = [asyncio.create_task(it) for case in phase.cases for it in (case.keep(begin), case.replace(begin, replacements, late))]
     tasks = []
