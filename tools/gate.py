@@ -42,7 +42,7 @@ BEHIND = (
     "tests/process",
     "cd examples/sessions && ../../tests/growths/run first_wait opt_out own_zone",
     "tests/refusals --part",
-    "tests/lines/run",
+    "tools/archive && tests/lines/run",
     "tests/pictures",
     "tests/explained/run",
     "tests/signers | cmp - tests/sessions/octets_of_signers",
