@@ -263,7 +263,7 @@ enum zermuita_reply {
     /*
      * # Replies of zermuita_resolve only
      *
-     * They also say why there is no verdict.
+     * These are refusals too.
      */
 
     /*
@@ -307,7 +307,7 @@ enum zermuita_reply {
     /*
      * # Limits of zermuita_resolve
      *
-     * They also say why there is no verdict. Answer SERVFAIL.
+     * These are refusals too. Answer SERVFAIL.
      */
     ZERMUITA_TOO_MANY_CUTS = 48,     /* more delegations are on the way to the name than are allowed */
     ZERMUITA_TOO_MANY_ALIASES = 49,  /* more aliases are on the way to the name than are allowed */

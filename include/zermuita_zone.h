@@ -25,7 +25,7 @@ extern "C" {
  * The caller owns the zone, on the stack, in a structure, or static: set it to ZERMUITA_ZONE_CLOSED once and touch no member. A
  * copy of an open zone is not a second zone.
  *
- * Pass no null pointer, not even with length 0, except inside `struct zermuita_request` and `struct zermuita_master`. What the
+ * Pass no null pointer, not even with length 0, except inside struct zermuita_request and struct zermuita_master. What the
  * library reads must not overlap what it writes. Bytes are written to `out` if all `len` of them fit, and otherwise none.
  *
  * Use a zone only in the thread that opened it. Any number of zones may be open, also of one journal, whose lines determine what
@@ -111,10 +111,10 @@ uint32_t zermuita_zone_open(struct zermuita_zone *zone, const uint8_t *journal, 
 
 /*
  * Applies a line without its line feed: a key call, a record for the next replacement, or a replacement. Its time is the second
- * that the clock shows. A report takes the next second, because a second is over only when the next one has begun: otherwise its
- * wait may end up to a second early. `out` gets `ok` and the actions that are due, or the reason of a refusal. ZERMUITA_ZONE_DONE
- * and ZERMUITA_ZONE_UNTOLD mean that the line is accepted, even if `out` is too small: append it to the journal with a line feed.
- * With any other reply nothing has changed; after a refused replacement its records still wait.
+ * that the clock shows, reduced as by `backdate`. A report takes the next second, because a second is over only when the next one
+ * has begun: otherwise its wait may end up to a second early. `out` gets `ok` and the actions that are due, or the reason of a
+ * refusal. ZERMUITA_ZONE_DONE and ZERMUITA_ZONE_UNTOLD mean that the line is accepted, even if `out` is too small: append it to
+ * the journal with a line feed. With any other reply nothing has changed; after a refused replacement its records still wait.
  */
 uint32_t zermuita_zone_apply(struct zermuita_zone *zone, const uint8_t *line, size_t line_len, uint8_t *out, size_t out_len,
                              struct zermuita_zone_report *report);
