@@ -604,7 +604,7 @@ class Judge:
         further = self.verdict_of(target, seen | {target})
         if further.result == "bogus":
             return bogus(further.reason) if has_records else verdict
-        return Verdict(further.result, verdict.which) if further.result != "secure" else verdict
+        return further if further.result != "secure" else verdict
 
     def denials(self, name: Name, rtype: int) -> Iterator[Verdict | None]:
         apex = self.case.apex

@@ -50,7 +50,7 @@ def without_hashes(octets: bytes, record: reference.Record, apex: reference.Name
 def fingerprint(case: dict[str, Any]) -> object:
     """Equal for cases that show the same. Where some signature fails, or a case is about them, the sentence tells how."""
     messages = [masked(bytes.fromhex(case[it]), case) for it in ("dnskey", "answer")]
-    how = "" if case["group"] != "signatures" and all_pass(case) else case["tries"]
+    how = "" if case["group"] not in ("signatures", "caches") and all_pass(case) else case["tries"]
     question = case["question"]
     return repr((case["zone"], ds_of(case), messages, how, question["name"][-8:], question["type"], case["moment"], case["nsec3_limit"]))
 

@@ -32,6 +32,10 @@ class More:
     message: bytes
 
 
+def told_in_json(it: More) -> dict[str, Any]:
+    return {"name": wire.wire(it.name).hex(), "type": it.rtype, "message": it.message.hex()}
+
+
 def words(result: str, which: str) -> dict[str, str]:
     return {"result": result, "which": which} if which else {"result": result}
 
@@ -83,9 +87,9 @@ class Group:
         self, zone: Zone, name: Name, rtype: int, shown: Shown | bytes, tries: str, rfc: str, kind: str = "attack",
         expected: Expected = BOGUS, also: Sequence[Expected] = (), open: str = "", dnskey: Rrset | bytes | None = None,
         ds: Sequence[bytes] | None = None, moment: int = NOW, limit: int = LIMIT, more: Sequence[More] = (),
-        asked: Name | None = None,
+        asked: Name | None = None, before: Sequence[More] = (),
     ) -> None:
-        """Adds a case; `asked` is the question's name as it is spelled."""
+        """Adds a case; `asked` is the question's name as it is spelled, `before` what is asked first."""
         question = zone.full(name) if asked is None else asked
         answer = shown if isinstance(shown, bytes) else shown.octets(question, rtype)
         if kind == "attack" and isinstance(shown, Shown) and dnskey is None and ds is None:
@@ -106,9 +110,11 @@ class Group:
             case["also"] = [words(*it) for it in also]
         if open:
             case["open"] = open
+        if before:
+            case["before"] = [*map(told_in_json, before)]
         more = [*more, *self.on_the_way(zone, name, rtype, kind == "valid")]
         if more:
-            case["more"] = [{"name": wire.wire(it.name).hex(), "type": it.rtype, "message": it.message.hex()} for it in more]
+            case["more"] = [*map(told_in_json, more)]
         self.keep(case, expected, also)
 
     @staticmethod

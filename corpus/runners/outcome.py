@@ -17,9 +17,11 @@ Case = dict[str, Any]
 SECURE, INSECURE, BOGUS = "secure", "insecure", "bogus"
 # What a resolver's answer lets see of a secure result: the response code, and whether there are records.
 SEEN = {
-    "nxdomain": {"nxdomain", "alias"},
+    "nxdomain": {"nxdomain"},
+    # The alias is in the answer, and what it leads to does not exist.
+    "alias-nxdomain": {"alias"},
     "records": {"answer", "wildcard", "alias", "delegated"},
-    "none": {"nodata", "wildcard-nodata", "alias"},
+    "none": {"nodata", "wildcard-nodata"},
     "denied": {"nodata", "wildcard-nodata", "nxdomain"},
 }
 
@@ -66,9 +68,27 @@ def groups(names: list[str]) -> dict[str, list[Case]]:
     return found
 
 
+def named(cases: list[Case], ids: list[str]) -> list[Case]:
+    """The cases with these ids."""
+    by_id = {it["id"]: it for it in cases}
+    if missing := [it for it in ids if it not in by_id]:
+        raise SystemExit(f"no case {', '.join(missing)}")
+    return [by_id[it] for it in ids]
+
+
+def taken(words: list[str], option: str) -> list[str]:
+    """The values of an option, which are taken out of the words."""
+    found = []
+    while option in words[:-1]:
+        at = words.index(option)
+        found.append(words[at + 1])
+        del words[at : at + 2]
+    return found
+
+
 def mark(case: Case) -> str:
     """By this it is seen whether something was said of the case as it is now."""
-    shown = [case[it] for it in ("apex", "question", "moment", "ds", "dnskey", "answer")]
+    shown = [case[it] for it in ("apex", "question", "moment", "ds", "dnskey", "answer", "before") if it in case]
     return hashlib.sha256(json.dumps(shown).encode()).hexdigest()[:8]
 
 

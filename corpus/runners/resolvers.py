@@ -24,6 +24,8 @@ CLOCK = pathlib.Path(__file__).resolve().parent / "clock.c"
 # In seconds, how long a resolver may take before it answers at all.
 BEGINNING = 30
 WIDTH, SLOWNESS = 12, 1000
+# What is said of a name that a DNAME record makes too long, with that record (RFC 6672, 2.2).
+YXDOMAIN = 6
 
 
 def clock(moment: int, form: str) -> str:
@@ -44,9 +46,9 @@ def said(answer: bytes | None) -> Said:
         return Said("no answer")
     flags, _questions, answers = struct.unpack(">3H", answer[2:8])
     rcode, why = flags & 15, extended_error(answer)
-    if rcode not in (0, 3):
+    if rcode not in (0, 3, YXDOMAIN):
         return Said(BOGUS if rcode == 2 else f"RCODE {rcode}", "", why)
-    which = "nxdomain" if rcode == 3 else "records" if answers else "none"
+    which = ("alias-nxdomain" if answers else "nxdomain") if rcode == 3 else "records" if answers else "none"
     return Said(SECURE if flags & AD else INSECURE, which, why)
 
 
@@ -102,17 +104,39 @@ class PowerDns(Resolver, programs.PowerDns):
     ]
 
 
+class CachingUnbound(Unbound):
+    more = ['local-zone: "test." nodefault', "ede: yes", "trust-anchor-signaling: no", "root-key-sentinel: no"]
+
+
+class CachingNamed(Named):
+    more = ()
+
+
+class CachingKnotResolver(KnotResolver):
+    more = ["option('NO_0X20', true)", "modules = { 'policy' }", "policy.special_names = { count = 0 }"]
+
+
+class CachingPowerDns(PowerDns):
+    more = ["extended-resolution-errors=yes", "signature-inception-skew=0", "root-nx-trust=no"]
+
+
 RESOLVERS = {"unbound": Unbound, "bind": Named, "knot-resolver": KnotResolver, "powerdns": PowerDns}
+# For cases that ask other questions first: query minimisation and the use of NSEC from the cache are as Debian has them.
+CACHING: dict[type[Resolver], type[Resolver]] = {
+    Unbound: CachingUnbound, Named: CachingNamed, KnotResolver: CachingKnotResolver, PowerDns: CachingPowerDns,
+}
 
 
 def rounds(cases: list[Case]) -> list[tuple[int, list[Case]]]:
-    """Cases that one start serves: of one moment, and of a zone only those with the same keys and other questions."""
+    """Cases that one start serves: of one moment, with other questions asked first or none of them, and of a zone only those with the
+    same keys and other questions."""
     found: list[tuple[int, dict[str, tuple[str, set[str]]], list[Case]]] = []
     for case in cases:
         keys, asked = case["dnskey"] + "".join(case["ds"]), case["question"]["text"].lower()
         for moment, zones, of in found:
             known = zones.get(case["apex"], (keys, set()))
-            if moment == case["moment"] and known[0] == keys and asked not in known[1]:
+            is_alike = moment == case["moment"] and ("before" in case) == ("before" in of[0])
+            if is_alike and known[0] == keys and asked not in known[1]:
                 zones.setdefault(case["apex"], known)[1].add(asked)
                 of.append(case)
                 break
@@ -136,6 +160,7 @@ async def ask_all(
     kind: type[Resolver], folder: pathlib.Path, moment: int, served: list[Case], cases: list[Case], width: int
 ) -> dict[str, Said]:
     """One start of the resolver: it is asked some of the cases that are served."""
+    kind = CACHING[kind] if "before" in served[0] else kind
     folder.mkdir()
     os.chmod(folder, 0o777)
     told: dict[str, Said] = {}
@@ -152,6 +177,8 @@ async def ask_all(
 
             async def ask(case: Case) -> None:
                 async with gate:
+                    for before in case.get("before", []):
+                        await resolver.client.ask(bytes.fromhex(before["name"]), before["type"])
                     question = case["question"]
                     told[case["id"]] = said(await resolver.client.ask(bytes.fromhex(question["name"]), question["type"]))
 

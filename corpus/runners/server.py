@@ -42,12 +42,13 @@ def read_name(octets: bytes, at: int) -> tuple[Name, int]:
 class Root(Zone):
     """The root: delegations of the cases' zones, each with its DS set."""
 
-    def __init__(self, cases: Iterable[Case], moment: int) -> None:
+    def __init__(self, cases: Iterable[Case], moment: int, address: str = ROOT, below: str = CASES) -> None:
         super().__init__((), "", keys=Keys([ROOT_KEY], [ROOT_KEY], [ROOT_KEY], [ROOT_KEY]))
         self.times = moment - 20 * DAY, moment + 20 * DAY
         self.sets[()][NS] = (wire.wire(SERVER),)
-        self.sets[SERVER] = {A: (octets_of(ROOT),)}
-        self.sets[wire.name_of("cases.root")] = {A: (octets_of(CASES),)}
+        self.below = below
+        self.sets[SERVER] = {A: (octets_of(address),)}
+        self.sets[wire.name_of("cases.root")] = {A: (octets_of(below),)}
         for case in cases:
             apex = read_name(bytes.fromhex(case["apex"]), 0)[0]
             self.sets[apex] = {NS: (wire.wire(wire.name_of("cases.root")),)}
@@ -63,7 +64,7 @@ class Root(Zone):
 
     def made_answer(self, name: Name, rtype: int) -> bytes:
         shown = honest(self, name, rtype)
-        glue = [Rrset(wire.name_of("cases.root"), A, 3600, (octets_of(CASES),))] if not shown.is_authoritative else []
+        glue = [Rrset(wire.name_of("cases.root"), A, 3600, (octets_of(self.below),))] if not shown.is_authoritative else []
         flags = wire.QR | shown.rcode | (wire.AA if shown.is_authoritative else 0)
         return wire.message(name, rtype, [shown.answer, shown.authority, glue], flags)
 
@@ -77,7 +78,7 @@ class Zones:
         for case in cases:
             apex = read_name(bytes.fromhex(case["apex"]), 0)[0]
             name = read_name(bytes.fromhex(case["question"]["name"]), 0)[0]
-            for more in case.get("more", []):
+            for more in [*case.get("more", []), *case.get("before", [])]:
                 of = wire.lower(read_name(bytes.fromhex(more["name"]), 0)[0]), more["type"]
                 self.messages[of] = self.below[of] = bytes.fromhex(more["message"])
             self.messages[wire.lower(apex), DNSKEY] = with_glue(bytes.fromhex(case["dnskey"]))

@@ -2,6 +2,7 @@
 
 from __future__ import annotations
 
+import dataclasses
 import pathlib
 import sys
 from typing import Any
@@ -74,10 +75,20 @@ def said(library: Any, case: Case) -> Said:
         return Said(BOGUS, "", str(refused))
     if judgement.verdict is zermuita.Verdict.DELEGATED:
         return delegated(case)
+    if judgement.target and is_open(library, dataclasses.replace(handed, name=judgement.target, other_question=True)):
+        return Said(INSECURE, "optout", "an alias, and ZERMUITA_OPTOUT for its target")
     if judgement.ede:
         return Said(INSECURE, "algorithms", f"{library.strerror(int(judgement.verdict))}, EDE {judgement.ede}")
     result, which = SAYS[judgement.verdict]
     return Said(result, which, library.strerror(int(judgement.verdict)))
+
+
+def is_open(library: Any, handed: Any) -> bool:
+    """Whether the same answer leaves open by opt-out what the name is that an alias leads to."""
+    try:
+        return library.judge(handed, passes).verdict is zermuita.Verdict.OPTOUT
+    except zermuita.Refused:
+        return False
 
 
 def delegated(case: Case) -> Said:
