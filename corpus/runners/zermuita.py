@@ -76,7 +76,7 @@ def said(library: Any, case: Case) -> Said:
     if judgement.verdict is zermuita.Verdict.DELEGATED:
         return delegated(case)
     if judgement.target and is_open(library, dataclasses.replace(handed, name=judgement.target, other_question=True)):
-        return Said(INSECURE, "optout", "an alias, and ZERMUITA_OPTOUT for its target")
+        return Said(INSECURE, "optout", library.strerror(int(judgement.verdict)))
     if judgement.ede:
         return Said(INSECURE, "algorithms", f"{library.strerror(int(judgement.verdict))}, EDE {judgement.ede}")
     result, which = SAYS[judgement.verdict]

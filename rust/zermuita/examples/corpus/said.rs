@@ -45,6 +45,9 @@ pub fn said(case: &Value, signatures: &impl Signatures) -> Option<Said> {
     handed.limits.nsec3_iterations = u16::try_from(case["nsec3_limit"].as_u64()?).ok()?;
     handed.other_question = matches!(rtype, Rtype::CNAME | Rtype::DNAME);
     Some(match handed.judge(signatures) {
+        Ok(judgement) if leaves_target_open(&handed, &judgement.verdict, signatures) => {
+            Said { result: "insecure", which: "optout".to_owned(), why: judgement.verdict.reply().to_string() }
+        }
         Ok(judgement) => verdict(case, &judgement),
         Err(JudgeError::Refused(refused)) => {
             let why = refused.refusal.reply().to_string();
@@ -54,6 +57,21 @@ pub fn said(case: &Value, signatures: &impl Signatures) -> Option<Said> {
             }
         }
         Err(error) => Said { result: "error", which: String::new(), why: error.to_string() },
+    })
+}
+
+/// Whether the same answer leaves open by opt-out what the name is that an alias leads to.
+fn leaves_target_open(handed: &Case<'_>, verdict: &Verdict, signatures: &impl Signatures) -> bool {
+    let target = match verdict {
+        Verdict::Alias(it) | Verdict::WildcardAlias(it) => Some(it),
+        Verdict::Dname { target, .. } => target.as_ref(),
+        _ => None,
+    };
+    target.map_or(false, |it| {
+        let question = Question::new(it.clone(), handed.question.rtype);
+        let mut further: Case<'_> = handed.clone();
+        (further.question, further.other_question) = (&question, true);
+        matches!(further.judge(signatures), Ok(Judgement { verdict: Verdict::OptOut, .. }))
     })
 }
 
