@@ -49,7 +49,7 @@ class Verdict(enum.IntEnum):
 
 
 class Refused(Exception):
-    """No verdict: docs/use/CALLING.md has the table of replies, and which of them are bogus.
+    """No verdict: docs/use/REPLIES.md has the table of replies, docs/use/CALLING.md which of them are bogus.
 
     `reply` is the number of the reason, and `ede` the code of an extended error (RFC 8914), or 0 where there is none.
     """
