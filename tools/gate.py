@@ -46,6 +46,7 @@ BEHIND = (
     "tests/pictures",
     "tests/explained/run",
     "tests/signers | cmp - tests/sessions/octets_of_signers",
+    "tests/pages/run",
 )
 TICKS = os.sysconf("SC_CLK_TCK")
 # Lines that say what was refused and why; of them the last so many are printed again.
@@ -224,6 +225,8 @@ def main():
         file.write_text(table(seconds, minutes))
     if not gate.returncode and not failed and not progress.kept:
         TABLE.write_text(table(seconds, minutes))
+        # a page has its sums
+        subprocess.run([TOP / "tools/pages"], check=True)
         print(f"gate: each crate's minutes are in {TABLE.relative_to(TOP)}")
     print(f"FAILED: {'; '.join(failed)}" if failed else last.rstrip("\n"), flush=True)
     return gate.returncode or (1 if failed else 0)
