@@ -196,11 +196,7 @@ enum zermuita_reply {
     ZERMUITA_QUESTION_NOT_ALLOWED = 16, /* the name is not in the zone, the class is not IN, or the type is not judged */
     /* Do: Ask another server. */
     ZERMUITA_BAD_DNSKEY_MESSAGE = 17, /* the DNSKEY answer is not a message */
-    /*
-     * It has no question, for example.
-     *
-     * Do: Ask another server.
-     */
+    /* Do: Ask another server. */
     ZERMUITA_BAD_ANSWER_MESSAGE = 18, /* the answer is not a message */
     /*
      * Case is ignored. `answer` is compared only with `other_question` 0.
@@ -266,11 +262,7 @@ enum zermuita_reply {
      * These are refusals too.
      */
 
-    /*
-     * It is about a delegation elsewhere, for example.
-     *
-     * Do: Ask another server for it.
-     */
+    /* Do: Ask another server for it. */
     ZERMUITA_NOTHING_TOLD = 30, /* a zone's answer tells nothing of the way to the name */
     /*
      * Or the target of an alias is not.
