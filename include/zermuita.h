@@ -88,8 +88,8 @@ static inline int zermuita_octets_are(struct zermuita_octets *octets) {
 /*
  * @page zermuita_strerror: replies of zermuita_judge and zermuita_resolve
  *
- * zermuita_resolve(3) has what differs there. A resolver answers SERVFAIL to a reply that it does not know. Initialise a variable
- * for the reply to ZERMUITA_BAD_CASE, since 0 is a verdict.
+ * For a walk see zermuita_resolve(3). A resolver answers SERVFAIL to a reply that it does not know. Initialise a variable for the
+ * reply to ZERMUITA_BAD_CASE, since 0 is a verdict.
  *
  * @see zermuita_judge zermuita_resolve
  * @standards RFC 4035, section 4.3, defines secure, insecure and bogus.
