@@ -40,6 +40,7 @@ BEHIND = (
     "tests/cases examples/sessions tests/sessions",
     "tests/inputs",
     "tests/process",
+    "tests/streams",
     "cd examples/sessions && ../../tests/growths/run first_wait opt_out own_zone",
     "tests/refusals --part",
     "tools/archive && tests/lines/run",

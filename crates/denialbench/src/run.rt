@@ -129,8 +129,3 @@ fn fault_text(alloc: Global, fault: &ZoneFault) -> Result<String, AllocError>
     let name = fault.name();
     format!(in alloc; "refused {name}\n")
 }
-
-#[cfg(test)]
-mod fakes;
-#[cfg(test)]
-mod tests;
