@@ -64,12 +64,12 @@ def told(trace, words, root, servers):
         asked = [it if isinstance(it, str) else f"{HOST}:{it.port}" for it in roots]
         line = rf"\.: \S+ \S+ from {asked[0]}{wanted}"
         all_words = [*words, *(word for it in asked for word in ("--server", f".={it}")), *servers]
-        ran = subprocess.run([trace, *all_words], capture_output=True, text=True)
+        ran = subprocess.run([*trace, *all_words], capture_output=True, text=True)
         if ran.returncode or len(re.findall(f"^{line}$", ran.stderr, re.M)) != 2:
             yield f"{case}: status {ran.returncode}, told {ran.stderr}"
         if case == "lost":
-            yield from terminal_faults(told_on_terminal([trace, *all_words]), line)
-    quiet = subprocess.run([trace, *all_words, "--quiet"], capture_output=True, text=True)
+            yield from terminal_faults(told_on_terminal([*trace, *all_words]), line)
+    quiet = subprocess.run([*trace, *all_words, "--quiet"], capture_output=True, text=True)
     if quiet.returncode or quiet.stderr:
         yield f"quiet: status {quiet.returncode}, told {quiet.stderr}"
 

@@ -168,10 +168,10 @@ AS_SERVFAIL = ("TOO_MANY_CUTS", "TOO_MANY_ALIASES", "TOO_MANY_MESSAGES")
 
 
 class Trace:
-    """The program of examples/trace, which is told the root's server, and finds those of other zones by the messages of the way."""
+    """The program of examples/trace, or one that is called as it is, which is told the root's server, and finds those of other zones by the messages of the way."""
 
-    def __init__(self, program, room):
-        self.program, self.folder = program, room / "ways"
+    def __init__(self, command, room):
+        self.command, self.folder = command, room / "ways"
         servers = json.loads((room / "tree/servers").read_text())
         self.words = ["--anchor", room / "tree/anchor", "--server", f".={servers['.']}"]
 
@@ -180,7 +180,7 @@ class Trace:
 
     async def ask(self, question):
         saved = self.folder / f"{question['number']}"
-        words = [self.program, question["name"], question["type"], *self.words, "--json", "--quiet", "--save", saved]
+        words = [*self.command, question["name"], question["type"], *self.words, "--json", "--quiet", "--save", saved]
         how = {"stdin": asyncio.subprocess.DEVNULL, "stdout": asyncio.subprocess.PIPE, "stderr": asyncio.subprocess.STDOUT}
         process = await asyncio.create_subprocess_exec(*map(str, words), **how)
         output = (await process.communicate())[0].decode(errors="replace")

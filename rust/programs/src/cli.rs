@@ -1,0 +1,172 @@
+//! What the command line has. The man pages and the completion are made of this, too.
+
+use std::path::PathBuf;
+
+use clap::{Parser, Subcommand};
+use zermuita::{Name, Question, Rtype};
+
+use crate::net::Server;
+
+/// Where Debian's package dns-root-data has the root's DS records.
+pub const ROOT_ANCHOR: &str = "/usr/share/dns/root.ds";
+
+/// Judge signed DNS answers: what a name's zones prove, from a trust anchor down
+#[derive(Debug, Parser)]
+#[command(name = "zermuita", version, propagate_version = true, arg_required_else_help = true)]
+#[command(long_about = "Judge signed DNS answers (DNSSEC): what a name's zones prove of it, from a trust anchor down. Verdicts are those \
+of libzermuita, which is proved by machine to say what the zones say.")]
+pub struct Cli {
+    #[command(subcommand)]
+    pub command: Command,
+}
+
+#[derive(Debug, Subcommand)]
+pub enum Command {
+    Trace(Trace),
+    Judge(Judge),
+    #[command(subcommand)]
+    Forward(Forward),
+    /// Print the completion script for a shell
+    #[command(hide = true)]
+    Completion,
+    /// Print a man page: zermuita, or a command's
+    #[command(hide = true)]
+    Manual {
+        /// The command; that of all where it is left out
+        page: Option<String>,
+    },
+}
+
+/// A server, of one zone where that is named.
+#[derive(Clone, Debug)]
+pub struct ZoneServer {
+    pub zone: Option<Name>,
+    pub server: Server,
+}
+
+fn zone_server(text: &str) -> Result<ZoneServer, String> {
+    let (zone, server) = match text.split_once('=') {
+        Some((zone, server)) => (Some(zone), server),
+        None => (None, text),
+    };
+    let zone = zone.map(str::parse::<Name>).transpose().map_err(|error| format!("{error}: a zone stands in front of ="))?;
+    Ok(ZoneServer { zone, server: server.parse().map_err(|error: crate::net::ServerError| error.to_string())? })
+}
+
+/// Trace a name from a trust anchor: each zone, its keys, what it answers, and what that proves
+#[derive(Debug, Parser)]
+#[command(
+    long_about = "Trace a name from a trust anchor down. Asks the servers of each zone on the way, judges what they answer, and prints \
+each zone with its DS records and keys, each answer with what it proves and by which records and signatures, and how the name ends: \
+secure, insecure, bogus, or not shown. If an answer is refused, it asks the zone's other servers, three at most.",
+    after_help = "Exit status: 0 secure, 3 insecure, 1 bogus or not shown, 2 an answer is missing or the call is wrong"
+)]
+pub struct Trace {
+    /// Name to look up
+    pub name: Name,
+    /// Type of its records
+    #[arg(default_value = "A")]
+    pub rtype: Rtype,
+    /// DS records of the trust anchor, one in each line
+    #[arg(long, value_name = "FILE", default_value = ROOT_ANCHOR)]
+    pub anchor: PathBuf,
+    /// Server to ask, of one zone if ZONE= is in front of it; else a resolver, or a server of all zones. May be repeated. For a zone
+    /// without one, the servers are asked that the answers on the way name
+    #[arg(long, value_name = "[ZONE=]HOST[:PORT]", value_parser = zone_server)]
+    pub server: Vec<ZoneServer>,
+    /// Root hints: a zone file with the addresses of the root's servers
+    #[arg(long, value_name = "FILE")]
+    pub hints: Option<PathBuf>,
+    /// Port of servers that are given without one, or found on the way
+    #[arg(long, value_name = "PORT", default_value_t = 53)]
+    pub port: u16,
+    /// Print one object of JSON
+    #[arg(long)]
+    pub json: bool,
+    /// Print the messages whole, too
+    #[arg(long)]
+    pub messages: bool,
+    /// Print nothing on standard error while servers are asked
+    #[arg(long)]
+    pub quiet: bool,
+    /// Write the messages to a file
+    #[arg(long, value_name = "FILE")]
+    pub save: Option<PathBuf>,
+    /// Take messages and the moment from such a file, and ask servers only if --server is given
+    #[arg(long, value_name = "FILE")]
+    pub from: Option<PathBuf>,
+    /// Seconds since 1970 at which signatures are to hold; now if left out
+    #[arg(long, value_name = "SECONDS")]
+    pub moment: Option<u64>,
+}
+
+impl Trace {
+    pub fn question(&self) -> Question {
+        Question::new(self.name.clone(), self.rtype)
+    }
+}
+
+/// Judge the messages of a file: hexadecimal digits, base64, dig's output, or a packet capture
+#[derive(Debug, Parser)]
+#[command(
+    long_about = "Judge the messages of a file against a trust anchor, and ask nobody. FILE has messages in hexadecimal digits or in \
+base64, one in each line; or what dig prints; or packets as tcpdump writes them (pcap, UDP and TCP port 53). Among them must be the \
+DNSKEY answers and DS records on the way from the trust anchor to each name. Prints what each answer proves.",
+    after_help = "Exit status: 0 if all answers are secure or insecure, 1 if one is bogus or not shown, 2 if the file cannot be read"
+)]
+pub struct Judge {
+    /// File of messages; - is standard input
+    pub file: PathBuf,
+    /// DS records of the trust anchor, one in each line
+    #[arg(long, value_name = "FILE", default_value = ROOT_ANCHOR)]
+    pub anchor: PathBuf,
+    /// What the file has
+    #[arg(long, value_enum, default_value_t = Form::Auto)]
+    pub form: Form,
+    /// Print an object of JSON for each answer
+    #[arg(long)]
+    pub json: bool,
+    /// Seconds since 1970 at which signatures are to hold; now if left out
+    #[arg(long, value_name = "SECONDS")]
+    pub moment: Option<u64>,
+}
+
+/// How messages stand in a file.
+#[derive(Clone, Copy, Debug, PartialEq, Eq, clap::ValueEnum)]
+pub enum Form {
+    /// Found out by the file's beginning
+    Auto,
+    /// Hexadecimal digits, a message in each line
+    Hex,
+    /// Base64, a message in each line
+    Base64,
+    /// What dig prints, with +dnssec
+    Dig,
+    /// A packet capture
+    Pcap,
+}
+
+/// Answer questions from validated answers alone: a forwarder or resolver for this host
+#[derive(Debug, Subcommand)]
+#[command(
+    long_about = "Answer questions by DNS from validated answers alone. Listens on loopback, asks a resolver or the zones' own \
+servers, and answers what the library proves, with AD; what is bogus gets SERVFAIL with an extended error (RFC 8914).",
+    after_help = "Exit status: 0 if the daemon was told to stop or the configuration is right, 1 if it is wrong, 2 if the call is wrong, \
+3 if a socket cannot be opened"
+)]
+pub enum Forward {
+    /// Run until told to stop; SIGHUP reads the configuration again
+    Run {
+        /// Configuration
+        #[arg(long, value_name = "FILE", default_value = "/etc/zermuita/forward.toml")]
+        config: PathBuf,
+    },
+    /// Check a configuration, and print every setting that is in effect
+    Check {
+        /// Configuration
+        #[arg(long, value_name = "FILE", default_value = "/etc/zermuita/forward.toml")]
+        config: PathBuf,
+    },
+    /// Print a configuration with every setting at its default
+    Defaults,
+}

@@ -1,0 +1,144 @@
+//! The daemon: its sockets, its log, and its signals.
+
+use std::net::SocketAddr;
+use std::path::Path;
+use std::pin::Pin;
+use std::sync::Arc;
+use std::time::Duration;
+
+use openssl::ssl::{Ssl, SslAcceptor, SslFiletype, SslMethod};
+use tokio::net::{TcpListener, TcpStream, UdpSocket};
+use tokio::signal::unix::{signal, SignalKind};
+use tokio_openssl::SslStream;
+
+use super::config::{self, Format, Level, Log, Ready, Tls};
+use super::metrics::{self, Count, Metrics};
+use super::resolver::Resolver;
+use super::serve::{connections, datagrams, stream, Shared, Transport};
+use crate::out::Failure;
+
+/// How long a handshake of TLS may take.
+const HANDSHAKE: Duration = Duration::from_secs(5);
+
+fn begin_log(log: &Log) {
+    let level = match log.level {
+        Level::Error => tracing::Level::ERROR,
+        Level::Warn => tracing::Level::WARN,
+        Level::Info => tracing::Level::INFO,
+        Level::Debug => tracing::Level::DEBUG,
+    };
+    let subscriber = tracing_subscriber::fmt().with_max_level(level).with_writer(std::io::stderr).with_target(false);
+    match log.format {
+        Format::Json => subscriber.json().init(),
+        Format::Text => subscriber.with_ansi(atty::is(atty::Stream::Stderr)).init(),
+    }
+}
+
+fn unopened(address: SocketAddr, what: &str, error: std::io::Error) -> Failure {
+    let advice = match error.kind() {
+        std::io::ErrorKind::AddrInUse => "another server has this address: stop it, or change `listen`",
+        std::io::ErrorKind::PermissionDenied => "ports below 1024 need root or CAP_NET_BIND_SERVICE",
+        std::io::ErrorKind::AddrNotAvailable => "this host does not have the address: change `listen`",
+        _ => "change `listen`",
+    };
+    Failure::Socket { place: format!("{address} by {what}"), error, advice }
+}
+
+fn acceptor(tls: &Tls) -> Result<Option<SslAcceptor>, Failure> {
+    let (certificate, key) = match (&tls.certificate, &tls.key) {
+        (Some(certificate), Some(key)) if !tls.listen.is_empty() => (certificate, key),
+        _ => return Ok(None),
+    };
+    let wrong = |path: &Path| {
+        let path = path.to_owned();
+        move |error: openssl::error::ErrorStack| Failure::Content { path: path.clone(), reason: error.to_string() }
+    };
+    let mut builder = SslAcceptor::mozilla_intermediate_v5(SslMethod::tls_server()).map_err(wrong(certificate))?;
+    builder.set_certificate_chain_file(certificate).map_err(wrong(certificate))?;
+    builder.set_private_key_file(key, SslFiletype::PEM).map_err(wrong(key))?;
+    builder.check_private_key().map_err(wrong(key))?;
+    Ok(Some(builder.build()))
+}
+
+async fn serve_tls(shared: Arc<Shared>, acceptor: SslAcceptor, tcp: TcpStream, client: SocketAddr) {
+    let made = Ssl::new(acceptor.context()).and_then(|it| SslStream::new(it, tcp));
+    if let Ok(mut tls) = made {
+        if matches!(tokio::time::timeout(HANDSHAKE, Pin::new(&mut tls).accept()).await, Ok(Ok(()))) {
+            stream(&shared, tls, client, Transport::Tls).await;
+        }
+    }
+}
+
+/// Opens all sockets, and serves them.
+async fn open(shared: &Arc<Shared>, ready: &Ready) -> Result<(), Failure> {
+    for address in &ready.config.listen {
+        let udp = UdpSocket::bind(address).await.map_err(|error| unopened(*address, "UDP", error))?;
+        let tcp = TcpListener::bind(address).await.map_err(|error| unopened(*address, "TCP", error))?;
+        tokio::spawn(datagrams(shared.clone(), Arc::new(udp)));
+        tokio::spawn(connections(shared.clone(), tcp, |shared, tcp, client| async move {
+            stream(&shared, tcp, client, Transport::Tcp).await;
+        }));
+    }
+    if let Some(acceptor) = acceptor(&ready.config.tls)? {
+        for address in &ready.config.tls.listen {
+            let tcp = TcpListener::bind(address).await.map_err(|error| unopened(*address, "TLS", error))?;
+            let acceptor = acceptor.clone();
+            tokio::spawn(connections(shared.clone(), tcp, move |shared, tcp, client| {
+                serve_tls(shared, acceptor.clone(), tcp, client)
+            }));
+        }
+    }
+    if let Some(address) = ready.config.metrics.listen {
+        metrics::serve(address, shared.metrics.clone()).await.map_err(|error| unopened(address, "TCP", error))?;
+    }
+    Ok(())
+}
+
+/// Reads the configuration again. What is wrong is logged, and the old one stays.
+fn reload(shared: &Shared, path: &Path) {
+    let _ = sd_notify::notify(false, &[sd_notify::NotifyState::Reloading]);
+    match config::read(path) {
+        Ok(ready) => {
+            let old = shared.resolver();
+            let is_other = |a: &Ready, b: &Ready| a.config.listen != b.config.listen || a.config.tls.listen != b.config.tls.listen;
+            if is_other(&old.ready, &ready) {
+                tracing::warn!("the addresses to listen at change with the next start");
+            }
+            shared.replace(Arc::new(Resolver::new(ready, shared.metrics.clone())));
+            shared.metrics.add(Count::Reloads, 1);
+            tracing::info!("the configuration was read again");
+        }
+        Err(failure) => tracing::error!("{failure}: the old configuration stays"),
+    }
+    let _ = sd_notify::notify(false, &[sd_notify::NotifyState::Ready]);
+}
+
+async fn served(path: &Path, ready: Ready) -> Result<u8, Failure> {
+    let shared = Arc::new(Shared::new(Arc::new(Resolver::new(ready.clone(), Arc::new(Metrics::new())))));
+    let (mut hangup, mut term, mut interrupt) =
+        (signal(SignalKind::hangup())?, signal(SignalKind::terminate())?, signal(SignalKind::interrupt())?);
+    open(&shared, &ready).await?;
+    let asks = if ready.upstream.is_empty() { "the zones' own servers".to_owned() } else { format!("{:?}", ready.upstream) };
+    tracing::info!(listen = ?ready.config.listen, asks, version = env!("CARGO_PKG_VERSION"), "ready");
+    // Nobody listens where this was not started by systemd.
+    let _ = sd_notify::notify(false, &[sd_notify::NotifyState::Ready]);
+    loop {
+        tokio::select! {
+            _ = hangup.recv() => reload(&shared, path),
+            _ = term.recv() => break,
+            _ = interrupt.recv() => break,
+        }
+    }
+    let _ = sd_notify::notify(false, &[sd_notify::NotifyState::Stopping]);
+    tracing::info!(answers = shared.resolver().kept(), "stopped");
+    Ok(0)
+}
+
+/// Runs until it is told to stop.
+pub fn run(path: &Path, ready: Ready) -> Result<u8, Failure> {
+    begin_log(&ready.config.log);
+    let runtime = tokio::runtime::Builder::new_multi_thread().enable_all().build()?;
+    let status = runtime.block_on(served(path, ready));
+    runtime.shutdown_timeout(Duration::from_secs(1));
+    status
+}
