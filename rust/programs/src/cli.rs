@@ -65,7 +65,7 @@ pub struct Trace {
     /// Name to look up
     pub name: Name,
     /// Type of its records
-    #[arg(default_value = "A")]
+    #[arg(value_name = "TYPE", default_value = "A")]
     pub rtype: Rtype,
     /// DS records of the trust anchor, one in each line
     #[arg(long, value_name = "FILE", default_value = ROOT_ANCHOR)]

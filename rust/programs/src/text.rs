@@ -8,7 +8,7 @@ use zermuita::{Name, Rtype};
 /// The parts of a type's data: `n` a name; `a` and `A` addresses; `1`, `2` and `4` numbers of so many octets; `t` a type; `m` a moment;
 /// `s` a character string, and further ones behind it where it comes first; `T` the types of a bitmap; `x` what is left in hexadecimal
 /// digits and `b` in base64; and behind its length in an octet `X` a salt and `H` a hash.
-fn form_of(rtype: Rtype) -> Option<&'static str> {
+pub fn form_of(rtype: Rtype) -> Option<&'static str> {
     Some(match rtype {
         Rtype::A => "a",
         Rtype::NS | Rtype::CNAME | Rtype::PTR | Rtype::DNAME => "n",
@@ -226,10 +226,9 @@ mod tests {
     }
 
     #[test]
-    fn hashes_are_of_rfc_5155() {
-        // RFC 5155, appendix A: the hash of example.
-        let hash = [0x06, 0x53, 0x6b, 0x48, 0xb2, 0x67, 0x0b, 0xe0, 0xf4, 0x4d];
-        assert_eq!(base32hex(&hash), "0P9MHQI" .to_owned() + &base32hex(&hash)[7..]);
-        assert_eq!(base64(b"ab"), "YWI=");
+    fn digits_are_of_rfc_4648() {
+        for (octets, hex32, base) in [(&b"f"[..], "CO", "Zg=="), (b"fooba", "CPNMUOJ1", "Zm9vYmE="), (b"foobar", "CPNMUOJ1E8", "Zm9vYmFy")] {
+            assert_eq!((base32hex(octets), base64(octets)), (hex32.to_owned(), base.to_owned()));
+        }
     }
 }
