@@ -140,6 +140,8 @@ class Resolver(Validator):
 
     FILE = ""
     client_of: type[Client] = Client
+    # What a shell does first in the namespace, where a program wants more than addresses of its loopback device.
+    links = ""
     # Settings that a run adds.
     more: Sequence[str] = ()
 
@@ -295,4 +297,98 @@ minimum-ttl-override=0
 max-cache-bogus-ttl=1
 packetcache-servfail-ttl=1
 security-poll-suffix=
+{self.added()}"""
+
+
+class Forwarder(Resolver):
+    """A program that validates, and asks a resolver for the answers: `upstream` is that one's address."""
+
+    upstream = ""
+
+
+class Dnsmasq(Forwarder):
+    NAME, FILE, PACKAGE = "dnsmasq", "dnsmasq.conf", "dnsmasq-base"
+
+    def command(self) -> list[str]:
+        return ["dnsmasq", "--keep-in-foreground", "--log-facility=-", f"--conf-file={self.folder}/{self.FILE}"]
+
+    def configuration(self) -> str:
+        tag, algorithm, kind = struct.unpack(">HBB", self.root.ds[:4])
+        return f"""
+listen-address={self.address}
+bind-interfaces
+user=
+pid-file=
+no-resolv
+no-hosts
+server={self.upstream}
+dnssec
+trust-anchor=.,{tag},{algorithm},{kind},{self.root.ds[4:].hex()}
+{self.added()}"""
+
+
+class Resolved(Forwarder):
+    """systemd-resolved, without systemd: its files are put over those of the system in a mount namespace of its own. With CORPUS_RESOLVED
+    in the environment, it is taken from that folder, into which its packages were unpacked (`dpkg -x`): to install it would change
+    /etc/resolv.conf."""
+
+    NAME, FILE, PACKAGE = "systemd-resolved", "resolved.conf", "systemd-resolved"
+    # The program wants this user, and a device that is none of loopback.
+    USER = "systemd-resolve"
+    links = "ip link add r0 type veth peer name r1; ip link set r0 up; ip link set r1 up; ip address add 198.51.100.99/32 dev r0; "
+
+    def command(self) -> list[str]:
+        room, here = self.room(), self.folder
+        (here / "anchors").mkdir(exist_ok=True)
+        tag, algorithm, kind = struct.unpack(">HBB", self.root.ds[:4])
+        self.write("anchors/root.positive", f". IN DS {tag} {algorithm} {kind} {self.root.ds[4:].hex()}\n")
+        # One such file takes the place of the list that the program has by itself, with test. in it.
+        self.write("anchors/none.negative", "nothing.invalid\n")
+        self.write("passwd", pathlib.Path("/etc/passwd").read_text() + f"{self.USER}:x:990:990::/:/usr/sbin/nologin\n")
+        self.write("group", pathlib.Path("/etc/group").read_text() + f"{self.USER}:x:990:\n")
+        script = f"""
+mount -t tmpfs none /run
+mkdir -p /run/systemd /run/resolved
+mount --bind {here} /run/resolved
+mount -t tmpfs none /etc/systemd
+cp /run/resolved/{self.FILE} /etc/systemd/resolved.conf
+mkdir -p /run/dnssec-trust-anchors.d
+cp /run/resolved/anchors/* /run/dnssec-trust-anchors.d/
+mount --bind /run/resolved/passwd /etc/passwd
+mount --bind /run/resolved/group /etc/group
+exec {room}/lib/systemd/systemd-resolved
+"""
+        return ["unshare", "--mount", "sh", "-ec", script]
+
+    @staticmethod
+    def room() -> str:
+        return os.environ.get("CORPUS_RESOLVED", "").rstrip("/")
+
+    def environment(self) -> dict[str, str]:
+        return super().environment() | self.libraries() | {"SYSTEMD_LOG_LEVEL": "info"}
+
+    @classmethod
+    def libraries(cls) -> dict[str, str]:
+        return {"LD_LIBRARY_PATH": f"{cls.room()}/usr/lib/x86_64-linux-gnu/systemd"} if cls.room() else {}
+
+    @classmethod
+    def version(cls) -> str:
+        if not cls.room():
+            return super().version()
+        words, env = [f"{cls.room()}/usr/bin/resolvectl", "--version"], {**os.environ, **cls.libraries()}
+        ran = subprocess.run(words, capture_output=True, text=True, check=True, env=env)
+        return f"{cls.NAME} {ran.stdout.split('(')[1].split(')')[0]}"
+
+    def configuration(self) -> str:
+        return f"""
+[Resolve]
+DNS={self.upstream}
+FallbackDNS=
+Domains=~.
+DNSSEC=yes
+DNSStubListener=no
+DNSStubListenerExtra={self.address}
+LLMNR=no
+MulticastDNS=no
+ReadEtcHosts=no
 {self.added()}"""

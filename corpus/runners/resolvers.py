@@ -18,7 +18,7 @@ import time
 from . import programs
 from .outcome import BOGUS, INSECURE, SECURE, Case, Said
 from .programs import AD
-from .server import ROOT, ROOT_KEY, VALIDATOR, Serving
+from .server import RECURSIVE, ROOT, ROOT_KEY, VALIDATOR, Serving
 
 CLOCK = pathlib.Path(__file__).resolve().parent / "clock.c"
 # In seconds, how long a resolver may take before it answers at all.
@@ -77,7 +77,8 @@ class Resolver(programs.Resolver):
         self.moment = moment
 
     def environment(self) -> dict[str, str]:
-        return {"LD_PRELOAD": str(clock_library(self.folder.parent)), "CORPUS_MOMENT": str(self.moment), "CORPUS_SLOWNESS": str(SLOWNESS)}
+        clock = {"LD_PRELOAD": str(clock_library(self.folder.parent)), "CORPUS_MOMENT": str(self.moment), "CORPUS_SLOWNESS": str(SLOWNESS)}
+        return super().environment() | clock
 
 
 class Unbound(Resolver, programs.Unbound):
@@ -120,11 +121,32 @@ class CachingPowerDns(PowerDns):
     more = ["extended-resolution-errors=yes", "signature-inception-skew=0", "root-nx-trust=no"]
 
 
-RESOLVERS = {"unbound": Unbound, "bind": Named, "knot-resolver": KnotResolver, "powerdns": PowerDns}
+class Dnsmasq(Resolver, programs.Dnsmasq):
+    upstream = RECURSIVE
+
+
+class Resolved(Resolver, programs.Resolved):
+    upstream = RECURSIVE
+
+
+RESOLVERS: dict[str, type[Resolver]] = {
+    "unbound": Unbound, "bind": Named, "knot-resolver": KnotResolver, "powerdns": PowerDns, "dnsmasq": Dnsmasq, "systemd-resolved": Resolved,
+}
 # For cases that ask other questions first: query minimisation and the use of NSEC from the cache are as Debian has them.
 CACHING: dict[type[Resolver], type[Resolver]] = {
     Unbound: CachingUnbound, Named: CachingNamed, KnotResolver: CachingKnotResolver, PowerDns: CachingPowerDns,
 }
+
+
+def left_out(kind: type[Resolver], cases: list[Case]) -> dict[str, Said]:
+    """Cases that a validator is not asked: a forwarder hears no referrals, which resolvers follow."""
+    if not issubclass(kind, programs.Forwarder):
+        return {}
+    return {it["id"]: Said("not asked", "", "a referral") for it in cases if is_referral(bytes.fromhex(it["answer"]))}
+
+
+def is_referral(answer: bytes) -> bool:
+    return not answer[2] & 4 and answer[6:8] == b"\0\0"
 
 
 def rounds(cases: list[Case]) -> list[tuple[int, list[Case]]]:
@@ -160,7 +182,7 @@ async def ask_all(
     kind: type[Resolver], folder: pathlib.Path, moment: int, served: list[Case], cases: list[Case], width: int
 ) -> dict[str, Said]:
     """One start of the resolver: it is asked some of the cases that are served."""
-    kind = CACHING[kind] if "before" in served[0] else kind
+    kind = CACHING.get(kind, kind) if "before" in served[0] else kind
     folder.mkdir()
     os.chmod(folder, 0o777)
     told: dict[str, Said] = {}

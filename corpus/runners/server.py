@@ -20,7 +20,9 @@ from .outcome import Case
 ROOT, CASES, BELOW, VALIDATOR = "198.51.100.1", "198.51.100.3", "198.51.100.4", "198.51.100.21"
 # Where the zones of the group `servers` say that their servers are: validators ask there, once they have seen such an answer.
 THEIRS = ["192.0.2.1", "192.0.2.2"]
-ADDRESSES = [ROOT, CASES, BELOW, *THEIRS]
+# A forwarder asks here: the root's answers and those of the zones, as a resolver gives them that does not validate.
+RECURSIVE = "198.51.100.5"
+ADDRESSES = [ROOT, CASES, BELOW, RECURSIVE, *THEIRS]
 REFUSED, TRUNCATED, LIMIT, OPT = 5, 0x0200, 1232, 41
 SERVER = wire.name_of("server.root")
 ROOT_KEY = key("C root")
@@ -55,6 +57,11 @@ class Root(Zone):
             if case["ds"]:
                 self.sets[apex][DS] = tuple(map(bytes.fromhex, case["ds"]))
         self.made: dict[tuple[Name, int], bytes] = {}
+
+    def has(self, name: Name, rtype: int) -> bool:
+        """Whether the answer is the root's own, and no zone's below it."""
+        cut = self.cut_above(name)
+        return cut is None or (wire.lower(cut) == wire.lower(name) and rtype == DS)
 
     def answer(self, name: Name, rtype: int) -> bytes:
         at = wire.lower(name), rtype
@@ -158,7 +165,11 @@ class Server:
             return self.root.answer(question.name, question.rtype)
         if self.address == BELOW:
             return self.zones.answer_below(question.name, question.rtype)
-        return self.zones.answer(question.name, question.rtype)
+        found = self.zones.answer(question.name, question.rtype)
+        if self.address != RECURSIVE:
+            return found
+        found = self.root.answer(question.name, question.rtype) if found is None and self.root.has(question.name, question.rtype) else found
+        return found and found[:2] + bytes([found[2] & ~4, found[3] | 0x80]) + found[4:]
 
     def answered(self, octets: bytes, limit: int | None = None) -> bytes:
         question = Question(octets)

@@ -10,11 +10,11 @@ from typing import Any
 from .differences import REASONS, Reason
 from .outcome import SAID, TOP, Case, Said, groups, mark, verdict
 
-ORDER = ["zermuita", "unbound", "bind", "ldns", "knot-resolver", "powerdns", "dnspython"]
+ORDER = ["zermuita", "unbound", "bind", "ldns", "knot-resolver", "powerdns", "dnspython", "dnsmasq", "systemd-resolved"]
 BEGIN, END = "<!-- written by corpus/run table: begin -->\n", "<!-- written by corpus/run table: end -->\n"
 README = TOP / "README.md"
 DIFFERENCES = SAID / "differences.tsv"
-WORDS = {"accepts": "accepted", "refuses": "refused", "differs": "otherwise"}
+MARKS = {"accepts": "+", "refuses": "-", "differs": "~"}
 
 
 def kept() -> dict[str, dict[str, Any]]:
@@ -32,9 +32,8 @@ def cell(of: dict[str, str]) -> str:
     counts = collections.Counter(of.values())
     asked = sum(counts.values()) - counts["none"]
     if not asked:
-        return "not asked"
-    rest = [f"{counts[it]} {word}" for it, word in WORDS.items() if counts[it]]
-    return f"{counts['agrees']}/{asked}" + (": " + ", ".join(rest) if rest else "")
+        return "none"
+    return f"{counts['agrees']}/{asked}" + "".join(f" {mark}{counts[it]}" for it, mark in MARKS.items() if counts[it])
 
 
 def of_lines(head: list[str], rows: list[list[str]]) -> str:
@@ -70,7 +69,7 @@ def differences(all_cases: dict[str, list[Case]], told: dict[str, dict[str, Any]
             of_cases = verdicts(cases, of["said"])
             for case in cases:
                 kind = of_cases[case["id"]]
-                if kind in WORDS:
+                if kind in MARKS:
                     reason = reason_of(validator, kind, case)
                     if reason is None:
                         unknown.append(f"{validator} {kind} {case['id']}: {' '.join(of['said'][case['id']][:3])}: {case['tries']}")
@@ -100,7 +99,7 @@ def spans(ids: list[str]) -> str:
 
 def write() -> int:
     told, all_cases = kept(), groups([])
-    versions = of_lines(["validator", "version", "date of the last run, of all groups or of some"], [[name, of["version"], of["date"]] for name, of in told.items()])
+    versions = of_lines(["validator", "version", "last run"], [[name, of["version"], of["date"]] for name, of in told.items()])
     rows, unknown = differences(all_cases, told)
     DIFFERENCES.write_text(rows)
     text = f"{BEGIN}\n{versions}\n{by_group(all_cases, told)}\n{END}"
