@@ -38,7 +38,6 @@ SERVER = '''
             if message is None:
                 return query[:2] + b"\\x80\\x05\\0\\1" + bytes(6) + question
             _name, behind = name_at(message, 12)
-            # Pointers lead into the question's name, which a referral's reader has anew: it is sent uncompressed there.
             whole = query[:2] + message[2:12] + question + message[behind + 4 :]
             if limit and len(whole) > limit:
                 return query[:2] + bytes([message[2] | 2, message[3]]) + b"\\0\\1" + bytes(6) + question
@@ -83,7 +82,9 @@ BIND_TEST = '''\
 {head}
 # The case is judged at {date} UTC: start named by a clock of that time (faketime) where signatures do not hold today.
 
+import dns.flags
 import dns.message
+import dns.rcode
 
 import isctest
 

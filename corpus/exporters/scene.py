@@ -65,7 +65,8 @@ class Scene:
         above = [it for it in wire.parents(self.apex) if it and it != self.apex]
         servers = [wire.name_of(it) for it in ("root", "server.root", "cases.root")]
         found += [Message(it, rtype, root.answer(it, rtype)) for it in [*above, *servers] for rtype in (NS, A, DS, wire.AAAA)]
-        return [*found, Message(self.apex, A, root.answer(self.apex, A), True)]
+        # It answers for longer names, too, so that no pointer may lead into its question.
+        return [*found, Message(self.apex, A, root.made_answer(self.apex, A, False), True)]
 
     def of_zone(self) -> list[Message]:
         keys = Message(self.apex, DNSKEY, with_glue(bytes.fromhex(self.case["dnskey"])))

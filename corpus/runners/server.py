@@ -69,11 +69,11 @@ class Root(Zone):
             self.made[at] = self.made_answer(name, rtype)
         return self.made[at]
 
-    def made_answer(self, name: Name, rtype: int) -> bytes:
+    def made_answer(self, name: Name, rtype: int, compresses: bool = True) -> bytes:
         shown = honest(self, name, rtype)
         glue = [Rrset(wire.name_of("cases.root"), A, 3600, (octets_of(self.below),))] if not shown.is_authoritative else []
         flags = wire.QR | shown.rcode | (wire.AA if shown.is_authoritative else 0)
-        return wire.message(name, rtype, [shown.answer, shown.authority, glue], flags)
+        return wire.message(name, rtype, [shown.answer, shown.authority, glue], flags, compresses)
 
 
 class Zones:
