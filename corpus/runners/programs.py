@@ -392,3 +392,38 @@ LLMNR=no
 MulticastDNS=no
 ReadEtcHosts=no
 {self.added()}"""
+
+
+class Forward(Resolver):
+    """This repository's forwarder, which asks the zones' own servers: the program that ZERMUITA names, or the one that is built."""
+
+    NAME, FILE = "zermuita forward", "forward.toml"
+
+    @classmethod
+    def program(cls) -> str:
+        top = pathlib.Path(__file__).resolve().parents[2]
+        built = [top / f"rust/target/{it}/zermuita" for it in ("release", "debug")]
+        found = os.environ.get("ZERMUITA") or next((str(it) for it in built if it.exists()), "")
+        if not found:
+            raise SystemExit("no forwarder: cargo build -p zermuita-programs in rust, or its path in ZERMUITA")
+        return found
+
+    def command(self) -> list[str]:
+        return [self.program(), "forward", "run", "--config", self.FILE]
+
+    def configuration(self) -> str:
+        tag, algorithm, kind = struct.unpack(">HBB", self.root.ds[:4])
+        self.write("root.ds", f". IN DS {tag} {algorithm} {kind} {self.root.ds[4:].hex()}\n")
+        return f"""
+listen = ["{self.address}:53"]
+root-hints = "{self.folder}/hints"
+trust-anchor = "{self.folder}/root.ds"
+{self.added()}
+[cache]
+failure-ttl = 0
+"""
+
+    @classmethod
+    def version(cls) -> str:
+        ran = subprocess.run([cls.program(), "--version"], capture_output=True, text=True, check=True)
+        return f"{cls.NAME} {ran.stdout.split()[-1]}"

@@ -105,6 +105,11 @@ class PowerDns(Resolver, programs.PowerDns):
     ]
 
 
+class Forward(Resolver, programs.Forward):
+    # Nearly all cases have this limit.
+    more = ["nsec3-iterations = 50"]
+
+
 class CachingUnbound(Unbound):
     more = ['local-zone: "test." nodefault', "ede: yes", "trust-anchor-signaling: no", "root-key-sentinel: no"]
 
@@ -131,10 +136,11 @@ class Resolved(Resolver, programs.Resolved):
 
 RESOLVERS: dict[str, type[Resolver]] = {
     "unbound": Unbound, "bind": Named, "knot-resolver": KnotResolver, "powerdns": PowerDns, "dnsmasq": Dnsmasq, "systemd-resolved": Resolved,
+    "forward": Forward,
 }
 # For cases that ask other questions first: query minimisation and the use of NSEC from the cache are as Debian has them.
 CACHING: dict[type[Resolver], type[Resolver]] = {
-    Unbound: CachingUnbound, Named: CachingNamed, KnotResolver: CachingKnotResolver, PowerDns: CachingPowerDns,
+    Unbound: CachingUnbound, Named: CachingNamed, KnotResolver: CachingKnotResolver, PowerDns: CachingPowerDns, Forward: Forward,
 }
 
 
