@@ -16,6 +16,7 @@ pub struct Draft {
     rcode: Rcode,
     is_secure: bool,
     ttl: u32,
+    until: u64,
 }
 
 /// A record without pointers, under a TTL that is set in the end.
@@ -56,19 +57,21 @@ pub fn redirected(name: &Name, owner: &Name, target: &Name) -> Option<Name> {
 
 impl Draft {
     pub fn new() -> Self {
-        Draft { answer: Vec::new(), authority: Vec::new(), rcode: Rcode::NOERROR, is_secure: true, ttl: u32::MAX }
+        Draft { answer: Vec::new(), authority: Vec::new(), rcode: Rcode::NOERROR, is_secure: true, ttl: u32::MAX, until: u64::MAX }
     }
 
     /// Takes over for how long something lasts whose oldest message is here for some seconds.
     pub fn lasts(&mut self, ttl: u32, until: u64, age: u32) {
         let left = u32::try_from(until.saturating_sub(crate::out::now())).unwrap_or(u32::MAX);
         self.ttl = self.ttl.min(ttl.saturating_sub(age)).min(left);
+        self.until = self.until.min(until);
     }
 
-    /// Adds what a way proves of a question: records, an alias, or a denial.
-    pub fn secure<S: Signatures + ?Sized>(&mut self, way: &Way<'_>, signatures: &S, question: &Question) -> Option<()> {
+    /// Adds what a way proves of a question: records, an alias, or a denial. Its oldest message is here for some seconds.
+    pub fn secure<S: Signatures + ?Sized>(&mut self, way: &Way<'_>, signatures: &S, question: &Question, age: u32) -> Option<()> {
         let (step, judged) = way.answer_to(question)?;
         let judgement = judged.judgement.as_ref().ok()?;
+        self.lasts(judgement.ttl, judgement.until, age);
         let message = Message::read(step.message).ok()?;
         let verified: Vec<_> = message.records().filter(|it| judgement.places.contains(&it.place)).collect();
         let of = |owner: &Name, rtype: Rtype| {
@@ -136,7 +139,10 @@ impl Draft {
     }
 
     /// Adds that a name lacks a type that is not judged, where its NSEC record says so (docs/use/CALLING.md).
-    pub fn lacking<S: Signatures + ?Sized>(&mut self, way: &Way<'_>, signatures: &S, soa: &Question, rtype: Rtype) -> Option<()> {
+    pub fn lacking<S>(&mut self, way: &Way<'_>, signatures: &S, soa: &Question, rtype: Rtype, age: u32) -> Option<()>
+    where
+        S: Signatures + ?Sized,
+    {
         let (step, judged) = way.answer_to(soa)?;
         let places = &judged.judgement.as_ref().ok()?.places;
         let message = Message::read(step.message).ok()?;
@@ -146,7 +152,7 @@ impl Draft {
         if types.contains(&rtype) || matches!(rtype, Rtype::RRSIG | Rtype::NSEC) {
             return None;
         }
-        self.secure(way, signatures, soa)
+        self.secure(way, signatures, soa, age)
     }
 
     /// Adds what an unsigned answer has: records, the first alias, whose target is given, or that there is nothing.
@@ -216,6 +222,7 @@ impl Draft {
             extended: None,
             made: Instant::now(),
             ttl,
+            until: self.until,
         }
     }
 }

@@ -38,6 +38,8 @@ pub struct Resolved {
     /// Since when it is kept, and for how many seconds.
     pub made: Instant,
     pub ttl: u32,
+    /// The last second, since 1970, in which it stands: the clock may jump.
+    pub until: u64,
 }
 
 impl Resolved {
@@ -51,6 +53,7 @@ impl Resolved {
             extended: extended.map(|it| (it, why)),
             made: Instant::now(),
             ttl,
+            until: u64::MAX,
         }
     }
 }

@@ -2,9 +2,10 @@
 
 use std::collections::HashMap;
 use std::net::SocketAddr;
-use std::sync::Arc;
+use std::sync::{Arc, Mutex, PoisonError};
 use std::time::Duration;
 
+use tokio::sync::OnceCell;
 use zermuita::{End, ExtendedError, Name, Outcome, Question, Refusal, Rtype, Wanted};
 
 use super::bounded::Bounded;
@@ -42,7 +43,11 @@ pub struct Resolver {
     pub fetcher: Fetcher,
     pub servers: Bounded<Name, Arc<[SocketAddr]>>,
     answers: Bounded<Question, Arc<Resolved>>,
+    running: Mutex<Running>,
 }
+
+/// Questions that are worked on, and what comes of each.
+type Running = HashMap<Question, Arc<OnceCell<Arc<Resolved>>>>;
 
 /// Whether a name goes on, as an alias that is insecure leads there.
 enum Next {
@@ -74,6 +79,7 @@ impl Resolver {
             fetcher: Fetcher::new(&ready, metrics.clone()),
             servers: Bounded::new(ready.config.cache.messages / 4),
             answers: Bounded::new(ready.config.cache.answers),
+            running: Mutex::default(),
             metrics,
             ready,
         }
@@ -81,11 +87,28 @@ impl Resolver {
 
     /// What is said of a client's question, which is kept.
     pub async fn answer(&self, question: &Question) -> Arc<Resolved> {
-        if let Some(kept) = self.answers.get(question) {
+        if let Some(kept) = self.answers.get(question).filter(|it| crate::out::now() <= it.until) {
             self.metrics.add(Count::Kept, 1);
             return kept;
         }
         self.metrics.add(Count::Missed, 1);
+        // Clients that ask the same meanwhile wait for one answer.
+        let cell = self.with_running(|it| it.entry(question.clone()).or_default().clone());
+        let resolved = cell.get_or_init(|| self.resolved_anew(question)).await.clone();
+        self.with_running(|it| {
+            if it.get(question).map_or(false, |of| Arc::ptr_eq(of, &cell)) {
+                it.remove(question);
+            }
+        });
+        resolved
+    }
+
+    fn with_running<T>(&self, work: impl FnOnce(&mut Running) -> T) -> T {
+        work(&mut self.running.lock().unwrap_or_else(PoisonError::into_inner))
+    }
+
+    /// Resolves, and keeps what is said.
+    async fn resolved_anew(&self, question: &Question) -> Arc<Resolved> {
         let resolved = Arc::new(self.resolved(question, &mut Budget::default()).await);
         let end = resolved.made + Duration::from_secs(resolved.ttl.min(self.ready.config.cache.max_ttl).into());
         self.answers.insert(question.clone(), resolved.clone(), end);
@@ -160,7 +183,7 @@ impl Resolver {
         let way = Way::without_reasons(&walked.walk, &self.verified);
         let mut name = &question.name;
         for next in walked.end.aliases.iter().take_while(|_| end.is_some()) {
-            draft.secure(&way, &self.verified, &Question::new(name.clone(), question.rtype)).ok_or_else(unsaid)?;
+            draft.secure(&way, &self.verified, &Question::new(name.clone(), question.rtype), walked.age()).ok_or_else(unsaid)?;
             name = next;
             if Some(next) == end {
                 break;
@@ -173,7 +196,7 @@ impl Resolver {
     fn add_secure(&self, draft: &mut Draft, walked: &Walked, question: &Question) -> Result<(), NotResolved> {
         let way = Way::without_reasons(&walked.walk, &self.verified);
         for name in std::iter::once(&question.name).chain(&walked.end.aliases) {
-            draft.secure(&way, &self.verified, &Question::new(name.clone(), question.rtype)).ok_or_else(unsaid)?;
+            draft.secure(&way, &self.verified, &Question::new(name.clone(), question.rtype), walked.age()).ok_or_else(unsaid)?;
         }
         draft.lasts(walked.end.ttl, walked.end.until, walked.age());
         Ok(())
@@ -200,17 +223,17 @@ impl Resolver {
                 let told = if question.rtype == Rtype::DNSKEY {
                     draft.keys(&way, &question.name)
                 } else {
-                    draft.secure(&way, &self.verified, question)
+                    draft.secure(&way, &self.verified, question, walked.age())
                 };
                 told.ok_or_else(unsaid)?;
             }
             Outcome::Secure { says: zermuita::Secure::Nxdomain, .. } if walked.end.aliases.is_empty() => {
                 let way = Way::without_reasons(&walked.walk, &self.verified);
-                draft.secure(&way, &self.verified, &soa).ok_or_else(unsaid)?;
+                draft.secure(&way, &self.verified, &soa, walked.age()).ok_or_else(unsaid)?;
             }
             Outcome::Secure { says: zermuita::Secure::Nodata, .. } if walked.end.aliases.is_empty() => {
                 let way = Way::without_reasons(&walked.walk, &self.verified);
-                draft.lacking(&way, &self.verified, &soa, question.rtype).ok_or_else(unsaid)?;
+                draft.lacking(&way, &self.verified, &soa, question.rtype, walked.age()).ok_or_else(unsaid)?;
             }
             Outcome::Insecure { .. } | Outcome::OptOut { .. } if walked.end.aliases.is_empty() => {
                 draft.lasts(walked.end.ttl, walked.end.until, walked.age());

@@ -263,6 +263,7 @@ mod tests {
             extended: None,
             made: Instant::now(),
             ttl: 60,
+            until: u64::MAX,
         };
         let query = heard(&octets_of(&question("www.example", Rtype::A)));
         let octets = query.answered(&resolved, query.room());

@@ -11,6 +11,7 @@ use tokio::time::timeout;
 use zermuita::message::{Message, Rcode, Section};
 use zermuita::Rtype;
 
+use super::fetch::Fetched;
 use super::metrics::{Count, Metrics};
 use super::resolved::{Resolved, Rr, State};
 use super::resolver::Resolver;
@@ -50,15 +51,15 @@ impl Transport {
 }
 
 /// What a resolver sent, as a client gets it that checks by itself: without AD.
-fn unchecked(octets: &[u8]) -> Option<Resolved> {
-    let message = Message::read(octets).ok()?;
+fn unchecked(fetched: &Fetched) -> Option<Resolved> {
+    let message = Message::read(&fetched.octets).ok()?;
     let of = |section| -> Vec<Rr> {
         let records = message.records().filter(|it| it.section == section && it.class == 1 && it.rtype != Rtype::OPT);
         records.filter_map(|it| Some(Rr { owner: it.owner.clone(), rtype: it.rtype, ttl: it.ttl, data: it.expanded(&message)? })).collect()
     };
     let (answer, authority) = (of(Section::Answer), of(Section::Authority));
-    let made = tokio::time::Instant::now();
-    Some(Resolved { state: State::Insecure, rcode: message.rcode(), answer, authority, extended: None, made, ttl: 0 })
+    let (rcode, made) = (message.rcode(), fetched.arrived);
+    Some(Resolved { state: State::Insecure, rcode, answer, authority, extended: None, made, ttl: 0, until: u64::MAX })
 }
 
 impl Shared {
@@ -83,7 +84,7 @@ impl Shared {
     async fn resolved(&self, query: &Query) -> Arc<Resolved> {
         let resolver = self.resolver();
         if query.is_unchecked() {
-            if let Some(resolved) = resolver.unchecked(&query.question).await.and_then(|it| unchecked(&it.octets)) {
+            if let Some(resolved) = resolver.unchecked(&query.question).await.and_then(|it| unchecked(&it)) {
                 return Arc::new(resolved);
             }
         }
