@@ -573,20 +573,49 @@ static void take_files(struct served *served, const struct options *options) {
     served->step = (uint32_t)options->step;
 }
 
-/* Whether the keys of the folder make all signatures of the answers for SOA and DNSKEY, and thus of all others. */
-static bool can_sign(struct served *served) {
-    static const uint16_t types[] = {TYPE_SOA, TYPE_DNSKEY};
-    struct name apex;
-    bool can = read_name(served->apex, &apex);
-    begin_answers(served);
-    for (size_t i = 0; can && served->may_answer && i < sizeof types / sizeof *types; i++) {
-        uint8_t query[512];
-        size_t len = write_query(&apex, types[i], query);
-        size_t count = answer_query(served, query + 2, len - 2, true);
-        can = count >= 12 && (served->out[3] & 15) == 0;
+/* Whether the zone publishes a key. `set` has its DNSKEY records. */
+static bool is_published(struct zermuita_octets set, unsigned algorithm, struct zermuita_octets key) {
+    struct zermuita_octets rdata;
+    while (zermuita_next_record(&set, &rdata)) {
+        if (rdata.len == 4 + key.len && rdata.data[3] == algorithm && memcmp(rdata.data + 4, key.data, key.len) == 0) {
+            return true;
+        }
     }
-    end_turn(served);
-    return can;
+    return false;
+}
+
+/* Whether a line adds a key of this server that the zone still publishes and that the folder lacks. */
+static bool lacks_key(struct served *served, struct zermuita_octets set, const char *line) {
+    char kind[16], name[KEY_NAME], text[4 * (KEY_ROOM / 3) + 1];
+    uint8_t octets[KEY_ROOM];
+    unsigned algorithm;
+    if (sscanf(line, "key %15s %127s %u %1364s", kind, name, &algorithm, text) != 4 || strcmp(kind, "include") == 0) {
+        return false;
+    }
+    size_t digits = strlen(text), padding = digits - strcspn(text, "=");
+    int len = EVP_DecodeBlock(octets, (const unsigned char *)text, (int)digits);
+    struct zermuita_octets key = {octets, len > (int)padding ? (size_t)len - padding : 0};
+    if (!is_published(set, algorithm, key) || find_key(&served->keys, (uint8_t)algorithm, key) != NULL) {
+        return false;
+    }
+    LOG("failure", as_text("what", "start"), as_text("why", "the private key of a key that the zone publishes is not in the folder"),
+        as_text("folder", served->keys.folder), as_text("key", name));
+    return true;
+}
+
+/* Whether the folder has the private keys of all keys that the zone publishes, except those of other owners. */
+static bool has_private_keys(struct served *served) {
+    struct zermuita_zone_report report = {.size = sizeof report};
+    uint32_t reply = zermuita_zone_records(&served->zone, TYPE_DNSKEY, served->out, OUT_ROOM, &report);
+    char *lines = reply == ZERMUITA_ZONE_DONE ? (char *)read_journal(&served->journal, 0, served->journal.len) : NULL;
+    struct zermuita_octets set = {served->out, report.len};
+    bool has = lines != NULL;
+    for (char *line = lines, *end; has && (end = strchr(line, '\n')) != NULL; line = end + 1) {
+        *end = 0;
+        has = !lacks_key(served, set, line);
+    }
+    free(lines);
+    return has;
 }
 
 /* Opens the zone of a folder, whose journal begins with a master file if it is new. */
@@ -623,16 +652,14 @@ static void open_folder(struct served *served, const struct options *options) {
         }
         exit(EXIT_FAILURE);
     }
+    if (!has_private_keys(served)) {
+        exit(EXIT_FAILURE);
+    }
     /* Where no moment is noted, that of the start counts as one of an answer: a folder may have come here without its file. */
     if (served->answered == 0 && !write_note(served, line_moment(served))) {
         fail("answered");
     }
     end_turn(served);
-    if (!can_sign(served)) {
-        LOG("failure", as_text("what", "start"), as_text("why", "the private key of a key that signs the zone is not in the folder"),
-            as_text("folder", served->keys.folder));
-        exit(EXIT_FAILURE);
-    }
 }
 
 /* Says that the server answers, to its log and on standard output. */
