@@ -114,7 +114,7 @@ pub fn messages(octets: &[u8]) -> Result<Vec<Vec<u8>>, FormError> {
         at += 16 + len;
         match packet_of(frame, link).and_then(payload_of) {
             Some((UDP, datagram)) if number16(datagram, 0) == Some(PORT) => messages.extend(datagram.get(8..).map(<[u8]>::to_vec)),
-            Some((TCP, segment)) => drop(keep(&mut streams, segment)),
+            Some((TCP, segment)) => keep(&mut streams, segment).unwrap_or(()),
             None if packet_of(frame, link).is_none() => {
                 return Err(FormError::Pcap { packet, reason: "its link type is unknown: Ethernet, raw IP and Linux' cooked are known" });
             }

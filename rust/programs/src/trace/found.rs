@@ -38,9 +38,12 @@ fn hosts(octets: &[u8], zone: &Name) -> Vec<Server> {
     names.iter().filter(|it| !it.is_root()).filter_map(|it| it.to_string().parse().ok()).collect()
 }
 
+/// How a zone's servers are found in a message.
+type Finding = fn(&[u8], &Name) -> Vec<Server>;
+
 /// The servers of a zone: those whose addresses or else names a message has; or those that gave its DS records; of the root its own.
 pub fn servers(traced: &Traced, zone: &Name, root: &[IpAddr]) -> Vec<Server> {
-    let ways: [fn(&[u8], &Name) -> Vec<Server>; 2] = [addresses, hosts];
+    let ways: [Finding; 2] = [addresses, hosts];
     for way in ways {
         let found = traced.walk.messages().map(|(_, octets)| way(octets, zone)).find(|it| !it.is_empty());
         if let Some(mut found) = found {

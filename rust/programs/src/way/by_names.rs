@@ -83,9 +83,12 @@ fn at_gap(facts: &Facts<'_>, link: &Link) -> Option<Vec<String>> {
     Some(told)
 }
 
+/// What a record tells of the question, if it tells something.
+type Telling = fn(&Facts<'_>, &Link) -> Option<Vec<String>>;
+
 /// Tells what NSEC records say of the question.
 pub fn tell(facts: &Facts<'_>, because: &mut Vec<String>) {
-    let ways: [fn(&Facts<'_>, &Link) -> Option<Vec<String>>; 3] = [at_owner, below_cut, at_gap];
+    let ways: [Telling; 3] = [at_owner, below_cut, at_gap];
     let told = ways.iter().find_map(|tell| facts.links.iter().find_map(|link| tell(facts, link)));
     because.extend(told.into_iter().flatten());
 }
