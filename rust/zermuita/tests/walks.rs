@@ -1,4 +1,4 @@
-//! Walks over messages of named, NSD and Knot, which crates/test_walk has with what the tree of zones says of each question.
+//! Walks over messages of named, NSD and Knot, which tests/lines/walk has with what the tree of zones says of each question.
 #![cfg(feature = "openssl")]
 
 use std::collections::HashMap;
@@ -31,7 +31,7 @@ struct Tree {
 }
 
 fn read(file: &str) -> String {
-    std::fs::read_to_string(format!("{}/../../crates/test_walk/{file}", env!("CARGO_MANIFEST_DIR"))).unwrap()
+    std::fs::read_to_string(format!("{}/../../tests/lines/walk/{file}", env!("CARGO_MANIFEST_DIR"))).unwrap()
 }
 
 fn octets(hex: &str) -> Vec<u8> {
