@@ -1,9 +1,10 @@
 -- What a server answers to a query.
-use Rattle.std.specs.Prelude.{◌≡◌, ◌≢◌, ◌⊎◌, ℕ, ◌<◌, Bool, true, false, ◌&&◌, ◌==◌, List, length, Option}
+use Rattle.std.specs.Prelude.{◌≡◌, ◌≢◌, ◌⊎◌, ◌↔◌, ℕ, ◌<◌, Bool, true, false, ◌&&◌, ◌||◌, ◌==◌, List, length, Option}
 use Rattle.definitions.specs.Name.{Name, same}
 use Rattle.messages.specs.HandedRr.{HandedRr}
 use Rattle.messages.specs.Message.{Asked}
 use Rattle.answer_publisher_keys.specs.Bindings.{ZoneKeys}
+use Rattle.answer_publisher.specs.Aliases.{is_answered}
 use Rattle.answer_publisher.specs.Inputs.{Input, answer_inputs, keys_inputs}
 use Rattle.answer_publisher.specs.Replacing.{noted}
 use Rattle.answer_publisher.specs.World.{AnswersKeysQuestion, AnswersQuestion, RefusesKeysQuestion, RefusesQuestion, SpellsAnswer, SpellsKeys, World}
@@ -36,6 +37,14 @@ serving world keys table at limit size addresses =
 -- a question for the DNSKEY RRset of the apex
 abbrev pub is_for_keys : Name → Asked → Bool
 is_for_keys apex asked = (asked.rtype == 48) && (asked.class == 1) && same asked.name apex
+
+-- a question that is answered: for the keys of the zone, or one that its publisher answers
+abbrev pub may_answer : Name → Asked → Bool → Bool
+may_answer apex asked keys = keys || is_answered apex asked
+
+-- a fault says that the question is not allowed exactly where that is so
+abbrev pub TellsAllowed : Name → Asked → Bool → AnswerFault → Type 0
+TellsAllowed apex asked keys f = (f ≡ QuestionNotAllowed) ↔ (may_answer apex asked keys ≡ false)
 
 -- the same world, in which signatures have no octets
 abbrev pub unsigned : World → World
@@ -73,6 +82,7 @@ rcode_of _ = 2
 
 -- the response of the message, with the glue of a referral
 pub record IsAnswered (s : Serving) (q : Queried) (old new : Option ℕ) (octets : List ℕ) : Type 0 where
+  pub allowed : may_answer s.world.zone.apex q.asked (is_for_keys s.world.zone.apex q.asked) ≡ true
   pub m : List ℕ
   pub is_message : IsMessage s q.asked (is_for_keys s.world.zone.apex q.asked) (is_dnssec_ok q) m
   pub answers : AnswersGlued s.limit s.size q s.addresses m octets
@@ -82,6 +92,7 @@ pub record IsAnswered (s : Serving) (q : Queried) (old new : Option ℕ) (octets
 pub record IsFailed (s : Serving) (q : Queried) (old new : Option ℕ) (octets : List ℕ) : Type 0 where
   pub f : AnswerFault
   pub is_fault : IsFault s q.asked (is_for_keys s.world.zone.apex q.asked) (is_dnssec_ok q) f
+  pub tells_allowed : TellsAllowed s.world.zone.apex q.asked (is_for_keys s.world.zone.apex q.asked) f
   pub enough_memory : f ≢ Memory
   pub octets_are : octets ≡ error_response s.size q (rcode_of f)
   pub unchanged : new ≡ old
@@ -93,3 +104,4 @@ AnswersHeld s q old new Nothing = ⊥
 AnswersHeld s q old new (Reply v) = IsAnswered s q old new v.items ⊎ IsFailed s q old new v.items
 AnswersHeld s q old new (Sign v) =
     (is_dnssec_ok q ≡ true) × (v.items ≡ missing s.table (inputs_for s q.asked (is_for_keys s.world.zone.apex q.asked))) × (0 < length v.items) × (new ≡ old)
+    × (may_answer s.world.zone.apex q.asked (is_for_keys s.world.zone.apex q.asked) ≡ true)

@@ -4,6 +4,7 @@ use Rattle.definitions.specs.Name.{Name}
 use Rattle.definitions.specs.ZoneChain.{Mode}
 use Rattle.messages.specs.HandedRr.{HandedRr, among}
 use Rattle.messages.specs.Message.{Asked}
+use Rattle.answer_publisher.specs.Aliases.{is_answered}
 use Rattle.answer_publisher.specs.Replacing.{noted}
 use Rattle.answer_publisher.specs.declared.fault.AnswerFault.{AnswerFault}
 use Rattle.answer_publisher.specs.declared.fault.AnswerFault.TheVariants.{Memory}
@@ -16,7 +17,7 @@ use Rattle.server_signatures.specs.declared.answering.Signed.TheVariants.{Messag
 use Rattle.server_answers.specs.Glued.{AnswersGlued}
 use Rattle.server_answers.specs.MadeOf.{IsMadeOf}
 use Rattle.server_answers.specs.Parameters.{is_for_parameters}
-use Rattle.server_answers.specs.Responding.{IsFault, IsMessage, Serving, inputs_for, is_for_keys, rcode_of}
+use Rattle.server_answers.specs.Responding.{IsFault, IsMessage, Serving, TellsAllowed, inputs_for, is_for_keys, rcode_of}
 use Rattle.server_answers.specs.declared.requests.Response.{Response}
 use Rattle.server_answers.specs.declared.requests.Response.TheVariants.{Nothing, Reply, Sign}
 
@@ -54,6 +55,7 @@ IsMadeSynthesized limit size q addresses made response = MatchBool (is_kept_back
 
 -- a message for the reserved type, and whether it is not the answer
 pub record IsMadeReserved (s : Serving) (q : Queried) (old new : Option ℕ) (kept_back : Bool) : Type 0 where
+  pub allowed : is_answered s.world.zone.apex (reserved q.asked) ≡ true
   pub m : List ℕ
   pub is_message : IsMessage s (reserved q.asked) false (is_dnssec_ok q) m
   pub kept_back_is : keeps_back q m ≡ kept_back
@@ -71,6 +73,7 @@ IsRefused s q old new octets = IsMadeReserved s q old new true × (octets ≡ er
 pub record IsUnmade (s : Serving) (q : Queried) (old new : Option ℕ) (octets : List ℕ) : Type 0 where
   pub f : AnswerFault
   pub is_fault : IsFault s (reserved q.asked) false (is_dnssec_ok q) f
+  pub tells_allowed : TellsAllowed s.world.zone.apex (reserved q.asked) false f
   pub enough_memory : f ≢ Memory
   pub octets_are : octets ≡ error_response s.size q (rcode_of f)
   pub unchanged : new ≡ old
@@ -79,4 +82,6 @@ pub record IsUnmade (s : Serving) (q : Queried) (old new : Option ℕ) (octets :
 abbrev pub AnswersSynthesized : Serving → Queried → Option ℕ → Option ℕ → Response → Type 0
 AnswersSynthesized s q old new Nothing = ⊥
 AnswersSynthesized s q old new (Reply v) = IsDenied s q old new v.items ⊎ (IsRefused s q old new v.items ⊎ IsUnmade s q old new v.items)
-AnswersSynthesized s q old new (Sign v) = (is_dnssec_ok q ≡ true) × (v.items ≡ missing s.table (inputs_for s (reserved q.asked) false)) × (0 < length v.items) × (new ≡ old)
+AnswersSynthesized s q old new (Sign v) =
+    (is_dnssec_ok q ≡ true) × (v.items ≡ missing s.table (inputs_for s (reserved q.asked) false)) × (0 < length v.items) × (new ≡ old)
+    × (is_answered s.world.zone.apex (reserved q.asked) ≡ true)

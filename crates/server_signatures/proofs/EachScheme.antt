@@ -1,7 +1,7 @@
 -- What a publisher gives by a table holds under each scheme that signs as its entries say.
-use Rattle.std.proofs.Common.{◌≡◌, ◌∙◌, ℕ, ◌<◌, false, List, [], ◌∷◌, Some, None, Vec, ap, length, refl, sym}
+use Rattle.std.proofs.Common.{◌≡◌, ◌∙◌, ℕ, ◌<◌, Bool, false, List, [], ◌∷◌, Some, None, Vec, ap, length, refl, sym}
 use Rattle.std.specs.declared.alloc.Global.{Global}
-use Rattle.std.specs.Prelude.{◌≢◌, IsSome}
+use Rattle.std.specs.Prelude.{◌≢◌, ◌↔◌, Ok, IsErrOf, IsSome}
 use Rattle.std.proofs.lemmas.Bool.{false≢true}
 use Rattle.definitions.specs.Dnskey.{Dnskey}
 use Rattle.definitions.specs.Limits.{pointer_limit}
@@ -27,6 +27,10 @@ use Rattle.server_signatures.proofs.Signing.{apex_refusal_too, apex_too, gives_t
 -- a fault that is another one
 pub is_other : (f : AnswerFault) → is_sign_failed f ≡ false → f ≢ fault.SignFailed
 is_other f other e = false≢true (sym other ∙ ap is_sign_failed e)
+
+-- what is given is not refused, whatever it is
+pub given_too : {A B : Type 0} (x : A) (y : B) (f : AnswerFault) (answered : Bool) → (IsErrOf {T = A} (Ok x) f ↔ (answered ≡ false)) → IsErrOf {T = B} (Ok y) f ↔ (answered ≡ false)
+given_too x y f answered iff = ((λ e. cc), (λ none. let e = iff.1 none in cc))
 
 module _ (table : List Made) (w : World) (keys : ZoneKeys) (at : ℕ) where
   pub each_answer : (asked : Asked) (m : List ℕ) → AnswersQuestion (signed_by w (sign_by table) (verify_by table)) keys at asked m → SpellsAnswer (signed_by w (sign_by table) (verify_by table)) keys at asked m

@@ -1,5 +1,5 @@
 //! Answers by a table of signatures.
-ghost use Rattle.std.specs.Prelude.{◌≡◌, ◌<◌, false, IfErr, IfOk, IsErrOf, length};
+ghost use Rattle.std.specs.Prelude.{◌≡◌, ◌↔◌, ◌<◌, false, IfErr, IfOk, IsErrOf, length};
 ghost use Rattle.answer_publisher.specs.Aliases.{is_answered};
 ghost use Rattle.answer_publisher.specs.Inputs.{answer_inputs, keys_inputs};
 ghost use Rattle.answer_publisher.specs.World.{world_of};
@@ -49,7 +49,7 @@ pub fn answer_by_table<S: Scheme, H: Nsec3Hasher>(
         let w = world_of S.signature_of S.verifies S.digest_of H.hash_of p in
         IfErr result (RefusesEach table.now w p.keys now.now asked) }
     ensures allowed { let answered = is_answered publisher.old.zone.apex (asked_of question.now) in
-        IsErrOf result AnswerFault.QuestionNotAllowed → answered ≡ false }
+        IsErrOf result AnswerFault.QuestionNotAllowed ↔ (answered ≡ false) }
     ensures noted { let latest = latest_after result publisher.old.latest now.now in
         publisher.new ≡ record publisher.old { latest = latest } }
 {
@@ -82,7 +82,7 @@ fn missing_for<S: Scheme, H: Nsec3Hasher>(
         let w = world_of S.signature_of S.verifies S.digest_of H.hash_of p in
         IfErr result (RefusesEach table.now w p.keys now.now asked) }
     ensures allowed { let answered = is_answered publisher.now.zone.apex (asked_of question.now) in
-        IsErrOf result AnswerFault.QuestionNotAllowed → answered ≡ false }
+        IsErrOf result AnswerFault.QuestionNotAllowed ↔ (answered ≡ false) }
     ensures unnoted { latest_after result publisher.now.latest now.now ≡ publisher.now.latest }
 {
     match publisher.any_signing_inputs(question, now) {

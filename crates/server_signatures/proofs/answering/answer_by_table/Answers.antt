@@ -5,7 +5,10 @@ use Rattle.answer_publisher.specs.World.{world_of}
 use Rattle.messages.specs.Questions.{asked_of}
 use Rattle.server_signatures.specs.Outcomes.{AnswersEach, IsSigned}
 use Rattle.server_signatures.specs.Table.{missing}
-use Rattle.server_signatures.proofs.EachScheme.{each_answer, each_refusal, is_other}
+use Rattle.answer_publisher.specs.Aliases.{is_answered}
+use Rattle.answer_publisher.specs.declared.fault.AnswerFault.TheVariants as fault
+use Rattle.server_signatures.specs.declared.answering.Signed.TheVariants as signed
+use Rattle.server_signatures.proofs.EachScheme.{each_answer, each_refusal, given_too, is_other}
 use Rattle.server_signatures.proofs.Wanting.{answer_wants}
 use Rattle.server_signatures.proofs.answering.answer_by_table.Goals as goal
 
@@ -39,3 +42,8 @@ missing_for-requires g c =
     let world = world_of g.S.Scheme.signature_of g.S.Scheme.verifies g.S.Scheme.digest_of g.H.Nsec3Hasher.hash_of in
     let wants = answer_wants table (world p) p.keys at asked c.in-Err.fault (sym c.is_sign_failed.ensures ∙ c.if-is_sign_failed.true) c.in-Err.ensures.fault in
     subst (λ q. 0 < length (missing table (answer_inputs (world q) q.keys at asked))) (sym c.in-Err.ensures.refused) wants
+
+pub returns-in-Ok-clause-allowed : goal.returns-in-Ok-clause-allowed
+returns-in-Ok-clause-allowed g c =
+    let answered = is_answered c.args.publisher.now.zone.apex (asked_of c.args.question.now) in
+    given_too c.in-Ok.message (signed.Message c.in-Ok.message) fault.QuestionNotAllowed answered c.in-Ok.ensures.allowed

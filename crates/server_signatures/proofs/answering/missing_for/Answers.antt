@@ -3,7 +3,10 @@ use Rattle.answer_publisher.specs.Inputs.{Input}
 use Rattle.answer_publisher.specs.World.{world_of}
 use Rattle.messages.specs.Questions.{asked_of}
 use Rattle.server_signatures.specs.Table.{missing}
-use Rattle.server_signatures.proofs.EachScheme.{inputs_refused}
+use Rattle.answer_publisher.specs.Aliases.{is_answered}
+use Rattle.answer_publisher.specs.declared.fault.AnswerFault.TheVariants as fault
+use Rattle.server_signatures.specs.declared.answering.Signed.TheVariants as signed
+use Rattle.server_signatures.proofs.EachScheme.{given_too, inputs_refused}
 use Rattle.server_signatures.proofs.answering.missing_for.Goals as goal
 
 pub returns-in-Err-clause-fault : goal.returns-in-Err-clause-fault
@@ -16,3 +19,8 @@ pub returns-in-Ok-clause-signed : goal.returns-in-Ok-clause-signed
 returns-in-Ok-clause-signed g c =
     let is = c.missing.ensures ∙ ap (missing c.args.table.now) c.in-Ok.ensures.inputs in
     (is, subst (λ (l : List Input). 0 < length l) (sym is) c.requires)
+
+pub returns-in-Ok-clause-allowed : goal.returns-in-Ok-clause-allowed
+returns-in-Ok-clause-allowed g c =
+    let answered = is_answered c.args.publisher.now.zone.apex (asked_of c.args.question.now) in
+    given_too c.in-Ok.inputs (signed.Missing c.missing.result) fault.QuestionNotAllowed answered c.in-Ok.ensures.allowed
