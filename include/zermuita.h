@@ -316,7 +316,14 @@ enum zermuita_reply {
      *
      * Do: As for 25, but query for DS only if an NSEC3 record has the opt-out flag.
      */
-    ZERMUITA_INCOMPLETE_DENIAL = 51 /* records verify, but a denial record that the proof needs is missing */
+    ZERMUITA_INCOMPLETE_DENIAL = 51, /* records verify, but a denial record that the proof needs is missing */
+
+    /*
+     * # One more limit of zermuita_resolve
+     *
+     * It also says why there is no verdict. Answer SERVFAIL.
+     */
+    ZERMUITA_TOO_MUCH_WORK = 52 /* the walk would go on, but may have used up the work that is allowed */
 };
 
 /*
@@ -745,8 +752,8 @@ static inline int zermuita_next_place(struct zermuita_octets *places, uint32_t *
  * - ZERMUITA_ASK: the signatures to check (zermuita_next_ask(3)).
  * - Refusals up to 27, ZERMUITA_INCOMPLETE_DENIAL, ZERMUITA_NOTHING_TOLD: the zone, name and type of the answer that is refused,
  *   in the form of ZERMUITA_WANT. With 17 and 19 to 21 the zone's DNSKEY answer is refused, not this one.
- * - ZERMUITA_OUT_OF_MEMORY, ZERMUITA_MESSAGE_TOO_LONG, ZERMUITA_TOO_MANY_SIGNATURES, errors of the caller: nothing, and no
- *   aliases.
+ * - ZERMUITA_OUT_OF_MEMORY, ZERMUITA_MESSAGE_TOO_LONG, ZERMUITA_TOO_MANY_SIGNATURES, ZERMUITA_TOO_MUCH_WORK, errors of the
+ *   caller: nothing, and no aliases.
  * - All others: nothing.
  *
  * After a refusal replace the refused message: of two messages for one question of a zone the first counts.
@@ -756,8 +763,17 @@ static inline int zermuita_next_place(struct zermuita_octets *places, uint32_t *
  * `ttl` and `until` say how long a secure or insecure result may be kept: `ttl` seconds from the arrival of the oldest message
  * that it rests on, and until the second `until`. Both are the least of all steps. `verifications` and `hashes` count all
  * judgements of the call, and are 0 with ZERMUITA_OUT_OF_MEMORY, ZERMUITA_MESSAGE_TOO_LONG and errors of the caller. `ede` is
- * that of zermuita_judge() for the refused answer; with ZERMUITA_INSECURE that of the delegation's DS set, 0 if it is proved that
- * there is none. `delegates` is 0.
+ * that of zermuita_judge() for the refused answer. If that answer has no record of a denial, it is 7 or 8 where that is the error
+ * of the zone's answer to the question. With ZERMUITA_INSECURE it is that of the delegation's DS set, 0 if it is proved that there
+ * is none. `delegates` is 0.
+ *
+ * # Work
+ *
+ * Each call judges all messages again, so `max_work` limits the work of all calls. The work of a call is the sum over its
+ * searches: 8 for each record of the zone's DNSKEY answer and of the other answer, plus one for each label of its owner, 32 times
+ * as much for NSEC and NSEC3 records; and one for each 32 bytes. It is multiplied by the calls that the evidence counts as: one
+ * for each message, one for each entry of `checked` that passes, and 16 for each that fails. If the walk needs more, and the
+ * product exceeds `max_work`, it returns ZERMUITA_TOO_MUCH_WORK. A result that the evidence proves is returned in any case.
  *
  * # Caveats
  *
@@ -771,7 +787,7 @@ static inline int zermuita_next_place(struct zermuita_octets *places, uint32_t *
  * What a walk is given. Set it to zero, then its size, then what the question needs. The class is IN.
  */
 struct zermuita_evidence {
-    size_t size;                       /* sizeof(struct zermuita_evidence) */
+    size_t size;                       /* sizeof(struct zermuita_evidence); 128 if `max_work` is unknown */
     struct zermuita_octets anchor;     /* the name of the trust anchor's zone; the root is one byte, 0 */
     struct zermuita_octets ds;         /* its DS set, as in a case; ZERMUITA_BAD_DS_SET if no record of it counts */
     struct zermuita_octets name;       /* the name of the question */
@@ -786,6 +802,7 @@ struct zermuita_evidence {
     uint16_t one_moment;               /* as in a case */
     uint16_t max_messages;             /* with this many messages no more are requested; 0: 128 */
     uint32_t max_signatures;           /* the most entries of `checked` and requested signatures together; 0: 256 */
+    uint64_t max_work;                 /* the most work of all calls of a walk, in the units below; 0: 6,000,000 */
 };
 
 /* The function behind zermuita_resolve(), for other languages. */

@@ -218,7 +218,7 @@ static void call_with_evidence(struct zermuita_evidence good) {
     struct zermuita_evidence handed = good;
     for (size_t size = 0; size < sizeof handed + 32; size++) {
         handed.size = size;
-        expect(walk_of(handed) == (size == 128 ? ZERMUITA_WANT : ZERMUITA_BAD_CASE), "the size of evidence");
+        expect(walk_of(handed) == (size == 128 || size == 136 ? ZERMUITA_WANT : ZERMUITA_BAD_CASE), "the size of evidence");
     }
     handed.size = (size_t)-1;
     expect(walk_of(handed) == ZERMUITA_BAD_CASE, "the greatest size of evidence");
@@ -232,6 +232,7 @@ static void call_with_evidence(struct zermuita_evidence good) {
     handed = good;
     handed.max_cuts = handed.max_aliases = handed.max_messages = 65535;
     handed.max_signatures = (uint32_t)-1;
+    handed.max_work = (uint64_t)-1;
     expect(walk_of(handed) == ZERMUITA_WANT, "the greatest limits");
     handed = good;
     struct zermuita_wanted wanted;
@@ -439,7 +440,7 @@ int main(void) {
     for (int reply = 0; reply < 64; reply++) {
         uint32_t number = (uint32_t)reply;
         expect(zermuita_is_verdict(number) == (number <= ZERMUITA_REFERRAL), "verdicts");
-        int is_further = ZERMUITA_TOO_MANY_CUTS <= number && number <= ZERMUITA_INCOMPLETE_DENIAL;
+        int is_further = ZERMUITA_TOO_MANY_CUTS <= number && number <= ZERMUITA_TOO_MUCH_WORK;
         expect(zermuita_is_refusal(number) == ((16 <= number && number <= ZERMUITA_OUTSIDE) || is_further), "refusals");
         printf("%d %s\n", reply, zermuita_strerror((enum zermuita_reply)reply));
     }

@@ -138,7 +138,7 @@ static size_t entries_of(const struct buffer *checked) {
     return count;
 }
 
-/* Limits of messages and of signatures: each up to one more than the walk takes, none, and the highest. */
+/* Limits of messages and of signatures: each up to one more than the walk takes, none, and the highest. Of work the least and most. */
 static void limit_lists(struct handed handed) {
     struct handed limited = handed;
     size_t messages = messages_in(octets_of(&first.messages)), entries = entries_of(&first.checked);
@@ -151,6 +151,11 @@ static void limit_lists(struct handed handed) {
         limited.walked.max_signatures = (uint32_t)(most <= entries + 1 ? most : most == entries + 2 ? 0 : UINT32_MAX);
         expect_limited(limited, ZERMUITA_TOO_MANY_SIGNATURES, most < entries, most);
     }
+    limited = handed;
+    limited.walked.max_work = 1;
+    expect_limited(limited, ZERMUITA_TOO_MUCH_WORK, entries > 0, 1);
+    limited.walked.max_work = UINT64_MAX;
+    expect_limited(limited, ZERMUITA_TOO_MUCH_WORK, false, 0);
 }
 
 /* Limits of aliases and of delegations. No walk here goes down more than four of these for a name. */

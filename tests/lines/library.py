@@ -49,6 +49,7 @@ class Evidence(Sized):
         (U64, "now"),
         (U16, "rtype max_nsec3_iterations max_cuts max_aliases one_moment max_messages"),
         (U32, "max_signatures"),
+        (U64, "max_work"),
     )
 
 

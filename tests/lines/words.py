@@ -16,7 +16,7 @@ CODES |= {
         "Ask Want BufferTooSmall BadApex BadDsSet BadName BadSignatures BadCase BadMessages".split()
     )
 }
-CODES |= {48: "TooManyCuts", 49: "TooManyAliases", 50: "TooManyMessages", 51: "IncompleteDenial"}
+CODES |= {48: "TooManyCuts", 49: "TooManyAliases", 50: "TooManyMessages", 51: "IncompleteDenial", 52: "TooMuchWork"}
 ALIASES = ("Alias", "WildcardAlias", "Dname")
 # Of replies below this number verdicts, from it on refusals and others.
 FIRST_REFUSAL = 16

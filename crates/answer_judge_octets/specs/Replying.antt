@@ -167,6 +167,7 @@ number_of c.TooManyCuts = 48
 number_of c.TooManyAliases = 49
 number_of c.TooManyMessages = 50
 number_of c.IncompleteDenial = 51
+number_of c.TooMuchWork = 52
 
 abbrev pub code_of_verdict : Verdict → ReplyCode
 code_of_verdict (Records d) = c.Records
@@ -246,6 +247,7 @@ is_refusal c.TooManyCuts = true
 is_refusal c.TooManyAliases = true
 is_refusal c.TooManyMessages = true
 is_refusal c.IncompleteDenial = true
+is_refusal c.TooMuchWork = true
 is_refusal _ = false
 
 -- what is replied

@@ -103,6 +103,8 @@ pub enum ReplyCode {
     TooManyMessages = 50,
     /// Nothing is proven: records of the denial verify, and one that the proof needs is missing.
     IncompleteDenial = 51,
+    /// More messages or signatures are wanted, and the calls so far were as much work as is allowed.
+    TooMuchWork = 52,
 }
 
 impl ReplyCode {
@@ -160,6 +162,7 @@ impl ReplyCode {
             49 => Some(ReplyCode::TooManyAliases),
             50 => Some(ReplyCode::TooManyMessages),
             51 => Some(ReplyCode::IncompleteDenial),
+            52 => Some(ReplyCode::TooMuchWork),
             _ => None,
         }
     }
@@ -192,6 +195,7 @@ impl ReplyCode {
             ReplyCode::NothingTold | ReplyCode::Outside => true,
             ReplyCode::TooManyCuts | ReplyCode::TooManyAliases => true,
             ReplyCode::TooManyMessages | ReplyCode::IncompleteDenial => true,
+            ReplyCode::TooMuchWork => true,
             _ => false,
         }
     }

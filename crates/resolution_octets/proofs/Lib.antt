@@ -5,3 +5,4 @@ pub mod SpelledEvidence
 pub mod Refused
 pub mod Staying
 pub mod Asking
+pub mod TooFar

@@ -5,7 +5,7 @@ use Rattle.answer_judge_octets.specs.Replying.{reply_seen}
 use Rattle.answer_judge_octets.specs.declared.reply.Reply.{Reply}
 use Rattle.resolution_evidence.specs.Given.{Given}
 use Rattle.resolution_walk.specs.declared.ending.Walk.{Walk}
-use Rattle.resolution_octets.specs.Limiting.{limits_of}
+use Rattle.resolution_octets.specs.Limiting.{limits_of, reply_limits_of}
 use Rattle.resolution_octets.specs.ReadEvidence.{asked_in, given_of}
 use Rattle.resolution_octets.specs.Replying.{IsWalk, SaysWalked}
 use Rattle.resolution_octets.specs.Saying.{IsSaid}
@@ -13,12 +13,12 @@ use Rattle.resolution_octets.specs.declared.octets.OctetEvidence.{OctetEvidence}
 use Rattle.resolution_octets.specs.declared.octets.ReadEvidence.{ReadEvidence}
 
 pub says_in : (case : OctetEvidence) (r : ReadEvidence) (kept : Given) (checked : ℕ) (w : Walk) (said : Result Reply AllocError)
-    → IfOk said (λ x. IsSaid case.moment case.max_signatures checked kept (asked_in r) w (reply_seen x)) → kept ≡ given_of case r → checked ≡ length r.table.items → IsWalk (given_of case r) (asked_in r) (limits_of case) w
+    → IfOk said (λ x. IsSaid case.moment (reply_limits_of case checked) kept (asked_in r) w (reply_seen x)) → kept ≡ given_of case r → checked ≡ length r.table.items → IsWalk (given_of case r) (asked_in r) (limits_of case) w
     → IfOk said (λ x. SaysWalked case (given_of case r) (asked_in r) (reply_seen x))
 says_in case r kept checked w (Ok x) replied given count walk = record {
   walk = w;
   is_walk = walk;
-  is_said = subst (λ (e : Given). IsSaid case.moment case.max_signatures (length r.table.items) e (asked_in r) w (reply_seen x)) given
-      (subst (λ (n : ℕ). IsSaid case.moment case.max_signatures n kept (asked_in r) w (reply_seen x)) count replied);
+  is_said = subst (λ (e : Given). IsSaid case.moment (reply_limits_of case (length r.table.items)) e (asked_in r) w (reply_seen x)) given
+      (subst (λ (n : ℕ). IsSaid case.moment (reply_limits_of case n) kept (asked_in r) w (reply_seen x)) count replied);
 }
 says_in case r kept checked w (Err e) replied given count walk = tt

@@ -5,6 +5,7 @@ pub mod ReadMessages
 pub mod ReadEvidence
 pub mod Limiting
 pub mod Cuts
+pub mod Working
 pub mod Saying
 pub mod Replying
 pub mod Laws

@@ -13,7 +13,7 @@ use Rattle.resolution_walk.specs.Stopping.{StopsWithin}
 use Rattle.resolution_walk.specs.Truth.{WalksTruly}
 use Rattle.resolution_walk.specs.declared.ending.Walk.{Walk}
 use Rattle.resolution_walk.specs.declared.walk.Limits.{Limits}
-use Rattle.resolution_octets.specs.Limiting.{limits_of}
+use Rattle.resolution_octets.specs.Limiting.{limits_of, reply_limits_of}
 use Rattle.resolution_octets.specs.Saying.{IsSaid}
 use Rattle.resolution_octets.specs.Spelling.{Spells, Unread}
 use Rattle.resolution_octets.specs.declared.octets.OctetEvidence.{OctetEvidence}
@@ -30,7 +30,7 @@ pub record IsWalk (e : Given) (asked : Asked) (limits : Limits) (w : Walk) : Typ
 pub record SaysWalked (case : OctetEvidence) (e : Given) (asked : Asked) (said : Replied) : Type 0 where
   pub walk : Walk
   pub is_walk : IsWalk e asked (limits_of case) walk
-  pub is_said : IsSaid case.moment case.max_signatures (length e.table) e asked walk said
+  pub is_said : IsSaid case.moment (reply_limits_of case (length e.table)) e asked walk said
 
 -- a message would cost too much work to be judged
 abbrev pub are_crowded : List Message → Bool

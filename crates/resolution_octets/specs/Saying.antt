@@ -1,5 +1,5 @@
 -- What a walk says, in octets.
-use Rattle.std.specs.Prelude.{◌≡◌, ◌⊎◌, ℕ, ◌+◌, ◌==◌, Bool, true, List, [], ◌++◌, length, Some, None, nat_lt, if◌then◌else◌}
+use Rattle.std.specs.Prelude.{◌≡◌, ◌⊎◌, ℕ, ◌+◌, ◌==◌, Bool, true, false, List, [], ◌++◌, length, Some, None, nat_lt, if◌then◌else◌}
 use Rattle.std.specs.Int.{w16, w32, to_be_bytes}
 use Rattle.std.specs.List.{flat_map}
 use Rattle.definitions.specs.Dnskey.{Ds}
@@ -7,6 +7,7 @@ use Rattle.definitions.specs.Name.{Name, wire}
 use Rattle.messages.specs.Message.{Asked}
 use Rattle.answer_judge.specs.Judging.{JudgeInput}
 use Rattle.answer_judge.specs.declared.verdict.Refusal.{Refusal}
+use Rattle.answer_judge.specs.declared.verdict.Refusal.TheVariants as r
 use Rattle.answer_judge_rules.specs.Rules.{verdict_of}
 use Rattle.answer_terms.specs.declared.redirection.Lead.TheVariants as lead
 use Rattle.answer_extended_errors.specs.Codes.{code_of}
@@ -16,12 +17,16 @@ use Rattle.answer_judge_octets.specs.Replying.{IsAskReplied, Replied, code_of_ve
 use Rattle.answer_judge_octets.specs.declared.reply.ReplyCode.{ReplyCode}
 use Rattle.answer_judge_octets.specs.declared.reply.ReplyCode.TheVariants as c
 use Rattle.resolution_evidence.specs.Given.{Given, IsOf}
+use Rattle.resolution_evidence.specs.Walking.{renamed}
+use Rattle.resolution_walk.specs.Truth.{last_of}
 use Rattle.resolution_walk.specs.Wanted.{is_lacking}
 use Rattle.resolution_walk.specs.declared.ending.Ending.{Ending}
 use Rattle.resolution_walk.specs.declared.ending.Ending.TheVariants as ends
 use Rattle.resolution_walk.specs.declared.ending.Walk.{Walk}
 use Rattle.resolution_walk.specs.declared.ending.Wanted.{Wanted}
 use Rattle.resolution_octets.specs.Cuts.{error_of_cut}
+use Rattle.resolution_octets.specs.Working.{goes_too_far}
+use Rattle.resolution_octets.specs.declared.walk_reply.ReplyLimits.{ReplyLimits}
 
 -- a zone and what it is asked: two names in wire form, and a type in two octets
 abbrev pub question_octets : Name → Name → ℕ → List ℕ
@@ -86,10 +91,32 @@ abbrev pub IsErrorOf : Given → Name → List Ds → Asked → Refusal → Exte
 IsErrorOf e zone ds sought refusal error =
     ((h : JudgeInput) × IsOf e zone ds sought h × (error ≡ error_of h e.table refusal)) ⊎ ((is_lacking e zone sought ≡ true) × (error ≡ x.Other))
 
+-- no record shows that something does not exist, so the answer itself says nothing
+abbrev pub is_empty : ExtendedError → Bool
+is_empty x.NsecMissing = true
+is_empty _ = false
+
+-- the error of signatures that do not hold now, and else another
+abbrev pub untimely_or : ExtendedError → ExtendedError → ExtendedError
+untimely_or other x.SignatureExpired = x.SignatureExpired
+untimely_or other x.SignatureNotYetValid = x.SignatureNotYetValid
+untimely_or other _ = other
+
+-- The error that is told of a refused answer: its own. Of one that says nothing, that of signatures of the zone's answer to the
+-- question, where these do not hold now, since that is why DS was asked for.
+pub data IsErrorTold (e : Given) (zone : Name) (ds : List Ds) (asked sought : Asked) (refusal : Refusal) (error : ExtendedError) : Type 0 where
+  OfAnswer : IsErrorOf e zone ds sought refusal error → is_empty error ≡ false → IsErrorTold e zone ds asked sought refusal error
+  OfQuestion : (named own : ExtendedError) → IsErrorOf e zone ds sought refusal named → is_empty named ≡ true → IsErrorOf e zone ds asked r.NotProven own
+      → error ≡ untimely_or named own → IsErrorTold e zone ds asked sought refusal error
+
+-- the question for the name at the end of aliases
+abbrev pub last_asked : Asked → List Name → Asked
+last_asked asked names = renamed asked (last_of asked.name names)
+
 -- an end that is a refusal has its error, and every other end the one that says nothing
-abbrev pub IsErrorOfEnd : Given → Asked → Ending → ExtendedError → Type 0
-IsErrorOfEnd e asked (ends.Untold zone ds name t (Some refusal)) error = IsErrorOf e zone ds.items (sought_of asked name t) refusal error
-IsErrorOfEnd e asked _ error = error ≡ x.Other
+abbrev pub IsErrorOfEnd : Given → Asked → List Name → Ending → ExtendedError → Type 0
+IsErrorOfEnd e asked names (ends.Untold zone ds name t (Some refusal)) error = IsErrorTold e zone ds.items (last_asked asked names) (sought_of asked name t) refusal error
+IsErrorOfEnd e asked names _ error = error ≡ x.Other
 
 -- the code of that error; at a delegation that is not signed that of its DS records
 abbrev pub ede_of_end : Ending → ExtendedError → ℕ
@@ -114,15 +141,20 @@ end_reply second w error = record {
 
 pub record IsEndReplied (second : ℕ) (e : Given) (asked : Asked) (w : Walk) (said : Replied) : Type 0 where
   pub error : ExtendedError
-  pub is_error : IsErrorOfEnd e asked w.ending error
+  pub is_error : IsErrorOfEnd e asked w.through.items w.ending error
   pub is : said ≡ end_reply second w error
 
 -- What is replied to a walk: signatures that are asked for as entries, or that they are too many; messages that are wanted, one
 -- behind another; or its end. Whichever it is, the counts are those of all judgements of the walk.
-abbrev pub IsEndSaid : ℕ → ℕ → ℕ → Given → Asked → Walk → Ending → Replied → Type 0
-IsEndSaid second most checked e asked w (ends.Asks asks) said = IsAskReplied (are_too_many most checked (length asks.items)) asks.items w.counts.verifications w.counts.hashes said
-IsEndSaid second most checked e asked w (ends.Wants ws) said = said ≡ counted w.counts.verifications w.counts.hashes (record (only c.Want) { octets = flat_map wanted_octets ws.items })
-IsEndSaid second most checked e asked w ending said = IsEndReplied second e asked w said
+abbrev pub IsEndSaid : ℕ → ReplyLimits → Given → Asked → Walk → Ending → Replied → Type 0
+IsEndSaid second limits e asked w (ends.Asks asks) said = IsAskReplied (are_too_many limits.signatures limits.checked (length asks.items)) asks.items w.counts.verifications w.counts.hashes said
+IsEndSaid second limits e asked w (ends.Wants ws) said = said ≡ counted w.counts.verifications w.counts.hashes (record (only c.Want) { octets = flat_map wanted_octets ws.items })
+IsEndSaid second limits e asked w ending said = IsEndReplied second e asked w said
 
-abbrev pub IsSaid : ℕ → ℕ → ℕ → Given → Asked → Walk → Replied → Type 0
-IsSaid second most checked e asked w said = IsEndSaid second most checked e asked w w.ending said
+-- the same, or that the walk would go on and has been too much work
+abbrev pub IsSaidWithin : Bool → ℕ → ReplyLimits → Given → Asked → Walk → Replied → Type 0
+IsSaidWithin true second limits e asked w said = said ≡ counted w.counts.verifications w.counts.hashes (only c.TooMuchWork)
+IsSaidWithin false second limits e asked w said = IsEndSaid second limits e asked w w.ending said
+
+abbrev pub IsSaid : ℕ → ReplyLimits → Given → Asked → Walk → Replied → Type 0
+IsSaid second limits e asked w said = IsSaidWithin (goes_too_far limits.work e w) second limits e asked w said

@@ -1,5 +1,5 @@
 -- What the octets of evidence spell.
-use Rattle.std.specs.Prelude.{◌≡◌, ℕ, ◌*◌, ◌==◌, ◌⊎◌, Bool, true, false, List, [], ◌∷◌, length, Option, Some, None, Contains, if◌then◌else◌}
+use Rattle.std.specs.Prelude.{◌≡◌, ℕ, ◌*◌, ◌==◌, ◌||◌, ◌⊎◌, Bool, true, false, List, [], ◌∷◌, length, Option, Some, None, Contains, if◌then◌else◌}
 use Rattle.definitions.specs.Dnskey.{Ds}
 use Rattle.definitions.specs.Name.{Name, low}
 use Rattle.messages.specs.Message.{Asked}
@@ -14,13 +14,13 @@ use Rattle.resolution_evidence.specs.Given.{Given, Message}
 use Rattle.resolution_octets.specs.Sent.{FitsSent, Sent, sent_octets}
 use Rattle.resolution_octets.specs.declared.octets.OctetEvidence.{OctetEvidence}
 
--- the size of evidence, the only one that is known
-abbrev pub evidence_size : ℕ
-evidence_size = 128
+-- the sizes of evidence that are known: with a limit of work, and without
+abbrev pub is_known_size : ℕ → Bool
+is_known_size size = (size == 136) || (size == 128)
 
 -- what its flag says, if anything
 abbrev pub flag_in : OctetEvidence → Option Bool
-flag_in case = if case.size == evidence_size then flag_of case.one_moment else None
+flag_in case = if is_known_size case.size then flag_of case.one_moment else None
 
 -- ---- messages
 

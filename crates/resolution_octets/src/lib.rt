@@ -8,5 +8,6 @@ pub mod octets;
 mod received;
 mod sent;
 mod walk_reply;
+mod working;
 
 pub use crate::octets::{OctetEvidence, resolve_octets};

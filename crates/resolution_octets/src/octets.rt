@@ -2,13 +2,14 @@
 ghost use Rattle.std.specs.Prelude.{◌≡◌, ◌⊎◌, IfErr, IfOk, Some, None};
 ghost use Rattle.messages.specs.NameOctets.{name_of_octets};
 ghost use Rattle.answer_judge_octets.specs.Replying.{reply_seen};
-ghost use Rattle.resolution_octets.specs.Limiting.{limit_of, limits_of};
+ghost use Rattle.resolution_octets.specs.Limiting.{limit_of, limits_of, work_in};
 ghost use Rattle.resolution_octets.specs.Replying.{Answers, Replies, Says, SaysWalked};
 ghost use Rattle.resolution_octets.specs.Spelling.{HasDs, IsAnchor, LacksDs, Unread, flag_in};
+ghost use Rattle.resolution_octets.specs.Spelling.{is_known_size};
 ghost use Rattle.resolution_octets.specs.ReadEvidence.{ReadsAs, asked_in, given_of};
 
 use crate::received::{IN, ReadMessage, are_crowded, read_messages, walk_messages};
-use crate::walk_reply::{SignatureCounts, reply_of_walk};
+use crate::walk_reply::{ReplyLimits, reply_of_walk};
 use answer_judge_octets::ds::judged_ds;
 use answer_judge_octets::list::read_list;
 use answer_judge_octets::octets::{REPORT_SIZE, hand_out, read_name};
@@ -28,7 +29,8 @@ use std::time::Duration;
 #[repr(C)]
 #[derive(Drop)]
 pub struct OctetEvidence<'a> {
-    /// How many octets the evidence has as its caller knows it: 128.
+    /// How many octets the evidence has as its caller knows it: 136, or 128 where it does not know
+    /// `max_work`.
     pub size: usize,
     /// The name of the trust anchor's zone, with capitals or without.
     pub anchor: &'a [u8],
@@ -66,10 +68,16 @@ pub struct OctetEvidence<'a> {
     pub max_messages: u16,
     /// How many signatures `checked` may have with those that are asked for; 0 stands for 256.
     pub max_signatures: u32,
+    /// How much work the calls may be: where more is wanted beside evidence of which all calls so
+    /// far may have been more, the walk ends; 0 stands for 6,000,000.
+    pub max_work: u64,
 }
 
 /// How many octets evidence has in memory.
-const EVIDENCE_SIZE: usize = 128;
+const EVIDENCE_SIZE: usize = 136;
+
+/// How many it has for callers that do not know `max_work`.
+const SIZE_WITHOUT_WORK: usize = 128;
 
 const _: () = prove!(size_of::<OctetEvidence>() == EVIDENCE_SIZE);
 
@@ -112,6 +120,10 @@ struct ReadEvidence<'a> {
 /// answer is refused it says the extended error of that, for which the signatures of the answer may
 /// be looked up once more; and of a delegation below which nothing is signed why none of its DS
 /// records counts, if it has some.
+///
+/// Where the walk wants more, and its calls so far may have been more work than the evidence allows,
+/// it ends: as many calls as there are messages and signatures, one that fails for sixteen of them,
+/// each as much as this call.
 ///
 /// Each message is judged with names in its data in full and in lower case (RFC 4034, 6.2), as
 /// every validator does: put in canonical form where it has to be. Evidence with one that would
@@ -183,10 +195,14 @@ fn resolved(
         one_moment: read.one_moment,
     };
     let walk = resolve(alloc, &evidence, &read.question, limits_of(handed_in))?;
-    let (second, most) = (handed_in.moment, handed_in.max_signatures);
     let checked = read.table.len();
-    let counts = SignatureCounts { most, checked };
-    reply_of_walk(alloc, second, counts, &evidence, &read.question, &walk)
+    let limits = ReplyLimits {
+        signatures: handed_in.max_signatures,
+        checked,
+        work: work_in(handed_in),
+    };
+    let second = handed_in.moment;
+    reply_of_walk(alloc, second, limits, &evidence, &read.question, &walk)
 }
 
 /// The limits of evidence.
@@ -268,17 +284,34 @@ fn read_ds(alloc: Global, evidence: &OctetEvidence) -> Result<Vec<Ds<Vec<u8>>>, 
     Ok(ds)
 }
 
-/// What the flag of evidence of the size that is known says.
+/// What the flag of evidence of a size that is known says.
 fn flag_in(evidence: &OctetEvidence) -> Result<bool, ReplyCode>
     ensures said { IfOk result (λ b. flag_in evidence.now ≡ Some b) }
     ensures unread { IfErr result (λ c. (c ≡ ReplyCode.BadCase) × (flag_in evidence.now ≡ None)) }
 {
-    if evidence.size != EVIDENCE_SIZE {
+    if !is_known_size(evidence.size) {
         return Err(ReplyCode::BadCase);
     }
     match evidence.one_moment {
         0 => Ok(false),
         1 => Ok(true),
         _ => Err(ReplyCode::BadCase),
+    }
+}
+
+fn is_known_size(size: usize) -> bool
+    ensures { result ≡ is_known_size size }
+{
+    size == EVIDENCE_SIZE || size == SIZE_WITHOUT_WORK
+}
+
+/// How much work evidence allows; 0 where its caller does not know that there is a limit.
+fn work_in(evidence: &OctetEvidence) -> u64
+    ensures { result ≡ work_in evidence.now }
+{
+    if evidence.size == SIZE_WITHOUT_WORK {
+        0
+    } else {
+        evidence.max_work
     }
 }

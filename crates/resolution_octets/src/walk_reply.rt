@@ -4,13 +4,17 @@ ghost use Rattle.std.specs.List.{flat_map};
 ghost use Rattle.definitions.specs.Name.{wire};
 ghost use Rattle.messages.specs.Questions.{asked_of};
 ghost use Rattle.answer_judge_octets.specs.Replying.{IsAskReplied, counted, only, reply_seen};
-ghost use Rattle.resolution_octets.specs.Saying.{IsEndReplied, IsErrorOf, IsErrorOfEnd, IsSaid};
+ghost use Rattle.resolution_octets.specs.Saying.{IsEndReplied, IsEndSaid, IsErrorOf, IsErrorOfEnd};
+ghost use Rattle.resolution_octets.specs.Saying.{IsErrorTold, IsSaid, is_empty, last_asked};
+ghost use Rattle.resolution_octets.specs.Saying.{untimely_or};
+ghost use Rattle.resolution_walk.specs.Truth.{last_of};
 ghost use Rattle.resolution_octets.specs.Saying.{are_too_many, code_of_end, ede_of_end, most_of};
 ghost use Rattle.resolution_octets.specs.Saying.{names_octets};
 ghost use Rattle.resolution_octets.specs.Saying.{octets_of_end, question_octets, sought_of};
 ghost use Rattle.resolution_octets.specs.Saying.{wanted_octets};
 
 use crate::cuts::error_of_cut;
+use crate::working::goes_too_far;
 use answer_extended_errors::ExtendedError;
 use answer_findings::Lead;
 use answer_judge_octets::ReplyCode;
@@ -28,11 +32,15 @@ use std::alloc::{AllocError, Global};
 /// How many signatures may be checked where a caller says no number.
 const MOST_SIGNATURES: u32 = 256;
 
-/// How many signatures a caller lets be checked, and how many the table has.
+/// How much a caller allows where more is wanted.
 #[derive(Clone, Copy)]
-pub(crate) struct SignatureCounts {
-    pub(crate) most: u32,
+pub(crate) struct ReplyLimits {
+    /// How many signatures may be checked.
+    pub(crate) signatures: u32,
+    /// How many the table has.
     pub(crate) checked: usize,
+    /// How much work all calls may be.
+    pub(crate) work: u64,
 }
 
 /// An answer of a zone that is refused: the zone, the DS records that it is judged by, the name and
@@ -46,22 +54,44 @@ struct RefusedAnswer<'a> {
     refusal: Refusal,
 }
 
-/// The reply to what a walk over evidence says of a question, at a moment in seconds and beside so
-/// many signatures.
+/// The reply to what a walk over evidence says of a question, at a moment in seconds and within
+/// limits.
 pub(crate) fn reply_of_walk(
     alloc: Global,
     second: u64,
-    counts: SignatureCounts,
+    limits: ReplyLimits,
     evidence: &Evidence,
     question: &Question,
     walk: &Walk,
 ) -> Result<Reply, AllocError>
     ensures { let e = evidence.now in let asked = asked_of question.now in
-        let said = IsSaid second counts.most counts.checked e asked walk.now in
+        let said = IsSaid second limits e asked walk.now in
+        IfOk result (λ r. said (reply_seen r)) }
+{
+    if goes_too_far(limits.work, evidence, walk) {
+        let reply = Reply::only(alloc, ReplyCode::TooMuchWork);
+        return Ok(counted(reply, walk.counts));
+    }
+    reply_of_ending(alloc, second, limits, evidence, question, walk)
+}
+
+/// The reply to what a walk says.
+fn reply_of_ending(
+    alloc: Global,
+    second: u64,
+    limits: ReplyLimits,
+    evidence: &Evidence,
+    question: &Question,
+    walk: &Walk,
+) -> Result<Reply, AllocError>
+    ensures { let e = evidence.now in let asked = asked_of question.now in
+        let said = IsEndSaid second limits e asked walk.now walk.now.ending in
         IfOk result (λ r. said (reply_seen r)) }
 {
     match &walk.ending {
-        Ending::Asks(asks) => asked_for(alloc, counts.most, counts.checked, asks, walk.counts),
+        Ending::Asks(asks) => {
+            asked_for(alloc, limits.signatures, limits.checked, asks, walk.counts)
+        }
         Ending::Wants(wanted) => {
             let octets = octets_of_wanted(alloc, wanted)?;
             Ok(replied(alloc, ReplyCode::Want, octets, walk.counts))
@@ -82,7 +112,7 @@ fn end_replied(
         IfOk result (λ r. IsEndReplied second e asked walk.now (reply_seen r)) }
 {
     let octets = octets_of_walk(alloc, &walk.through, &walk.ending)?;
-    let error = error_of_end(alloc, evidence, question, &walk.ending)?;
+    let error = error_of_end(alloc, evidence, question, walk)?;
     Ok(Reply {
         code: code_of_end(&walk.ending, error),
         octets,
@@ -101,12 +131,13 @@ fn error_of_end(
     alloc: Global,
     evidence: &Evidence,
     question: &Question,
-    ending: &Ending,
+    walk: &Walk,
 ) -> Result<ExtendedError, AllocError>
     ensures { let e = evidence.now in let asked = asked_of question.now in
-        IfOk result (IsErrorOfEnd e asked ending.now) }
+        let w = walk.now in
+        IfOk result (IsErrorOfEnd e asked w.through.items w.ending) }
 {
-    match ending {
+    match &walk.ending {
         Ending::Untold {
             zone,
             ds,
@@ -121,10 +152,84 @@ fn error_of_end(
                 rtype: *rtype,
                 refusal: *refusal,
             };
-            error_of_answer(alloc, evidence, question, answer)
+            error_told(alloc, evidence, question, &walk.through, &answer)
         }
         _ => Ok(ExtendedError::Other),
     }
+}
+
+/// The error that is told of a refused answer.
+///
+/// An answer for DS that shows nothing is asked for only since the answer to the question tells
+/// nothing: where signatures of that have expired, this is what has to be mended.
+fn error_told(
+    alloc: Global,
+    evidence: &Evidence,
+    question: &Question,
+    through: &[Name<Vec<u8>>],
+    answer: &RefusedAnswer,
+) -> Result<ExtendedError, AllocError>
+    ensures { let a = answer.now in let asked = asked_of question.now in
+        let sought = sought_of asked a.name.now a.rtype in
+        let last = last_asked asked through.now in
+        IfOk result (IsErrorTold evidence.now a.zone.now a.ds.now last sought a.refusal) }
+{
+    let named = error_of_answer(alloc, evidence, question, answer)?;
+    if !is_empty(named) {
+        return Ok(named);
+    }
+    let own = error_of_question(alloc, evidence, question, through, answer.zone, answer.ds)?;
+    Ok(untimely_or(named, own))
+}
+
+/// The error of a zone's answer to the question, at the end of aliases.
+fn error_of_question<'a>(
+    alloc: Global,
+    evidence: &Evidence,
+    question: &'a Question,
+    through: &'a [Name<Vec<u8>>],
+    zone: &'a Name<Vec<u8>>,
+    ds: &'a [Ds<Vec<u8>>],
+) -> Result<ExtendedError, AllocError>
+    ensures { let last = last_asked (asked_of question.now) through.now in
+        IfOk result (IsErrorOf evidence.now zone.now ds.now last Refusal.NotProven) }
+{
+    let answer = RefusedAnswer {
+        zone,
+        ds,
+        name: last_name(&question.name, through),
+        rtype: question.rtype,
+        refusal: Refusal::NotProven,
+    };
+    error_of_answer(alloc, evidence, question, &answer)
+}
+
+/// Whether an answer has no record that shows that something does not exist.
+fn is_empty(error: ExtendedError) -> bool
+    ensures { result ≡ is_empty error }
+{
+    error == ExtendedError::NsecMissing
+}
+
+/// The error of signatures that do not hold now, or else another.
+fn untimely_or(other: ExtendedError, error: ExtendedError) -> ExtendedError
+    ensures { result ≡ untimely_or other error }
+{
+    match error {
+        ExtendedError::SignatureExpired | ExtendedError::SignatureNotYetValid => error,
+        _ => other,
+    }
+}
+
+/// The name at the end of aliases.
+fn last_name<'a>(name: &'a Name<Vec<u8>>, through: &'a [Name<Vec<u8>>]) -> &'a Name<Vec<u8>>
+    ensures { result.now ≡ last_of name.now through.now }
+{
+    let mut last = name;
+    for next in through {
+        last = next;
+    }
+    last
 }
 
 /// The code of an end's extended error; at a delegation whose DS records are of no known kind that
@@ -143,9 +248,9 @@ fn error_of_answer(
     alloc: Global,
     evidence: &Evidence,
     question: &Question,
-    answer: RefusedAnswer,
+    answer: &RefusedAnswer,
 ) -> Result<ExtendedError, AllocError>
-    ensures { let a = answer.entry in
+    ensures { let a = answer.now in
         let sought = sought_of (asked_of question.now) a.name.now a.rtype in
         IfOk result (IsErrorOf evidence.now a.zone.now a.ds.now sought a.refusal) }
 {

@@ -33,6 +33,7 @@ use Rattle.resolution_tree.specs.Orderly.{IsOrderlyZone}
 use Rattle.resolution_tree.proofs.Trees.{lead_uncut, no_data, referred, refers}
 use Rattle.resolution_tree.proofs.Verdicts.{cut_down, delegated_refers, ds_cut, no_ds_cut, no_ds_uncut, open_down, own_cut, own_verdict, unaliased_down, unbound, verdict_told}
 use Rattle.resolution_step.specs.KnownDs.{knows}
+use Rattle.resolution_step.specs.Work.{work_of}
 use Rattle.resolution_step.specs.Told.{StepSeen, TellsVerdict, TellsLead, TellsDown, TellsUnsigned, TellsOpen, TellsNoCut, TellsNoneBelow, TellsNothing, AsksFor, Search, Sees, Refuses, Wants, IsCutFound, IsJudgedCut, IsCutTold, IsStepOfOutcome, IsSearched, IsSearchTold, IsSeenTold, IsJudgedStep, IsTold, IsToldAt, at_cut, counts_of, cut_said, cut_searched, cut_told, validity_of_outcome, referral_told, search_of, seen_told, told, bound_told}
 use Rattle.resolution_step.specs.Told as tells
 use Rattle.resolution_step.specs.declared.judged_step.Counts.{Counts}
@@ -263,21 +264,21 @@ told_truly algorithms table h said l n is v of = go is.came is.searched is.is
 
 -- ---- as it is kept
 
-found_searched : (table : List Checked) (h : JudgeInput) (found : AnswerOutcome) → IsFound table h found → IsSearched table h (search_of found) (validity_of_outcome found) (counts_of found)
+found_searched : (table : List Checked) (h : JudgeInput) (found : AnswerOutcome) → IsFound table h found → IsSearched table h (search_of found) (validity_of_outcome found) (counts_of (work_of h) found)
 found_searched table h found is = record { found = found; is_found = is; is = refl; lasts = refl; counted = refl }
 
 -- what a search found, as how long it lasts and its counts are kept
-kept_searched : (table : List Checked) (h : JudgeInput) (found : AnswerOutcome) (l : Option Validity) (n : Counts) → IsFound table h found → l ≡ validity_of_outcome found → n ≡ counts_of found → IsSearched table h (search_of found) l n
+kept_searched : (table : List Checked) (h : JudgeInput) (found : AnswerOutcome) (l : Option Validity) (n : Counts) → IsFound table h found → l ≡ validity_of_outcome found → n ≡ counts_of (work_of h) found → IsSearched table h (search_of found) l n
 kept_searched table h found l n is lasts counted = record { found = found; is_found = is; is = refl; lasts = lasts; counted = counted }
 
-pub cut_in : (algorithms : List ℕ) (table : List Checked) (h : JudgeInput) (found : AnswerOutcome) → IsFound table h found → (n : Name) → n ≡ h.asked.name → (r : Result JudgedStep AllocError)
-    → IfOk r (IsCutFound algorithms n found) → IfOk r (IsJudgedCut algorithms table h)
-cut_in algorithms table h found is n at (Ok t) e = record {
+pub cut_in : (algorithms : List ℕ) (table : List Checked) (h : JudgeInput) (found : AnswerOutcome) → IsFound table h found → (n : Name) → n ≡ h.asked.name → (work : ℕ) → work ≡ work_of h → (r : Result JudgedStep AllocError)
+    → IfOk r (IsCutFound algorithms n work found) → IfOk r (IsJudgedCut algorithms table h)
+cut_in algorithms table h found is n at work of (Ok t) e = record {
   came = search_of found;
-  searched = kept_searched table h found t.validity t.counts is e.1 e.2;
+  searched = kept_searched table h found t.validity t.counts is e.1 (e.2 ∙ ap (λ k. counts_of k found) of);
   is = e.0 ∙ ap (λ m. cut_searched algorithms m (search_of found)) at;
 }
-cut_in algorithms table h found is n at (Err e) k = tt
+cut_in algorithms table h found is n at work of (Err e) k = tt
 
 pub cut_honest : (algorithms : List ℕ) (table : List Checked) (h : JudgeInput) (r : Result JudgedStep AllocError) → IfOk r (IsJudgedCut algorithms table h) → IfOk r (λ t. TellsCutTruly algorithms table h (told t.step))
 cut_honest algorithms table h (Ok t) is = cut_truly algorithms table h (told t.step) t.validity t.counts is
@@ -288,7 +289,7 @@ pub told_in : (algorithms : List ℕ) (table : List Checked) (h : JudgeInput) (f
 told_in algorithms table h found is (Ok t) e = record {
   came = search_of found;
   found_validity = validity_of_outcome found;
-  found_counts = counts_of found;
+  found_counts = counts_of (work_of h) found;
   searched = found_searched table h found is;
   is = e;
 }

@@ -1,5 +1,6 @@
 pub mod KnownDs
 pub mod Counted
+pub mod Work
 pub mod Told
 pub mod Truth
 pub mod Proved

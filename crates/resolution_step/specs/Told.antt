@@ -19,6 +19,7 @@ use Rattle.answer_findings.specs.Seen.{Seen, SeesVerdict, SeesDelegated, SeesNoD
 use Rattle.answer_terms.specs.Redirection.{lead_seen}
 use Rattle.resolution_step.specs.Counted.{plus}
 use Rattle.resolution_step.specs.KnownDs.{known_ds}
+use Rattle.resolution_step.specs.Work.{work_of}
 use Rattle.resolution_step.specs.declared.judged_step.Counts.{Counts}
 use Rattle.resolution_step.specs.declared.judged_step.Step.{Step}
 use Rattle.resolution_step.specs.declared.judged_step.Step.TheVariants as s
@@ -66,11 +67,12 @@ validity_of_outcome (f.Means meaning validity verifications hashes) = validity
 validity_of_outcome (f.Refused refusal verifications hashes) = None
 validity_of_outcome (f.Asks asks verifications hashes) = None
 
--- how often was verified and hashed for it; where signatures are asked for, by the judgements that were made before
-abbrev pub counts_of : AnswerOutcome → Counts
-counts_of (f.Means meaning validity verifications hashes) = record { verifications = verifications; hashes = hashes }
-counts_of (f.Refused refusal verifications hashes) = record { verifications = verifications; hashes = hashes }
-counts_of (f.Asks asks verifications hashes) = record { verifications = verifications; hashes = hashes }
+-- how often was verified and hashed for it; where signatures are asked for, by the judgements that were made before; and the work of
+-- its messages
+abbrev pub counts_of : ℕ → AnswerOutcome → Counts
+counts_of work (f.Means meaning validity verifications hashes) = record { verifications = verifications; hashes = hashes; work = work }
+counts_of work (f.Refused refusal verifications hashes) = record { verifications = verifications; hashes = hashes; work = work }
+counts_of work (f.Asks asks verifications hashes) = record { verifications = verifications; hashes = hashes; work = work }
 
 -- A search of a case's messages comes to this, which lasts so long and for which so often was verified and hashed.
 pub record IsSearched (table : List Checked) (h : JudgeInput) (came : Search) (validity : Option Validity) (counts : Counts) : Type 0 where
@@ -78,7 +80,7 @@ pub record IsSearched (table : List Checked) (h : JudgeInput) (came : Search) (v
   pub is_found : IsFound table h found
   pub is : came ≡ search_of found
   pub lasts : validity ≡ validity_of_outcome found
-  pub counted : counts ≡ counts_of found
+  pub counted : counts ≡ counts_of (work_of h) found
 
 -- ---- DS at a name
 
@@ -194,7 +196,7 @@ abbrev pub IsJudgedCut : List ℕ → List Checked → JudgeInput → JudgedStep
 IsJudgedCut algorithms table h t = IsCutTold algorithms table h (told t.step) t.validity t.counts
 
 abbrev pub IsStepOfOutcome : List ℕ → List Checked → JudgeInput → AnswerOutcome → JudgedStep → Type 0
-IsStepOfOutcome algorithms table h found t = IsSearchTold algorithms table h (search_of found) (validity_of_outcome found) (counts_of found) (told t.step) t.validity t.counts
+IsStepOfOutcome algorithms table h found t = IsSearchTold algorithms table h (search_of found) (validity_of_outcome found) (counts_of (work_of h) found) (told t.step) t.validity t.counts
 
 abbrev pub IsStepOfMeaning : List ℕ → List Checked → JudgeInput → Seen → Option Validity → Counts → JudgedStep → Type 0
 IsStepOfMeaning algorithms table h x validity counts t = IsSeenTold algorithms table h x validity counts (told t.step) t.validity t.counts
@@ -202,5 +204,5 @@ IsStepOfMeaning algorithms table h x validity counts t = IsSeenTold algorithms t
 abbrev pub IsStepAtCut : List ℕ → List Checked → JudgeInput → Name → Option Validity → Counts → JudgedStep → Type 0
 IsStepAtCut algorithms table h c validity counts t = IsToldAt algorithms table h c validity counts (told t.step) t.validity t.counts
 
-abbrev pub IsCutFound : List ℕ → Name → AnswerOutcome → JudgedStep → Type 0
-IsCutFound algorithms n found t = IsAlone (cut_searched algorithms n (search_of found)) (validity_of_outcome found) (counts_of found) (told t.step) t.validity t.counts
+abbrev pub IsCutFound : List ℕ → Name → ℕ → AnswerOutcome → JudgedStep → Type 0
+IsCutFound algorithms n work found t = IsAlone (cut_searched algorithms n (search_of found)) (validity_of_outcome found) (counts_of work found) (told t.step) t.validity t.counts

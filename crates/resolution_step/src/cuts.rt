@@ -10,6 +10,7 @@ ghost use Rattle.resolution_step.specs.Truth.{TellsCutTruly};
 use crate::canonical::canonical_name;
 use crate::judged_step::{Counts, JudgedStep, Step, lasts};
 use crate::known::bound;
+use crate::work::work_of;
 use answer_findings::{
     AnswerOutcome, Case, CheckedSignature, DataList, Meaning, Verdict, judge_answer,
 };
@@ -38,17 +39,20 @@ pub fn cut_step(
         IfOk result (λ t. TellsCutTruly algorithms.now table.now h (told t.step)) }
 {
     let found = judge_answer(alloc, case, table)?;
-    cut_of_outcome(alloc, algorithms, &case.question.name, found)
+    let work = work_of(case);
+    cut_of_outcome(alloc, algorithms, &case.question.name, work, found)
 }
 
-/// What a search for DS at a name comes to tells this of a delegation there.
+/// What a search for DS at a name, of messages of so much work, comes to tells this of a delegation
+/// there.
 fn cut_of_outcome(
     alloc: Global,
     algorithms: &[u8],
     name: &Name<Vec<u8>>,
+    work: u64,
     found: AnswerOutcome,
 ) -> Result<JudgedStep, AllocError>
-    ensures { IfOk result (IsCutFound algorithms.now name.now found) }
+    ensures { IfOk result (IsCutFound algorithms.now name.now work found) }
 {
     match found {
         AnswerOutcome::Means {
@@ -61,6 +65,7 @@ fn cut_of_outcome(
             let counts = Counts {
                 verifications,
                 hashes,
+                work,
             };
             Ok(lasts(step, validity, counts))
         }
@@ -72,6 +77,7 @@ fn cut_of_outcome(
             let counts = Counts {
                 verifications,
                 hashes,
+                work,
             };
             Ok(lasts(Step::Untold(Some(refusal)), None, counts))
         }
@@ -83,6 +89,7 @@ fn cut_of_outcome(
             let counts = Counts {
                 verifications,
                 hashes,
+                work,
             };
             Ok(lasts(Step::Asks(asks), None, counts))
         }

@@ -41,8 +41,8 @@ pub enum Step {
     Asks(Vec<Ask>),
 }
 
-/// What a message tells, how long that lasts, and how often was verified and hashed for it: where
-/// signatures are asked for, by the judgements that were made before.
+/// What a message tells, how long that lasts, and what was counted for it: where signatures are
+/// asked for, of verifications and hashes those of the judgements that were made before.
 #[derive(Debug, Drop)]
 pub struct JudgedStep {
     pub step: Step,
@@ -51,21 +51,25 @@ pub struct JudgedStep {
     pub counts: Counts,
 }
 
-/// How often was verified and hashed.
+/// How often was verified and hashed, and how much work the messages were that were searched.
 #[derive(Clone, Copy, Debug, PartialEq, Eq)]
 pub struct Counts {
     pub verifications: u64,
     pub hashes: u64,
+    /// For each search that of both messages: a label of a record's owner counts one, a record
+    /// eight, NSEC and NSEC3 records with their labels 32 times, and 32 octets one.
+    pub work: u64,
 }
 
 impl Counts {
-    /// Nothing was verified or hashed.
+    /// Nothing was searched.
     pub fn none() -> Counts
         ensures { result ≡ no_counts }
     {
         Counts {
             verifications: 0,
             hashes: 0,
+            work: 0,
         }
     }
 
@@ -76,6 +80,7 @@ impl Counts {
         Counts {
             verifications: self.verifications.saturating_add(other.verifications),
             hashes: self.hashes.saturating_add(other.hashes),
+            work: self.work.saturating_add(other.work),
         }
     }
 }

@@ -8,6 +8,7 @@ pub mod judged_step;
 mod known;
 pub mod laws;
 pub mod steps;
+mod work;
 
 pub use crate::cuts::cut_step;
 pub use crate::judged_step::{Counts, JudgedStep, Step, least_of};

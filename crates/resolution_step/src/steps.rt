@@ -12,6 +12,7 @@ ghost use Rattle.resolution_step.specs.Truth.{TellsTruly};
 use crate::cuts::cut_step;
 use crate::judged_step::{Counts, JudgedStep, Step, lasts, least_of};
 use crate::known::bound;
+use crate::work::work_of;
 use answer_findings::{
     AnswerOutcome, Case, CheckedSignature, DataList, Lead, Meaning, Validity, Verdict, judge_answer,
 };
@@ -63,6 +64,7 @@ fn step_of_outcome(
     ensures { let k = checks.now in
         IfOk result (IsStepOfOutcome k.algorithms.now k.table.now case.now found) }
 {
+    let work = work_of(case);
     match found {
         AnswerOutcome::Means {
             meaning,
@@ -73,6 +75,7 @@ fn step_of_outcome(
             let counts = Counts {
                 verifications,
                 hashes,
+                work,
             };
             step_of_meaning(alloc, case, checks, meaning, validity, counts)
         }
@@ -84,6 +87,7 @@ fn step_of_outcome(
             let counts = Counts {
                 verifications,
                 hashes,
+                work,
             };
             Ok(lasts(Step::Untold(Some(refusal)), None, counts))
         }
@@ -95,6 +99,7 @@ fn step_of_outcome(
             let counts = Counts {
                 verifications,
                 hashes,
+                work,
             };
             Ok(lasts(Step::Asks(asks), None, counts))
         }

@@ -21,7 +21,7 @@ use Rattle.resolution_walk.specs.Between.{LiesBetween}
 use Rattle.resolution_walk.specs.Laws.{AreFewOf, IsNewOf, IsOneOf, WalksWantFew, may_be_wanted, tails}
 use Rattle.resolution_walk.specs.Stopping.{Stops, Here, Below, TooDeep, StopsBehind, AtOnce, Elsewhere, TooMany, Led, ending_within}
 use Rattle.resolution_walk.specs.Truth.{last_of}
-use Rattle.resolution_walk.specs.Wanted.{AreWantedOf, IsSought, lacks, wanted_if, wanted_of}
+use Rattle.resolution_walk.specs.Wanted.{AreWantedOf, IsSought, is_for_keys, lacks, lacks_besides, wanted_if, wanted_of}
 use Rattle.resolution_walk.specs.declared.ending.Ending.{Ending}
 use Rattle.resolution_walk.specs.declared.ending.Ending.TheVariants as ends
 use Rattle.resolution_walk.specs.declared.ending.Wanted.{Wanted}
@@ -91,25 +91,27 @@ module _ (e : Given) (asked : Asked) (zone : Name) (ds : List Ds) where
   new_of : (name : Name) (t : ℕ) → lacks e zone name t ≡ true → IsOneOf (may_be_wanted zone asked) (wanted_of zone name t) → IsNewOf e zone asked (wanted_of zone name t)
   new_of name t k is = record { zone_is = refl; unanswered = unanswered e zone name t k; one_of = is }
 
-  new_each : (a b : Bool) (name : Name) (t : ℕ) → lacks e zone zone 48 ≡ a → lacks e zone name t ≡ b → IsOneOf (may_be_wanted zone asked) (wanted_of zone name t)
-      → AllByRecursion (IsNewOf e zone asked) (wanted_if a (wanted_of zone zone 48) ++ wanted_if b (wanted_of zone name t))
-  new_each true true name t k j is = (new_of zone 48 k keys_one, (new_of name t j is, tt))
-  new_each true false name t k j is = (new_of zone 48 k keys_one, tt)
-  new_each false true name t k j is = (new_of name t j is, tt)
-  new_each false false name t k j is = tt
+  new_each : (a b f : Bool) (name : Name) (t : ℕ) → lacks e zone zone 48 ≡ a → lacks e zone name t ≡ b → IsOneOf (may_be_wanted zone asked) (wanted_of zone name t)
+      → AllByRecursion (IsNewOf e zone asked) (wanted_if a (wanted_of zone zone 48) ++ wanted_if (lacks_besides a f b) (wanted_of zone name t))
+  new_each true true true name t k j is = (new_of zone 48 k keys_one, tt)
+  new_each true true false name t k j is = (new_of zone 48 k keys_one, (new_of name t j is, tt))
+  new_each true false f name t k j is = (new_of zone 48 k keys_one, tt)
+  new_each false true f name t k j is = (new_of name t j is, tt)
+  new_each false false f name t k j is = tt
 
-  some_of : (a b : Bool) (x y : Wanted) → (a || b) ≡ true → 0 < length (wanted_if a x ++ wanted_if b y)
-  some_of true true x y k = omega arith
-  some_of true false x y k = omega arith
-  some_of false true x y k = omega arith
-  some_of false false x y k = absurd (false≢true k)
+  some_of : (a b f : Bool) (x y : Wanted) → (a || b) ≡ true → 0 < length (wanted_if a x ++ wanted_if (lacks_besides a f b) y)
+  some_of true true true x y k = omega arith
+  some_of true true false x y k = omega arith
+  some_of true false f x y k = omega arith
+  some_of false true f x y k = omega arith
+  some_of false false f x y k = absurd (false≢true k)
 
   few_of : (ws : List Wanted) → at_or_above zone asked.name ≡ true → AreWantedOf e asked zone ds ws → AreFewOf e asked ws
   few_of ws above k = subst (AreFewOf e asked) (sym k.are) (record {
     zone = zone;
     above = above;
-    some = some_of (lacks e zone zone 48) (lacks e zone k.sought.name k.sought.rtype) (wanted_of zone zone 48) (wanted_of zone k.sought.name k.sought.rtype) k.some;
-    each = new_each (lacks e zone zone 48) (lacks e zone k.sought.name k.sought.rtype) k.sought.name k.sought.rtype refl refl (sought_one k.sought k.is_sought);
+    some = some_of (lacks e zone zone 48) (lacks e zone k.sought.name k.sought.rtype) (is_for_keys zone k.sought) (wanted_of zone zone 48) (wanted_of zone k.sought.name k.sought.rtype) k.some;
+    each = new_each (lacks e zone zone 48) (lacks e zone k.sought.name k.sought.rtype) (is_for_keys zone k.sought) k.sought.name k.sought.rtype refl refl (sought_one k.sought k.is_sought);
     few = counted;
   })
     where

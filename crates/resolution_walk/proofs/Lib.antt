@@ -5,3 +5,4 @@ pub mod Onward
 pub mod Truly
 pub mod Staying
 pub mod Bounded
+pub mod Once

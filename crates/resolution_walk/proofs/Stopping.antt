@@ -32,6 +32,7 @@ use Rattle.resolution_walk.specs.declared.ending.Uncut.TheVariants as uncut
 use Rattle.resolution_walk.specs.declared.ending.Walk.{Walk}
 use Rattle.resolution_walk.specs.declared.walk.Limits.{Limits}
 use Rattle.resolution_walk.proofs.Cuts.{name_cut}
+use Rattle.resolution_walk.proofs.Once.{once_of}
 use Rattle.resolution_walk.proofs.Turning.{asking, delegated, name_stop, own_stop, untold_stop}
 
 suc_of : (n : ℕ) → 0 < n → suc (n - 1) ≡ n
@@ -41,11 +42,11 @@ module _ (e : Given) (q : Query) where
   -- ---- what is wanted
 
   wants_own : (t : Hop) → is_lacking e q.zone q.asked ≡ true → WantsLacking e q.zone q.asked t → HopStops e q t
-  wants_own (hops.Ends (ends.Wants ws)) lacks k = record { sought = q.asked; is_sought = inl refl; some = lacks; are = k }
+  wants_own (hops.Ends (ends.Wants ws)) lacks k = record { sought = q.asked; is_sought = inl refl; some = lacks; are = k; once = once_of e q.zone q.asked ws.items k }
   wants_own _ lacks k = absurd k
 
   wants_at : (sought : Asked) (t : Hop) → IsBetween e q.asked q.zone q.ds sought → is_lacking e q.zone sought ≡ true → WantsLacking e q.zone sought t → HopStops e q t
-  wants_at sought (hops.Ends (ends.Wants ws)) between lacks k = record { sought = sought; is_sought = inr between; some = lacks; are = k }
+  wants_at sought (hops.Ends (ends.Wants ws)) between lacks k = record { sought = sought; is_sought = inr between; some = lacks; are = k; once = once_of e q.zone sought ws.items k }
   wants_at sought _ between lacks k = absurd k
 
   -- a turn that wants messages leads nowhere

@@ -4,13 +4,13 @@ ghost use Rattle.messages.specs.Questions.{asked_of};
 ghost use Rattle.resolution_evidence.specs.Told.{IsJudgedCut, IsJudgedStep, told};
 ghost use Rattle.resolution_evidence.specs.Given.{IsOf, message_of};
 ghost use Rattle.resolution_walk.specs.Stopping.{IsHopUntold, IsHopTo, WantsLacking};
-ghost use Rattle.resolution_walk.specs.Wanted.{is_lacking, lacking, wanted_of};
+ghost use Rattle.resolution_walk.specs.Wanted.{is_for_keys, is_lacking, lacking, wanted_of};
 
 use crate::ending::{Ending, Hop, JudgedHop, Wanted};
 use crate::evidence::Evidence;
 use crate::query::ZoneQuery;
 use denial_data::Ds;
-use messages::names::{Name, copy_name};
+use messages::names::{Name, ToName, copy_name};
 use messages::question::Question;
 use names_rdata::rtype::Rtype;
 use resolution_evidence::{Case, Counts, JudgedStep, Refusal, Step, cut_step, step};
@@ -130,7 +130,7 @@ pub(crate) fn wanting(
     })
 }
 
-/// What is not there of a zone's keys and its answer to a question.
+/// What is not there of a zone's keys and its answer to a question, each once.
 fn lacking(
     alloc: Global,
     evidence: &Evidence,
@@ -141,13 +141,22 @@ fn lacking(
         IfOk result (λ ws. ws.items ≡ lacking evidence.now zone.now asked) }
 {
     let mut wanted = Vec::new(alloc);
-    if evidence.lacks(zone, zone, Rtype::DNSKEY) {
+    let lacks_keys = evidence.lacks(zone, zone, Rtype::DNSKEY);
+    if lacks_keys {
         wanted.push(wanted_of(alloc, zone, zone, Rtype::DNSKEY)?)?;
     }
-    if evidence.lacks(zone, &question.name, question.rtype) {
+    let is_wanted = lacks_keys && is_for_keys(zone, question);
+    if evidence.lacks(zone, &question.name, question.rtype) && !is_wanted {
         wanted.push(wanted_of(alloc, zone, &question.name, question.rtype)?)?;
     }
     Ok(wanted)
+}
+
+/// Whether a question is the one for a zone's keys.
+fn is_for_keys(zone: &Name<Vec<u8>>, question: &Question) -> bool
+    ensures { result ≡ is_for_keys zone.now (asked_of question.now) }
+{
+    zone.name_eq(&question.name) && question.rtype == Rtype::DNSKEY
 }
 
 /// The answer of a zone to a question for a name and a type, as it is wanted.

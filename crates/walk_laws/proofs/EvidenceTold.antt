@@ -32,6 +32,7 @@ use Rattle.answer_findings.specs.Found.{IsFoundBy}
 use Rattle.answer_findings.specs.Seen.{SeesVerdict}
 use Rattle.resolution_step.specs.Table.{AgreesWith, Tried, answers_with, passes_in, told}
 use Rattle.resolution_step.specs.Told.{TellsVerdict, Sees}
+use Rattle.resolution_step.specs.Work.{work_of}
 use Rattle.resolution_step.specs.declared.judged_step.Counts.{Counts}
 use Rattle.resolution_tree.specs.Tree.{Secure}
 use Rattle.resolution_evidence.specs.Given.{judge_input}
@@ -154,7 +155,7 @@ found = record {
 }
 
 abbrev counts : Counts
-counts = record { verifications = 2; hashes = 0 }
+counts = record { verifications = 2; hashes = 0; work = work_of case }
 
 own_step : IsOwnStep evidence example (own_ds ∷ []) question (TellsVerdict verdict) (Some validity) counts
 own_step = record {

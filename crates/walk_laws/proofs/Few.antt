@@ -23,7 +23,7 @@ use Rattle.resolution_walk.specs.Laws.{AreFewOf, IsNewOf, may_be_wanted, tails}
 use Rattle.resolution_walk.specs.Stopping.{StopsBehind}
 use Rattle.resolution_walk.specs.Truth.{last_of}
 use Rattle.resolution_walk.specs.Between.{IsBetween}
-use Rattle.resolution_walk.specs.Wanted.{AreWantedOf, IsSought, wanted_if, wanted_of}
+use Rattle.resolution_walk.specs.Wanted.{AreWantedOf, IsSought, is_for_keys, lacks_besides, wanted_if, wanted_of}
 use Rattle.resolution_walk.specs.declared.ending.Ending.{Ending}
 use Rattle.resolution_walk.specs.declared.ending.Ending.TheVariants as ends
 use Rattle.resolution_walk.specs.declared.ending.Wanted.{Wanted}
@@ -214,9 +214,9 @@ module _ (one : TreesSayOne) (e : Given) (asked : Asked) (limits : Limits) (zone
   among : (x : Wanted) → In x ws.items → IsAmong all e x
   among x there =
       let lacks : is_lacking e x ≡ true = lacking_each e last zone on_way.on_way.ds ws.items are x there in
-      elim (in_both (wanted_if (is_lacking e (wanted_of zone zone 48)) (wanted_of zone zone 48)) (wanted_if (is_lacking e (wanted_of zone are.sought.name are.sought.rtype)) (wanted_of zone are.sought.name are.sought.rtype)) x (subst (In x) are.are there)) [
+      elim (in_both (wanted_if (is_lacking e (wanted_of zone zone 48)) (wanted_of zone zone 48)) (wanted_if (lacks_besides (is_lacking e (wanted_of zone zone 48)) (is_for_keys zone are.sought) (is_lacking e (wanted_of zone are.sought.name are.sought.rtype))) (wanted_of zone are.sought.name are.sought.rtype)) x (subst (In x) are.are there)) [
         | inl l ↦ of_zone x (wanted_of zone zone 48) (inl refl) (is_if (is_lacking e (wanted_of zone zone 48)) (wanted_of zone zone 48) x l) lacks
-        | inr r ↦ of_sought x there are.is_sought (is_if (is_lacking e (wanted_of zone are.sought.name are.sought.rtype)) (wanted_of zone are.sought.name are.sought.rtype) x r) lacks
+        | inr r ↦ of_sought x there are.is_sought (is_if (lacks_besides (is_lacking e (wanted_of zone zone 48)) (is_for_keys zone are.sought) (is_lacking e (wanted_of zone are.sought.name are.sought.rtype))) (wanted_of zone are.sought.name are.sought.rtype) x r) lacks
       ]
 
   -- one at least of all that may be wanted is there then

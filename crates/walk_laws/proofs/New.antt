@@ -23,7 +23,7 @@ use Rattle.resolution_step.specs.declared.judged_step.Counts.{Counts}
 use Rattle.resolution_evidence.specs.Given.{Given, Message}
 use Rattle.resolution_walk.specs.Judged.{IsHeard, OfAnswer, OfName, IsHeardThere}
 use Rattle.resolution_walk.specs.Stopping.{EndsAt, StopsWithin}
-use Rattle.resolution_walk.specs.Wanted.{AreWantedOf, lacks, wanted_if, wanted_of}
+use Rattle.resolution_walk.specs.Wanted.{AreWantedOf, is_for_keys, lacks, lacks_besides, wanted_if, wanted_of}
 use Rattle.resolution_walk.specs.declared.ending.Ending.TheVariants as ends
 use Rattle.resolution_walk.specs.declared.ending.Walk.{Walk}
 use Rattle.resolution_walk.specs.declared.ending.Wanted.{Wanted}
@@ -43,6 +43,14 @@ lacking_if e true x y is (inl same) = ap (is_lacking e) same ∙ is
 lacking_if e true x y is (inr later) = absurd later
 lacking_if e false x y is there = absurd there
 
+lacking_besides : (e : Given) (a f b : Bool) (x y : Wanted) → is_lacking e x ≡ b → In y (wanted_if (lacks_besides a f b) x) → is_lacking e y ≡ true
+lacking_besides e true true true x y is there = absurd there
+lacking_besides e true false true x y is (inl same) = ap (is_lacking e) same ∙ is
+lacking_besides e true false true x y is (inr later) = absurd later
+lacking_besides e false f true x y is (inl same) = ap (is_lacking e) same ∙ is
+lacking_besides e false f true x y is (inr later) = absurd later
+lacking_besides e a f false x y is there = absurd there
+
 module _ (e : Given) (asked : Asked) (zone : Name) (ds : List Ds) (ws : List Wanted) (k : AreWantedOf e asked zone ds ws) where
   abbrev of_keys : Wanted
   of_keys = wanted_of zone zone 48
@@ -50,23 +58,26 @@ module _ (e : Given) (asked : Asked) (zone : Name) (ds : List Ds) (ws : List Wan
   abbrev of_answer : Wanted
   of_answer = wanted_of zone k.sought.name k.sought.rtype
 
-  abbrev both : List Wanted
-  both = wanted_if (is_lacking e of_keys) of_keys ++ wanted_if (is_lacking e of_answer) of_answer
+  abbrev is_first : Bool
+  is_first = is_for_keys zone k.sought
+
+  abbrev besides : List Wanted
+  besides = wanted_if (lacks_besides (is_lacking e of_keys) is_first (is_lacking e of_answer)) of_answer
 
   pub lacking_each : (x : Wanted) → In x ws → is_lacking e x ≡ true
   lacking_each x there =
-      elim (in_both (wanted_if (is_lacking e of_keys) of_keys) (wanted_if (is_lacking e of_answer) of_answer) x (subst (In x) k.are there)) [
+      elim (in_both (wanted_if (is_lacking e of_keys) of_keys) besides x (subst (In x) k.are there)) [
         | inl l ↦ lacking_if e (is_lacking e of_keys) of_keys x refl l
-        | inr r ↦ lacking_if e (is_lacking e of_answer) of_answer x refl r
+        | inr r ↦ lacking_besides e (is_lacking e of_keys) is_first (is_lacking e of_answer) of_answer x refl r
       ]
 
-  some_if : (a b : Bool) (x y : Wanted) → (a || b) ≡ true → 0 < length (wanted_if a x ++ wanted_if b y)
-  some_if true b x y h = omega arith
-  some_if false true x y h = omega arith
-  some_if false false x y h = absurd (false≢true h)
+  some_if : (a f b : Bool) (x y : Wanted) → (a || b) ≡ true → 0 < length (wanted_if a x ++ wanted_if (lacks_besides a f b) y)
+  some_if true f b x y h = omega arith
+  some_if false f true x y h = omega arith
+  some_if false f false x y h = absurd (false≢true h)
 
   pub some_wanted : 0 < length ws
-  some_wanted = subst (λ (xs : List Wanted). 0 < length xs) (sym k.are) (some_if (is_lacking e of_keys) (is_lacking e of_answer) of_keys of_answer k.some)
+  some_wanted = subst (λ (xs : List Wanted). 0 < length xs) (sym k.are) (some_if (is_lacking e of_keys) is_first (is_lacking e of_answer) of_keys of_answer k.some)
 
   few_if : (a b : Bool) (x y : Wanted) → length (wanted_if a x ++ wanted_if b y) ≤ 2
   few_if true true x y = omega arith
@@ -77,7 +88,7 @@ module _ (e : Given) (asked : Asked) (zone : Name) (ds : List Ds) (ws : List Wan
   pub unanswered : AreUnanswered e ws
   unanswered = record {
     some = some_wanted;
-    few = subst (λ (xs : List Wanted). length xs ≤ 2) (sym k.are) (few_if (is_lacking e of_keys) (is_lacking e of_answer) of_keys of_answer);
+    few = subst (λ (xs : List Wanted). length xs ≤ 2) (sym k.are) (few_if (is_lacking e of_keys) (lacks_besides (is_lacking e of_keys) is_first (is_lacking e of_answer)) of_keys of_answer);
     new = λ x m wanted there. none_passes (λ (m : Message). m.octets) (answers x) e.messages m (in_list e.messages m there) (lacking_each x (in_list ws x wanted));
   }
 

@@ -113,7 +113,9 @@ pub fn aliased_trees_are_walked()
 /// So a walk over the messages of one zone without any alias, for an allowed question that it
 /// refers nowhere, ends in the zone's verdict, or more is wanted, or memory ran out: whichever
 /// judgement of its answer tells nothing, it is refused for want of memory. The walk ends in that
-/// refusal, or behind it in one for DS at a name between.
+/// refusal, or behind it in one for DS at a name between. The zone is the whole tree, so it has no
+/// delegation with DS records of a known algorithm and digest: of zones with such delegations
+/// `keyed_trees_are_walked` speaks.
 pub fn served_zones_are_walked()
     ensures { ServedZonesAreWalked }
 {
@@ -135,7 +137,8 @@ pub fn loops_come_to_verdicts()
 
 /// The loop of a caller over one zone without any alias, which answers as it is published, ends in
 /// the zone's verdict for an allowed question that the zone refers nowhere, unless more signatures
-/// are asked for than are allowed, or memory runs out as it does for `served_zones_are_walked`.
+/// are asked for than are allowed, or memory runs out as it does for `served_zones_are_walked`. As
+/// there, the zone has no delegation with DS records of a known algorithm and digest.
 pub fn zones_come_to_verdicts()
     ensures { ZonesComeToVerdicts }
 {

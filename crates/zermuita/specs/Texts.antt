@@ -46,6 +46,7 @@ code_text c.TooManyCuts = codes "ZERMUITA_TOO_MANY_CUTS: more delegations are on
 code_text c.TooManyAliases = codes "ZERMUITA_TOO_MANY_ALIASES: more aliases are on the way to the name than are allowed"
 code_text c.TooManyMessages = codes "ZERMUITA_TOO_MANY_MESSAGES: more messages are wanted than the evidence may have"
 code_text c.IncompleteDenial = codes "ZERMUITA_INCOMPLETE_DENIAL: records verify, but a denial record that the proof needs is missing"
+code_text c.TooMuchWork = codes "ZERMUITA_TOO_MUCH_WORK: the walk would go on, but may have used up the work that is allowed"
 
 -- The text of a reply's number, or that no reply has it, and an octet 0 behind it.
 pub record IsTextOf (number : ℕ) (octets : List ℕ) : Type 0 where

@@ -87,5 +87,7 @@ fn text_of_code(code: ReplyCode) -> &'static [u8]
             b"ZERMUITA_TOO_MANY_MESSAGES: more messages are wanted than the evidence may have\0",
         ReplyCode::IncompleteDenial =>
             b"ZERMUITA_INCOMPLETE_DENIAL: records verify, but a denial record that the proof needs is missing\0",
+        ReplyCode::TooMuchWork =>
+            b"ZERMUITA_TOO_MUCH_WORK: the walk would go on, but may have used up the work that is allowed\0",
     }
 }

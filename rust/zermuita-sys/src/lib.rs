@@ -67,6 +67,7 @@ pub struct zermuita_evidence {
     pub one_moment: u16,
     pub max_messages: u16,
     pub max_signatures: u32,
+    pub max_work: u64,
 }
 
 /// `struct zermuita_report`: what is said beside a reply.
@@ -133,6 +134,7 @@ pub const ZERMUITA_TOO_MANY_CUTS: u32 = 48;
 pub const ZERMUITA_TOO_MANY_ALIASES: u32 = 49;
 pub const ZERMUITA_TOO_MANY_MESSAGES: u32 = 50;
 pub const ZERMUITA_INCOMPLETE_DENIAL: u32 = 51;
+pub const ZERMUITA_TOO_MUCH_WORK: u32 = 52;
 
 pub const ZERMUITA_DELEGATES_UNKNOWN: u16 = 0;
 pub const ZERMUITA_DELEGATES_YES: u16 = 1;

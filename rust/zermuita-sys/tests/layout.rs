@@ -45,7 +45,7 @@ fn layouts(numbers: &mut Numbers) {
     });
     layout!(numbers, zermuita_evidence {
         size, anchor, ds, name, messages, checked, algorithms, now, rtype, max_nsec3_iterations, max_cuts, max_aliases,
-        one_moment, max_messages, max_signatures,
+        one_moment, max_messages, max_signatures, max_work,
     });
     layout!(numbers, zermuita_report { size, len, until, verifications, hashes, ttl, ede, delegates });
     layout!(numbers, zermuita_zone { held, is_open });
@@ -70,7 +70,7 @@ fn numbers() -> Numbers {
         ZERMUITA_TOO_MANY_SIGNATURES, ZERMUITA_NOTHING_TOLD, ZERMUITA_OUTSIDE, ZERMUITA_ASK, ZERMUITA_WANT,
         ZERMUITA_BUFFER_TOO_SMALL, ZERMUITA_BAD_APEX, ZERMUITA_BAD_DS_SET, ZERMUITA_BAD_NAME, ZERMUITA_BAD_SIGNATURES,
         ZERMUITA_BAD_CASE, ZERMUITA_BAD_MESSAGES, ZERMUITA_TOO_MANY_CUTS, ZERMUITA_TOO_MANY_ALIASES, ZERMUITA_TOO_MANY_MESSAGES,
-        ZERMUITA_INCOMPLETE_DENIAL, ZERMUITA_DELEGATES_UNKNOWN, ZERMUITA_DELEGATES_YES, ZERMUITA_DELEGATES_NO,
+        ZERMUITA_INCOMPLETE_DENIAL, ZERMUITA_TOO_MUCH_WORK, ZERMUITA_DELEGATES_UNKNOWN, ZERMUITA_DELEGATES_YES, ZERMUITA_DELEGATES_NO,
         ZERMUITA_ZONE_DONE, ZERMUITA_ZONE_UNTOLD, ZERMUITA_ZONE_REFUSED, ZERMUITA_ZONE_RESPONSE, ZERMUITA_ZONE_NO_RESPONSE,
         ZERMUITA_ZONE_SIGN, ZERMUITA_ZONE_OUT_OF_MEMORY, ZERMUITA_ZONE_BUFFER_TOO_SMALL, ZERMUITA_ZONE_BAD_SIGNATURES,
         ZERMUITA_ZONE_BAD_CALL, ZERMUITA_ZONE_NOT_OPEN, ZERMUITA_ZONE_IS_OPEN, ZERMUITA_KSK_ROLL, ZERMUITA_KSK_DOUBLE_DS_ROLL,

@@ -58,6 +58,7 @@ pub(crate) struct EvidenceOctets<'a> {
     pub(crate) one_moment: bool,
     pub(crate) max_messages: u16,
     pub(crate) max_signatures: u32,
+    pub(crate) max_work: u64,
 }
 
 /// A structure with zeros behind it, up to what the library may read of it. `ROOM` octets of zeros are more than it reads behind.
@@ -153,6 +154,7 @@ pub(crate) fn resolve(evidence: &EvidenceOctets<'_>) -> Replied {
         one_moment: evidence.one_moment.into(),
         max_messages: evidence.max_messages,
         max_signatures: evidence.max_signatures,
+        max_work: evidence.max_work,
     });
     replied(|out, report| {
         // SAFETY: as in `judge`.

@@ -15,10 +15,12 @@ pub struct Limits {
     pub aliases: u16,
     /// Beside so many messages a walk wants no more. 0: 128.
     pub messages: u16,
+    /// How much work all calls of a walk may be, in the units of `zermuita_resolve(3)`. 0: 6,000,000.
+    pub work: u64,
 }
 
 impl Default for Limits {
     fn default() -> Self {
-        Limits { nsec3_iterations: 100, signatures: 0, cuts: 0, aliases: 0, messages: 0 }
+        Limits { nsec3_iterations: 100, signatures: 0, cuts: 0, aliases: 0, messages: 0, work: 0 }
     }
 }

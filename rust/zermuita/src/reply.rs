@@ -184,8 +184,8 @@ mod tests {
     #[test]
     fn refusals_are_those_of_the_library() {
         for number in 0..256 {
-            // Of a walk alone: nothing told, outside, and three limits.
-            let is_of_walk = matches!(number, 30 | 31 | 48..=50);
+            // Of a walk only: nothing told, outside, and four limits.
+            let is_of_walk = matches!(number, 30 | 31 | 48..=50 | 52);
             assert_eq!(ffi::is_refusal(number), is_of_walk || Refusal::of(number).is_some(), "{number}");
             assert_eq!(ffi::is_verdict(number), number < 12, "{number}");
         }

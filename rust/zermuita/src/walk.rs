@@ -123,7 +123,7 @@ pub enum Outcome {
     },
     /// The name, or the one that the last alias leads to, is not at or below the trust anchor, or DS is asked for at it.
     Outside,
-    /// More delegations, aliases or messages than [`Limits`] allow.
+    /// More delegations, aliases, messages or work than [`Limits`] allow.
     TooMany(Reply),
 }
 
@@ -212,7 +212,9 @@ fn outcome(reply: u32, mut rest: &[u8]) -> Option<Outcome> {
         sys::ZERMUITA_OPTOUT => Outcome::OptOut { zone: take::name(&mut rest)? },
         sys::ZERMUITA_NOTHING_TOLD => Outcome::NothingTold { answer: Wanted::take(&mut rest)? },
         sys::ZERMUITA_OUTSIDE => Outcome::Outside,
-        sys::ZERMUITA_TOO_MANY_CUTS | sys::ZERMUITA_TOO_MANY_ALIASES | sys::ZERMUITA_TOO_MANY_MESSAGES => Outcome::TooMany(Reply(reply)),
+        sys::ZERMUITA_TOO_MANY_CUTS | sys::ZERMUITA_TOO_MANY_ALIASES | sys::ZERMUITA_TOO_MANY_MESSAGES | sys::ZERMUITA_TOO_MUCH_WORK => {
+            Outcome::TooMany(Reply(reply))
+        }
         _ => Outcome::Refused { refusal: Refusal::of(reply)?, answer: Wanted::take(&mut rest) },
     })
 }
@@ -424,6 +426,7 @@ impl Walk {
             one_moment: self.one_moment,
             max_messages: self.limits.messages,
             max_signatures: self.limits.signatures,
+            max_work: self.limits.work,
         }
     }
 }
