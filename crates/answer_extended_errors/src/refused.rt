@@ -5,7 +5,8 @@ ghost use Rattle.definitions.specs.Limits.{pointer_limit};
 ghost use Rattle.messages.specs.Record.{spelled};
 ghost use Rattle.answer_scheme.specs.Answers.{EachAgreeing, SignatureTest};
 ghost use Rattle.answer_judge.specs.Judging.{signatures_in};
-ghost use Rattle.answer_extended_errors.specs.Extended.{extended_error_of, plain_error, records_in, unproven, untrusted};
+ghost use Rattle.answer_extended_errors.specs.Extended.{extended_error_of, plain_error, records_in};
+ghost use Rattle.answer_extended_errors.specs.Extended.{unproven, untrusted};
 
 use crate::answer::unproven_under;
 use crate::delegation::untrusted_keys;

@@ -7,7 +7,8 @@ ghost use Rattle.definitions.specs.Limits.{pointer_limit};
 ghost use Rattle.definitions.specs.Signing.{in_time};
 ghost use Rattle.messages.specs.Record.{fields_of, fields_read, spelled};
 ghost use Rattle.answer_judge_facts.specs.Ranked.{AreRanked};
-ghost use Rattle.answer_extended_errors.specs.Extended.{has_expired, is_early, signature_at, signatures_of, untimely};
+ghost use Rattle.answer_extended_errors.specs.Extended.{has_expired, is_early, signature_at};
+ghost use Rattle.answer_extended_errors.specs.Extended.{signatures_of, untimely};
 ghost use Rattle.answer_extended_errors.specs.Groups.{is_among};
 
 use crate::error::ExtendedError;

@@ -8,7 +8,7 @@ use Rattle.definitions.specs.Limits.{pointer_limit}
 use Rattle.definitions.specs.Name.{Name, same}
 use Rattle.definitions.specs.Signing.{Fields, signed_octets}
 use Rattle.messages.specs.Message.{Spelled, rrsig_at}
-use Rattle.answer_judge_keys.specs.Trusted.{fits_key, is_due, is_signature, signs}
+use Rattle.answer_judge_facts.specs.Trusted.{fits_key, is_due, is_signature, signs}
 use Rattle.answer_judge_facts.specs.Verified.{Trusting, verifies_with, verified_by, verified_with}
 use Rattle.answer_judge.specs.FirstSignature.{Held, IsFirst}
 use Rattle.answer_judge_facts.proofs.JudgeMarks.{with_is}

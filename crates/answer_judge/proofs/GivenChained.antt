@@ -13,21 +13,21 @@ use Rattle.definitions.specs.Zone.{sorted_data}
 use Rattle.definitions.specs.ZoneChain.{Mode}
 use Rattle.messages.specs.HandedRr.{HandedRr}
 use Rattle.answer_scheme.specs.Answers.{Answers}
-use Rattle.answer_judge_keys.specs.Trusted.{digests_to, is_trusted, is_usable, matches_key}
+use Rattle.answer_judge_facts.specs.Trusted.{digests_to, is_trusted, is_usable, matches_key}
 use Rattle.answer_terms.specs.Told.{TellsGroups, AreRecords, AreSignatures, TellsKeys, IsRecord, IsValidSignature, fields_for}
 use Rattle.answer_judge.specs.Judged.{ds_authenticates_keys, keys_of, trusting}
 use Rattle.answer_judge.specs.Judging.{JudgeInput}
-use Rattle.answer_judge_keys.specs.DnskeyAnswer.{key_at, keys_in}
+use Rattle.answer_judge_facts.specs.DnskeyAnswer.{key_at, keys_in}
 use Rattle.answer_terms.specs.EqualTags.{has_equal_tags}
 use Rattle.answer_judge.specs.Meeting.{HasDs, WasGiven}
 use Rattle.messages.specs.Message.{Spelled, data_of}
 use Rattle.answer_terms.specs.Served.{ServedRrset, by_tag, key_group}
 use Rattle.answer_judge_facts.specs.Verified.{Trusting, is_verified}
-use Rattle.answer_judge_keys.proofs.GivenKeys.{IsKeyData, by_tag-has, data_of_key, find_kept, key_data, read_all, read_from, read_has, tags_within}
+use Rattle.answer_judge_facts.proofs.GivenKeys.{IsKeyData, by_tag-has, data_of_key, find_kept, key_data, read_all, read_from, read_has, tags_within}
 use Rattle.answer_judge.proofs.GivenLists.{has_contained}
 use Rattle.answer_judge.proofs.GivenNext.{canonical_octets}
 use Rattle.answer_judge.proofs.GivenSignatures.{IsSignedBy, fits_equal, verified_given}
-use Rattle.answer_judge_keys.proofs.GivenSorted.{all_has, data_has, some_length, sorted_from, sorted_twice}
+use Rattle.answer_judge_facts.proofs.GivenSorted.{all_has, data_has, some_length, sorted_from, sorted_twice}
 use Rattle.messages.proofs.Lists.{Has, all_at, any_from}
 use Rattle.messages.proofs.ZoneNames.{labels_eq-same}
 

@@ -25,7 +25,7 @@ use Rattle.answer_terms.specs.Told.{TellsGroups, fields_for}
 use Rattle.answer_terms.proofs.AllowedTypes.{unsigned_from}
 use Rattle.answer_terms.proofs.Servable.{asked_inside, servable}
 use Rattle.answer_terms.proofs.ZoneData.{label_count-low}
-use Rattle.answer_judge_keys.specs.Trusted.{fits_key, may_expand}
+use Rattle.answer_judge_facts.specs.Trusted.{fits_key, may_expand}
 use Rattle.answer_judge.specs.Meeting.{holds}
 use Rattle.answer_terms.specs.FactsCase.{low_facts, low_link}
 use Rattle.answer_judge.specs.OwnFacts.{TellsZone, ToldFactsAreOwn}

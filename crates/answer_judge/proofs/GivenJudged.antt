@@ -10,7 +10,7 @@ use Rattle.definitions.specs.ZoneChain.{Mode}
 use Rattle.messages.specs.HandedRr.{HandedRr}
 use Rattle.answer_scheme.specs.Answers.{Answers}
 use Rattle.answer_terms.specs.Asking.{asks_alias}
-use Rattle.answer_judge_keys.specs.Trusted.{is_usable}
+use Rattle.answer_judge_facts.specs.Trusted.{is_usable}
 use Rattle.answer_judge.specs.OwnFacts.{passes_for}
 use Rattle.answer_judge.specs.declared.verdict.Refusal.{Refusal}
 use Rattle.answer_judge.specs.declared.verdict.Refusal.TheVariants as r
@@ -22,7 +22,7 @@ use Rattle.answer_judge.specs.Meeting.{HasDs, WasGiven}
 use Rattle.messages.specs.Message.{Asked, Message}
 use Rattle.answer_terms.specs.Served.{by_tag}
 use Rattle.answer_judge.proofs.GivenChained.{chained_given, keys_apart, keys_has}
-use Rattle.answer_judge_keys.proofs.GivenKeys.{by_tag-has, find_kept}
+use Rattle.answer_judge_facts.proofs.GivenKeys.{by_tag-has, find_kept}
 use Rattle.answer_judge.proofs.GivenLists.{has_contained}
 use Rattle.messages.proofs.Lists.{Has, all_at}
 use Rattle.messages.proofs.ZoneNames.{labels_eq-same}

@@ -15,7 +15,7 @@ use Rattle.messages.proofs.Lists.{Has, all_fail, all_at}
 use Rattle.messages.proofs.ZoneNames.{same_labels}
 use Rattle.answer_terms.specs.Told.{TellsGroups, AreRecords, AreSignatures, IsRecord, IsValidSignature, fields_for}
 use Rattle.answer_terms.specs.Served.{ServedRrset}
-use Rattle.answer_judge_keys.specs.Trusted.{is_signature, signs}
+use Rattle.answer_judge_facts.specs.Trusted.{is_signature, signs}
 use Rattle.answer_judge_facts.specs.Verified.{Trusting, is_verified, rrset_in, verified_by, verified_rrset, verifies_with}
 use Rattle.answer_judge.proofs.GivenGroups.{has_twins, is_rrset}
 use Rattle.answer_judge.proofs.GivenRecords.{rrset_given, rrset_here}

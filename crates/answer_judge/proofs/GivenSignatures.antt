@@ -6,7 +6,7 @@ use Rattle.std.proofs.lemmas.Bool.{and_from, eq-eqb, ne_eqb, or_left}
 use Rattle.definitions.specs.Name.{Name, low}
 use Rattle.definitions.specs.Dnskey.{Dnskey}
 use Rattle.definitions.specs.Signing.{Fields, label_count}
-use Rattle.answer_judge_keys.specs.Trusted.{fits_key, is_due, may_expand, signs}
+use Rattle.answer_judge_facts.specs.Trusted.{fits_key, is_due, may_expand, signs}
 use Rattle.answer_terms.specs.Told.{TellsGroups, AreSignatures, IsValidSignature, fields_for, octets_for}
 use Rattle.answer_judge.specs.Meeting.{holds}
 use Rattle.messages.specs.Message.{Spelled}

@@ -25,7 +25,7 @@ use Rattle.answer_judge.specs.Versions.{IsNsecOf, IsNsec3Of, Version, zone_in}
 use Rattle.answer_judge.proofs.GivenGroups.{SaysHashLink, said_of}
 use Rattle.answer_judge.proofs.GivenHashes.{owner_spells}
 use Rattle.answer_judge.proofs.GivenLists.{has_contained}
-use Rattle.answer_judge_keys.proofs.GivenSorted.{has_in}
+use Rattle.answer_judge_facts.proofs.GivenSorted.{has_in}
 use Rattle.answer_judge.proofs.HonestFacts.{IsHashRecord, IsKnown, IsNextRecord}
 use Rattle.answer_judge.proofs.HonestReads.{ReadsNext, link_read}
 use Rattle.answer_judge.proofs.OwnHashed.{by_hash, by_hash_total, hashed_group, says}

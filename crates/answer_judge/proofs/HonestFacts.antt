@@ -24,13 +24,13 @@ use Rattle.answer_terms.specs.Hashing.{hash_in}
 use Rattle.answer_scheme.specs.Answers.{Answers}
 use Rattle.answer_judge.specs.Honest.{IsHonest, Signing, WasSigned, sought_of_answer}
 use Rattle.answer_judge.specs.Versions.{IsOfChain, IsRrsetOf, OfZone, OfChain, OfParameters, SignedRrset, Version, zone_in}
-use Rattle.answer_judge_keys.specs.Trusted.{labels_fit, may_expand}
+use Rattle.answer_judge_facts.specs.Trusted.{labels_fit, may_expand}
 use Rattle.answer_judge.specs.Judged.{trusting}
 use Rattle.answer_judge.specs.Judging.{JudgeInput}
 use Rattle.answer_judge_facts.specs.Sought.{answer_sought}
 use Rattle.answer_judge_facts.specs.Verified.{Trusting, datum_of, hash_link_at, hash_link_with, is_hash_alone, is_hash_link, is_link, is_verified, link_at, link_of, rrset_in, verified_by, verified_rrset}
 use Rattle.answer_judge.proofs.GivenNext.{canonical_nsec, canonical_nsec3}
-use Rattle.answer_judge_keys.proofs.GivenSorted.{data_has}
+use Rattle.answer_judge_facts.proofs.GivenSorted.{data_has}
 use Rattle.answer_judge_facts.proofs.JudgeCase.{rrset_in-owner, signed_owner-owner}
 use Rattle.answer_judge_facts.proofs.JudgeTimes.{sought-owner}
 use Rattle.answer_judge_facts.proofs.KeptItems.{kept_has, mapped, only_item, when}

@@ -17,14 +17,14 @@ use Rattle.answer_terms.specs.Chainable.{HasChain}
 use Rattle.answer_terms.specs.Hashing.{Hasher, hash_in}
 use Rattle.answer_judge.specs.Honest.{AnswersHonest, IsHonestInput, FewIterations, HasOneRrset, IsSaidByOne, IsVersion, OneAtATime, SaysOneOf, Settled, Signing}
 use Rattle.answer_judge.specs.Versions.{Version, zone_in}
-use Rattle.answer_judge_keys.specs.Trusted.{is_usable}
+use Rattle.answer_judge_facts.specs.Trusted.{is_usable}
 use Rattle.answer_judge.specs.Judged.{AnswersAs, judged, keys_of}
 use Rattle.answer_judge.specs.Judging.{Answer, JudgeInput, Refuses, Says}
 use Rattle.answer_judge.specs.declared.verdict.Refusal.TheVariants as r
 use Rattle.answer_judge.proofs.GivenFacts.{FitsRecords}
 use Rattle.answer_judge.proofs.GivenHashing.{hashes_agree}
 use Rattle.answer_judge.proofs.GivenLists.{contained_has, has_contained}
-use Rattle.answer_judge_keys.proofs.GivenSorted.{filter_from}
+use Rattle.answer_judge_facts.proofs.GivenSorted.{filter_from}
 use Rattle.answer_judge_facts.proofs.KeptItems.{passes_has}
 use Rattle.answer_judge.proofs.HonestFacts.{IsKnown}
 use Rattle.answer_judge.proofs.HonestKeys.{all_published}

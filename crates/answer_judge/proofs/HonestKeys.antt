@@ -19,13 +19,13 @@ use Rattle.answer_terms.proofs.KeyData.{key_read_back}
 use Rattle.answer_scheme.specs.Answers.{Answers}
 use Rattle.answer_judge.specs.Honest.{IsHonest, NoStranger, Signing, WasSigned, sought_of_keys}
 use Rattle.answer_judge.specs.Versions.{IsOfChain, IsRrsetOf, OfZone, OfChain, OfParameters, SignedRrset, Version, zone_in}
-use Rattle.answer_judge_keys.specs.Trusted.{is_trusted, is_usable, matches_key}
+use Rattle.answer_judge_facts.specs.Trusted.{is_trusted, is_usable, matches_key}
 use Rattle.answer_judge.specs.Judged.{ds_authenticates_keys, keys_of, trusting}
 use Rattle.answer_judge.specs.Judging.{JudgeInput}
-use Rattle.answer_judge_keys.specs.DnskeyAnswer.{key_at, keys_in}
-use Rattle.answer_judge_keys.proofs.GivenKeys.{IsKeyData, data_of_key, key_data}
+use Rattle.answer_judge_facts.specs.DnskeyAnswer.{key_at, keys_in}
+use Rattle.answer_judge_facts.proofs.GivenKeys.{IsKeyData, data_of_key, key_data}
 use Rattle.answer_judge.proofs.GivenLists.{contained_has, has_contained}
-use Rattle.answer_judge_keys.proofs.GivenSorted.{data_has, sorted_from}
+use Rattle.answer_judge_facts.proofs.GivenSorted.{data_has, sorted_from}
 use Rattle.answer_judge.proofs.HonestFacts.{IsKnown, not_added, signed_has}
 use Rattle.answer_judge_facts.proofs.KeptItems.{kept_from, passes_has}
 use Rattle.answer_judge.proofs.HonestReads.{IsDatum, ReadsRecord, data_read, message_read, octets_16, octets_join}

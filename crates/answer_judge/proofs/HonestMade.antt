@@ -32,7 +32,7 @@ use Rattle.answer_terms.proofs.ZoneData.{label_count-low, low-owner_among}
 use Rattle.answer_terms.proofs.ZoneNaming.{chain_named, first_name, lower_name, owner_name}
 use Rattle.answer_judge.proofs.GivenFacts.{from_joined}
 use Rattle.answer_judge.proofs.GivenLists.{contained_has}
-use Rattle.answer_judge_keys.proofs.GivenSorted.{filter_from, in_has, sorted_from}
+use Rattle.answer_judge_facts.proofs.GivenSorted.{filter_from, in_has, sorted_from}
 use Rattle.answer_judge_facts.proofs.KeptItems.{has_from_map}
 use Rattle.answer_judge.proofs.HonestTold.{owner_whole}
 use Rattle.answer_judge.proofs.OwnAnswer.{some_data}

@@ -32,7 +32,7 @@ use Rattle.answer_judge.specs.Versions.{IsRrsetOf, OfChain, OfZone, Version, zon
 use Rattle.answer_judge_facts.specs.Times.{times_of}
 use Rattle.answer_judge.specs.OwnMessages.{signing_of}
 use Rattle.answer_judge.proofs.GivenLists.{contained_has}
-use Rattle.answer_judge_keys.proofs.GivenSorted.{has_in, in_has}
+use Rattle.answer_judge_facts.proofs.GivenSorted.{has_in, in_has}
 use Rattle.answer_judge.proofs.HonestMade.{ChainKind, IsRoomy, IsZoneGroup, KeyKind, Kind, ZoneKind, signed_has}
 use Rattle.answer_judge.proofs.HonestSpelled.{fits_16, fits_32, kept_32, tidied, tidied_octets}
 use Rattle.answer_judge.proofs.HonestTold.{owner_whole}

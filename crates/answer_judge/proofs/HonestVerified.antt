@@ -18,7 +18,7 @@ use Rattle.messages.specs.Message.{AreOctets, Message, Spelled, message, rrsig_a
 use Rattle.messages.proofs.Lists.{Has, all_at, all_more, found, some_is}
 use Rattle.messages.proofs.ZoneNames.{same_labels}
 use Rattle.answer_scheme.specs.Answers.{Answers}
-use Rattle.answer_judge_keys.specs.Trusted.{fits_key, is_due, is_signature, is_usable, labels_fit, signs}
+use Rattle.answer_judge_facts.specs.Trusted.{fits_key, is_due, is_signature, is_usable, labels_fit, signs}
 use Rattle.answer_judge.specs.Honest.{IsHonest, MayBeUsed, over}
 use Rattle.answer_judge.specs.Judged.{trusting}
 use Rattle.answer_judge.specs.Judging.{JudgeInput}
@@ -26,7 +26,7 @@ use Rattle.answer_judge_facts.specs.Sought.{Sought}
 use Rattle.answer_judge_facts.specs.Verified.{Trusting, is_verified, verified_by, verified_with, verifies_with}
 use Rattle.answer_judge.proofs.FirstSigns.{opened, read_of}
 use Rattle.answer_judge.proofs.GivenLists.{contained_has}
-use Rattle.answer_judge_keys.proofs.GivenSorted.{in_has}
+use Rattle.answer_judge_facts.proofs.GivenSorted.{in_has}
 use Rattle.answer_judge_facts.proofs.JudgeCase.{signed_octets-owner}
 use Rattle.answer_judge.proofs.HonestReads.{IsDatum, IsRead, ReadsFields, ReadsRecord, all_drop, fields_read, lowered_read, message_read, octets_16, octets_32, octets_join, wire_octets}
 

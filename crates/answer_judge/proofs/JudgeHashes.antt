@@ -8,7 +8,7 @@ use Rattle.messages.specs.Message.{Message, Spelled, message}
 use Rattle.answer_scheme.specs.Answers.{Answers}
 use Rattle.answer_judge.specs.Due.{Counts, hashes_beyond, hashes_in_bytes, hashes_in_messages, hashes_of_answer, hashes_of_proof}
 use Rattle.answer_judge_facts.specs.Times.{are_unlike, proof_times}
-use Rattle.answer_judge_keys.specs.Trusted.{is_usable}
+use Rattle.answer_judge_facts.specs.Trusted.{is_usable}
 use Rattle.answer_judge.specs.Judged.{ds_authenticates_keys, keys_of, trusting}
 use Rattle.answer_judge.specs.Judging.{Answer, JudgeInput, message_refusal}
 use Rattle.answer_judge_facts.specs.Verified.{verified_facts}

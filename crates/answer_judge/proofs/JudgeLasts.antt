@@ -7,8 +7,8 @@ use Rattle.messages.specs.Message.{Message, Spelled, message}
 use Rattle.answer_scheme.specs.Answers.{Answers, EachAgreeing, SignatureTest, with_test}
 use Rattle.answer_judge.specs.Stages.{trusting_named}
 use Rattle.answer_judge.specs.Judging.{JudgeInput}
-use Rattle.answer_judge_keys.specs.DnskeyAnswer.{keys_in}
-use Rattle.answer_judge_keys.specs.Trusted.{is_trusted, is_usable}
+use Rattle.answer_judge_facts.specs.DnskeyAnswer.{keys_in}
+use Rattle.answer_judge_facts.specs.Trusted.{is_trusted, is_usable}
 use Rattle.answer_judge_facts.specs.declared.validity.Validity.{Validity}
 use Rattle.answer_judge.specs.Judged.{keys_of, trusting}
 use Rattle.answer_judge_facts.specs.Validity.{answer_validity, answer_seconds, answer_ttls, key_seconds, least_or_max}

@@ -9,10 +9,10 @@ use Rattle.answer_judge.specs.Stages.{tries_of_keys}
 use Rattle.answer_judge_facts.specs.Counted.{tries}
 use Rattle.answer_judge.specs.Due.{answer_tries, key_tries, tries_beyond, tries_in_bytes, tries_in_messages}
 use Rattle.answer_judge_facts.specs.Sought.{answer_sought}
-use Rattle.answer_judge_keys.specs.Trusted.{is_usable}
+use Rattle.answer_judge_facts.specs.Trusted.{is_usable}
 use Rattle.answer_judge.specs.Judged.{ds_authenticates_keys, keys_of, trusting}
 use Rattle.answer_judge.specs.Judging.{JudgeInput, message_refusal}
-use Rattle.answer_judge_keys.specs.DnskeyAnswer.{keys_in}
+use Rattle.answer_judge_facts.specs.DnskeyAnswer.{keys_in}
 
 -- both messages were read, and they bring no refusal
 beyond : (a : Answers) (h : JudgeInput) (keys answer : Message) → message_refusal pointer_limit h ≡ None → message pointer_limit h.dnskey_bytes ≡ Ok keys → message pointer_limit h.answer_bytes ≡ Ok answer → tries_beyond a pointer_limit h ≡ tries_in_messages a pointer_limit h keys answer

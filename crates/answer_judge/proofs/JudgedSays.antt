@@ -11,7 +11,7 @@ use Rattle.messages.specs.Message.{Message, message}
 use Rattle.answer_scheme.specs.Answers.{Answers}
 use Rattle.answer_judge.specs.declared.verdict.Refusal.{Refusal}
 use Rattle.answer_judge.specs.declared.verdict.Refusal.TheVariants as r
-use Rattle.answer_judge_keys.specs.Trusted.{is_usable}
+use Rattle.answer_judge_facts.specs.Trusted.{is_usable}
 use Rattle.answer_judge.specs.Judged.{are_mixed, has_unlike_times, are_over, by_facts, decided_by, facts_in, ds_authenticates_keys, is_unhashed, judged, judged_answer, judged_bytes, judged_facts, judged_messages, keys_of}
 use Rattle.answer_judge.specs.Judging.{Answer, JudgeInput, Refuses, Says, first_refusal, is_judged}
 

@@ -24,11 +24,11 @@ use Rattle.messages.proofs.ZoneNames.{same_labels}
 use Rattle.answer_terms.specs.Accepting.{zone_with}
 use Rattle.answer_terms.specs.Served.{ServedRrset, Served, ahead, ahead_open, expanded, if_any, owner_among, rrset, served_of, soa, under, unsigned_ns}
 use Rattle.answer_terms.proofs.ZoneData.{label_count-low, low-owner_among}
-use Rattle.answer_judge_keys.specs.Trusted.{may_expand}
+use Rattle.answer_judge_facts.specs.Trusted.{may_expand}
 use Rattle.answer_judge.proofs.GivenGroups.{has_twins, is_nsec, is_nsec3, is_rrset}
 use Rattle.answer_judge.proofs.GivenRrset.{is_ordinary, is_signed_rrset}
 use Rattle.answer_judge.proofs.GivenSignatures.{fits_equal, fits_owner}
-use Rattle.answer_judge_keys.proofs.GivenSorted.{data_has, in_has, some_length, sorted_twice}
+use Rattle.answer_judge_facts.proofs.GivenSorted.{data_has, in_has, some_length, sorted_twice}
 
 -- the RRset of the question, signed, and what it proves
 pub record IsRrsetOf (apex q : Name) (t : ℕ) (g : ServedRrset) (r : Rrset) : Type 0 where

@@ -22,11 +22,11 @@ use Rattle.answer_terms.proofs.AllowedTypes.{unadded, unsigned_from}
 use Rattle.answer_terms.proofs.Servable.{servable}
 use Rattle.denial_laws.specs.Truth.{IsServable}
 use Rattle.answer_judge_facts.specs.Verified.{Trusting, rrset_in}
-use Rattle.answer_judge_keys.proofs.GivenSorted.{sorted_twice}
+use Rattle.answer_judge_facts.proofs.GivenSorted.{sorted_twice}
 use Rattle.answer_judge_facts.proofs.JudgeCase.{rrset_in-owner, signed_octets-owner}
 use Rattle.answer_judge.specs.Honest.{IsHonest, NothingForged, Signing, WasSigned, sought_of_answer}
 use Rattle.answer_judge.specs.Judging.{JudgeInput}
-use Rattle.answer_judge_keys.specs.DnskeyAnswer.{keys_in}
+use Rattle.answer_judge_facts.specs.DnskeyAnswer.{keys_in}
 use Rattle.answer_judge.specs.OwnFacts.{TellsZone}
 use Rattle.answer_judge.specs.OwnMessages.{OwnAnswersAreHonest, OwnKeysAreHonest, signing_of}
 use Rattle.answer_judge.proofs.GivenChained.{keys_data}

@@ -16,7 +16,7 @@ use Rattle.messages.proofs.Lists.{Has, some_is}
 use Rattle.messages.proofs.ZoneNames.{labels_eq-same, same_labels}
 use Rattle.answer_scheme.specs.Answers.{Answers}
 use Rattle.answer_scheme.specs.Moments.{second_of}
-use Rattle.answer_judge_keys.specs.Trusted.{fits_key, is_signature, is_trusted, is_usable, labels_fit, signs}
+use Rattle.answer_judge_facts.specs.Trusted.{fits_key, is_signature, is_trusted, is_usable, labels_fit, signs}
 use Rattle.answer_judge.specs.Judging.{Answer, JudgeInput, Refuses, Says, first_refusal}
 use Rattle.answer_judge_facts.specs.declared.validity.Validity.{Validity}
 use Rattle.answer_judge.specs.declared.verdict.Refusal.TheVariants as r

@@ -14,7 +14,7 @@ use Rattle.messages.specs.Message.{Message, message}
 use Rattle.messages.proofs.Lists.{any_from}
 use Rattle.answer_judge_rules.specs.Hashes.{hash_among}
 use Rattle.answer_scheme.specs.Answers.{Answers}
-use Rattle.answer_judge_keys.specs.Trusted.{is_signature, is_trusted, is_usable}
+use Rattle.answer_judge_facts.specs.Trusted.{is_signature, is_trusted, is_usable}
 use Rattle.answer_judge.specs.Timely.{RefusesUntimely, has_timely, holds_now}
 use Rattle.answer_judge.specs.Judged.{AnswersAs, decided_by, judged, keys_of, trusting}
 use Rattle.answer_judge.specs.Judging.{Answer, JudgeInput, Refuses, Says}

@@ -3,7 +3,7 @@ use Rattle.std.specs.Prelude.{◌≡◌, ◌⊎◌, ℕ, ◌+◌, Bool, true, fa
 use Rattle.definitions.specs.Dnskey.{Dnskey}
 use Rattle.messages.specs.Message.{Message, message}
 use Rattle.answer_scheme.specs.Answers.{Answers}
-use Rattle.answer_judge_keys.specs.Trusted.{is_trusted, is_usable}
+use Rattle.answer_judge_facts.specs.Trusted.{is_trusted, is_usable}
 use Rattle.denial_laws.specs.Facts.{Facts}
 use Rattle.answer_judge_rules.specs.Hashes.{hashed_for}
 use Rattle.answer_judge.specs.Judged.{are_mixed, has_unlike_times, are_over, facts_in, ds_authenticates_keys, keys_of, trusting}

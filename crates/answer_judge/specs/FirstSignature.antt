@@ -4,7 +4,7 @@ use Rattle.definitions.specs.Limits.{pointer_limit}
 use Rattle.definitions.specs.Name.{Name}
 use Rattle.definitions.specs.Signing.{Fields}
 use Rattle.messages.specs.Message.{Spelled, rrsig_at}
-use Rattle.answer_judge_keys.specs.Trusted.{is_due, is_signature, signs}
+use Rattle.answer_judge_facts.specs.Trusted.{is_due, is_signature, signs}
 use Rattle.answer_judge_facts.specs.Verified.{Trusting, is_verified, verified_by}
 
 -- an RRset and the message that it stands in

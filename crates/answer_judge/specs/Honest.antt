@@ -15,9 +15,9 @@ use Rattle.messages.specs.WrittenLaws.{IsQuestion}
 use Rattle.answer_scheme.specs.Answers.{Answers}
 use Rattle.answer_terms.specs.Chainable.{HasChain}
 use Rattle.answer_terms.specs.Hashing.{hash_in}
-use Rattle.answer_judge_keys.specs.Trusted.{is_trusted, is_usable}
+use Rattle.answer_judge_facts.specs.Trusted.{is_trusted, is_usable}
 use Rattle.answer_judge.specs.Judging.{Answer, Says, Refuses, JudgeInput}
-use Rattle.answer_judge_keys.specs.DnskeyAnswer.{keys_in}
+use Rattle.answer_judge_facts.specs.DnskeyAnswer.{keys_in}
 use Rattle.answer_judge_facts.specs.Sought.{Sought, answer_sought, keys_sought}
 use Rattle.answer_judge_facts.specs.Times.{Times, times_of}
 use Rattle.answer_judge.specs.Versions.{Version, SignedRrset, IsRrsetOf, zone_in}

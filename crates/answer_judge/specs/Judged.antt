@@ -5,7 +5,7 @@ use Rattle.std.specs.Str.{bytes_eq}
 use Rattle.definitions.specs.Dnskey.{Dnskey, dnskey_data}
 use Rattle.definitions.specs.Zone.{Verdict, Unsigned, sorted_data}
 use Rattle.answer_scheme.specs.Answers.{Answers}
-use Rattle.answer_judge_keys.specs.Trusted.{is_usable, is_trusted}
+use Rattle.answer_judge_facts.specs.Trusted.{is_usable, is_trusted}
 use Rattle.denial_laws.specs.Deciding.{decided}
 use Rattle.denial_laws.specs.Facts.{Facts, HashLink}
 use Rattle.answer_judge_rules.specs.Hashes.{fails_among, hash_among, hashed_for}
@@ -13,7 +13,7 @@ use Rattle.answer_judge_rules.specs.declared.verdict.Verdict.{Verdict as CodeVer
 use Rattle.answer_judge.specs.declared.verdict.Refusal.{Refusal}
 use Rattle.answer_judge.specs.declared.verdict.Refusal.TheVariants as r
 use Rattle.answer_judge.specs.Judging.{Answer, Says, Refuses, JudgeInput, first_refusal, message_refusal}
-use Rattle.answer_judge_keys.specs.DnskeyAnswer.{keys_in}
+use Rattle.answer_judge_facts.specs.DnskeyAnswer.{keys_in}
 use Rattle.answer_judge_rules.specs.Rules.{verdict_of}
 use Rattle.messages.specs.Message.{Message, message}
 use Rattle.answer_judge_facts.specs.Times.{are_unlike, proof_times}

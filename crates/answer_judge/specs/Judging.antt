@@ -12,7 +12,7 @@ use Rattle.answer_judge.specs.declared.verdict.Refusal.{Refusal}
 use Rattle.answer_judge.specs.declared.verdict.Refusal.TheVariants as r
 use Rattle.answer_judge.specs.declared.verdict.Judgement.{Judgement}
 use Rattle.answer_judge.specs.declared.verdict.Refused.{Refused}
-use Rattle.answer_judge_keys.specs.DnskeyAnswer.{keys_in}
+use Rattle.answer_judge_facts.specs.DnskeyAnswer.{keys_in}
 
 -- what a judge answers, apart from its counts
 pub data Answer : Type 0 where

@@ -3,7 +3,7 @@ use Rattle.std.specs.Prelude.{◌≡◌, ℕ, ◌+◌, ◌/◌, ◌≤◌, ◌++
 use Rattle.messages.specs.Message.{AreOctets, Message, message}
 use Rattle.answer_scheme.specs.Answers.{Answers}
 use Rattle.answer_scheme.specs.Moments.{second_of}
-use Rattle.answer_judge_keys.specs.Trusted.{is_trusted, is_usable}
+use Rattle.answer_judge_facts.specs.Trusted.{is_trusted, is_usable}
 use Rattle.answer_judge.specs.Judging.{JudgeInput}
 use Rattle.answer_judge.specs.declared.verdict.Judgement.{Judgement}
 use Rattle.answer_judge_facts.specs.declared.validity.Validity.{Validity}

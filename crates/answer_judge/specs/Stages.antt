@@ -5,7 +5,7 @@ use Rattle.definitions.specs.Zone.{sorted_data}
 use Rattle.messages.specs.Message.{Spelled}
 use Rattle.answer_scheme.specs.Answers.{Answers}
 use Rattle.answer_judge_facts.specs.Counted.{tries}
-use Rattle.answer_judge_keys.specs.Trusted.{is_trusted}
+use Rattle.answer_judge_facts.specs.Trusted.{is_trusted}
 use Rattle.answer_judge.specs.Judged.{trusting}
 use Rattle.answer_judge.specs.Judging.{JudgeInput}
 use Rattle.answer_judge_facts.specs.Sought.{keys_sought}

@@ -4,7 +4,7 @@ use Rattle.std.specs.List.{list_any}
 use Rattle.definitions.specs.Signing.{in_time}
 use Rattle.messages.specs.Message.{Spelled, message, rrsig_at}
 use Rattle.answer_scheme.specs.Answers.{Answers}
-use Rattle.answer_judge_keys.specs.Trusted.{is_signature}
+use Rattle.answer_judge_facts.specs.Trusted.{is_signature}
 use Rattle.answer_judge.specs.Judging.{Answer, Says, Refuses, JudgeInput}
 use Rattle.answer_judge.specs.Judged.{AnswersAs, judged}
 

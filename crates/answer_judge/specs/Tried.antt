@@ -2,7 +2,7 @@
 use Rattle.std.specs.Prelude.{ℕ, false, ◌&&◌, ◌||◌, [], filter, length, Some, None, Ok, Err, nat_eq, if◌then◌else◌}
 use Rattle.messages.specs.Message.{Message, message}
 use Rattle.answer_scheme.specs.Answers.{Answers, SignatureTest}
-use Rattle.answer_judge_keys.specs.Trusted.{is_trusted, is_usable}
+use Rattle.answer_judge_facts.specs.Trusted.{is_trusted, is_usable}
 use Rattle.answer_judge.specs.Judged.{ds_authenticates_keys, keys_of, trusting}
 use Rattle.answer_judge.specs.Judging.{JudgeInput, first_refusal, message_refusal}
 use Rattle.answer_judge_facts.specs.Sought.{answer_sought, keys_sought}

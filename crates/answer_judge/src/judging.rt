@@ -1,5 +1,6 @@
 //! Judging a zone answer from bytes alone (RFC 4035, 5).
-ghost use Rattle.std.specs.Prelude.{◌≡◌, ◌==◌, ◌+◌, ◌++◌, ◌<◌, ◌≤◌, ◌⊎◌, IfOk, IfErr, OnOk, length, map, min, true, false};
+ghost use Rattle.std.specs.Prelude.{◌≡◌, ◌==◌, ◌+◌, ◌++◌, ◌<◌, ◌≤◌, ◌⊎◌, IfOk, IfErr, OnOk, length};
+ghost use Rattle.std.specs.Prelude.{map, min, true, false};
 ghost use Rattle.definitions.specs.Limits.{pointer_limit};
 ghost use Rattle.messages.specs.Questions.{asked_of};
 ghost use Rattle.messages.specs.Record.{spelled};
@@ -14,7 +15,10 @@ ghost use Rattle.answer_judge.specs.Judged.{judged, said, AnswersAs};
 ghost use Rattle.answer_judge.specs.Lasts.{LastsSo, validity_in_bytes};
 ghost use Rattle.answer_judge_facts.specs.declared.validity.Validity.{Validity};
 ghost use Rattle.answer_judge.specs.Meeting.{AnswersGiven, JudgesSo};
-ghost use Rattle.answer_judge.specs.Judging.{Judges, RefusesFirst, answer_of, handed, verifications_of, hashes_of, is_first, is_judged, may_ask, message_refusal, same_question, hash_bound, verification_bound};
+ghost use Rattle.answer_judge.specs.Judging.{Judges, RefusesFirst, answer_of, handed};
+ghost use Rattle.answer_judge.specs.Judging.{verifications_of, hashes_of, is_first, is_judged};
+ghost use Rattle.answer_judge.specs.Judging.{may_ask, message_refusal, same_question, hash_bound};
+ghost use Rattle.answer_judge.specs.Judging.{verification_bound};
 ghost use Rattle.answer_scheme.specs.Answers.{EachAgreeing, SignatureTest, with_test};
 ghost use Rattle.answer_judge_facts.specs.Asked.{Implies};
 ghost use Rattle.answer_judge.specs.Tried.{is_tried_beyond, is_tried_signature};
@@ -27,7 +31,7 @@ use crate::case::Case;
 use crate::judging::deciding::judge_proof;
 use crate::judging::trusting::{keys_that_may_sign, read_proof, read_unlike_keys};
 use crate::verdict::{Judgement, Refusal, Refused, Validity, Verdict};
-use answer_judge_keys::check_run::CheckRun;
+use answer_judge_facts::keys::check_run::CheckRun;
 use answer_scheme::checks::Checks;
 use answer_terms::question::asks_alias;
 pub use answer_terms::question::is_allowed;

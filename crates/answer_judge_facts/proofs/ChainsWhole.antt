@@ -22,7 +22,7 @@ use Rattle.messages.specs.declared.view.ViewRecord.{ViewRecord}
 use Rattle.answer_judge_facts.specs.Marked.{AreGathered, IsAlone, IsGathered, is_chain, is_chain_type, stands_alone}
 use Rattle.answer_judge_facts.specs.Ranked.{chain_cmp}
 use Rattle.answer_judge_facts.specs.Verified.{datum_of, one_known, rrset_in}
-use Rattle.answer_terms.specs.HashOwner.{spells_hash}
+use Rattle.answer_judge_keys.specs.HashOwner.{spells_hash}
 use Rattle.answer_judge_facts.specs.declared.groups.SignedRrset.{SignedRrset}
 use Rattle.answer_judge_facts.proofs.ChainRuns.{chain_total}
 use Rattle.answer_judge_keys.proofs.GivenSorted.{all_has}

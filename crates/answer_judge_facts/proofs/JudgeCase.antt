@@ -16,9 +16,9 @@ use Rattle.messages.specs.Message.{Spelled, canonical_data, rrsig_at}
 use Rattle.messages.specs.Record.{Signature, fields_of, fields_read}
 use Rattle.numbers.specs.Decoding.{decoded}
 use Rattle.answer_judge_facts.specs.Verified.{Trusting, datum_of, rrset_in, verifies_with, is_verified}
-use Rattle.answer_terms.specs.HashOwner.{spells_hash}
+use Rattle.answer_judge_keys.specs.HashOwner.{spells_hash}
 use Rattle.messages.proofs.ZoneNames.{low-low, at_or_above-low}
-use Rattle.answer_terms.proofs.ZoneData.{label_count-low}
+use Rattle.answer_judge_keys.proofs.ZoneData.{label_count-low}
 
 pub same-owner : (r a b : Name) → low a ≡ low b → same r a ≡ same r b
 same-owner r a b h = ap (labels_eq (low r)) h

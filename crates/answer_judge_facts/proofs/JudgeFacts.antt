@@ -14,7 +14,7 @@ use Rattle.denial_laws.specs.Facts.{HashLink, Link, Rrset}
 use Rattle.messages.specs.Message.{Spelled, nsec3_at}
 use Rattle.answer_judge_facts.specs.Sought.{is_alone}
 use Rattle.answer_judge_facts.specs.Verified.{Trusting, hash_link_at, hash_link_with, is_hash_alone, is_hash_link, is_verified, link_at, link_of, one_known, rrset_in, verified_by, verified_facts, verified_hash_links, verified_links, verified_rrset}
-use Rattle.answer_terms.specs.HashOwner.{spells_hash}
+use Rattle.answer_judge_keys.specs.HashOwner.{spells_hash}
 use Rattle.answer_judge_facts.specs.Marked.{data_in, has_place, hash_link_by, hash_link_of, holds_one, is_chain, is_chain_type, is_of, is_proved, is_record_of, stands_alone, marked, IsAlone, IsGathered, AreGathered, facts_by, link_by, or_first, rrset_verified, signed_of}
 use Rattle.answer_judge_facts.specs.Ranked.{AskedLast}
 use Rattle.std.proofs.lemmas.List.{map-append}

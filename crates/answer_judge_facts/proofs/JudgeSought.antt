@@ -15,7 +15,7 @@ use Rattle.answer_judge_facts.specs.Sought.{answer_sought, is_alone, keys_sought
 use Rattle.answer_judge_facts.specs.Marked.{AreGathered, IsAlone, IsGathered, data_in, is_chain, is_chain_type, is_of, stands_alone}
 use Rattle.answer_judge_facts.specs.Ranked.{AskedLast}
 use Rattle.answer_judge_facts.specs.Verified.{datum_of, is_hash_alone, one_known, rrset_in}
-use Rattle.answer_terms.specs.HashOwner.{spells_hash}
+use Rattle.answer_judge_keys.specs.HashOwner.{spells_hash}
 use Rattle.answer_judge_facts.specs.declared.groups.SignedRrset.{SignedRrset}
 use Rattle.answer_judge_facts.proofs.JudgeCase.{rrset_in-owner}
 use Rattle.answer_judge_facts.proofs.JudgeCounted.{AreSought}

@@ -18,3 +18,5 @@ pub mod Places
 pub mod Seconds
 pub mod ShortData
 pub mod Waits
+pub use Rattle.answer_judge_keys.proofs.GivenKeys
+pub use Rattle.answer_judge_keys.proofs.GivenSorted

@@ -7,3 +7,5 @@ pub mod Sought
 pub mod Times
 pub mod Verified
 pub mod VerifiedProof
+pub use Rattle.answer_judge_keys.specs.DnskeyAnswer
+pub use Rattle.answer_judge_keys.specs.Trusted

@@ -13,7 +13,7 @@ use Rattle.answer_judge_keys.specs.Trusted.{is_signature, signs}
 use Rattle.denial_laws.specs.Facts.{Facts, HashLink, Link, Rrset}
 use Rattle.messages.specs.Message.{Spelled, nsec3_at, rrsig_at}
 use Rattle.answer_judge_facts.specs.Verified.{Trusting, hash_link_with, is_hash_alone, link_of, one_known, rrset_in, verified_by}
-use Rattle.answer_terms.specs.HashOwner.{spells_hash}
+use Rattle.answer_judge_keys.specs.HashOwner.{spells_hash}
 use Rattle.answer_judge_facts.specs.declared.groups.Signed.{Signed}
 use Rattle.std.specs.Option.{option_map}
 use Rattle.answer_judge_facts.specs.declared.groups.SignedRrset.{SignedRrset}

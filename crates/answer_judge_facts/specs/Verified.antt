@@ -5,7 +5,7 @@ use Rattle.std.specs.Option.{option_map}
 use Rattle.definitions.specs.Name.{Name, same, at_or_above}
 use Rattle.definitions.specs.Dnskey.{Dnskey}
 use Rattle.definitions.specs.Zone.{sorted_data}
-use Rattle.answer_terms.specs.HashOwner.{hash_spelled, spells_hash}
+use Rattle.answer_judge_keys.specs.HashOwner.{hash_spelled, spells_hash}
 use Rattle.answer_scheme.specs.Answers.{Answers}
 use Rattle.answer_judge_keys.specs.Trusted.{is_signature, signs}
 use Rattle.denial_laws.specs.Facts.{Facts, HashLink, Link, Rrset}

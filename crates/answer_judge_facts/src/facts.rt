@@ -1,5 +1,6 @@
 //! From bytes to verified facts (RFC 4035, 5.3).
-ghost use Rattle.std.specs.Prelude.{◌≡◌, ◌&&◌, ◌==◌, ◌+◌, ◌++◌, ◌<◌, ◌≤◌, ◌^◌, [], ◌∷◌, None, true, false, IfOk, List, MatchOption, length, map, filter};
+ghost use Rattle.std.specs.Prelude.{◌≡◌, ◌&&◌, ◌==◌, ◌+◌, ◌++◌, ◌<◌, ◌≤◌, ◌^◌, [], ◌∷◌, None, true};
+ghost use Rattle.std.specs.Prelude.{false, IfOk, List, MatchOption, length, map, filter};
 ghost use Rattle.std.specs.Cow.{cow_slice_items};
 ghost use Rattle.definitions.specs.Limits.{pointer_limit};
 ghost use Rattle.std.specs.List.{list_any, filter_map, AllByRecursion};
@@ -13,20 +14,24 @@ ghost use Rattle.answer_judge_facts.specs.Sought.{answer_sought};
 ghost use Rattle.answer_judge_facts.specs.Verified.{is_known_datum};
 ghost use Rattle.std.specs.List.Sorted.{IsPermutation, IsSortedBy};
 ghost use Rattle.std.specs.Ordering.{is_lt};
-ghost use Rattle.answer_judge_facts.specs.Marked.{held_by, data_in, facts_by, is_proved, is_chain_type, is_chain, is_record_of, has_place, holds_one, AreShort, AreGathered, link_by, hash_link_by, hash_link_of, rrset_verified};
+ghost use Rattle.answer_judge_facts.specs.Marked.{held_by, data_in, facts_by, is_proved};
+ghost use Rattle.answer_judge_facts.specs.Marked.{is_chain_type, is_chain, is_record_of, has_place};
+ghost use Rattle.answer_judge_facts.specs.Marked.{holds_one, AreShort, AreGathered, link_by};
+ghost use Rattle.answer_judge_facts.specs.Marked.{hash_link_by, hash_link_of, rrset_verified};
 ghost use Rattle.answer_judge_facts.specs.declared.groups.SignedRrset.{SignedRrset};
-ghost use Rattle.answer_judge_facts.specs.Ranked.{AreRanked, AskedLast, IsRun, alike_len, are_alike, chain_cmp, run_data};
+ghost use Rattle.answer_judge_facts.specs.Ranked.{AreRanked, AskedLast, IsRun, alike_len};
+ghost use Rattle.answer_judge_facts.specs.Ranked.{are_alike, chain_cmp, run_data};
 
 use crate::groups::{SignedRrset, is_chain_type, place_of, read_group, verify_groups};
 use crate::times::are_unlike;
 use crate::validity::{Validity, validity_of_groups};
 use answer_judge_keys::check_run::CheckRun;
+use answer_judge_keys::owner::{hash_spelled, spells_hash};
 use answer_judge_keys::trust::Trust;
 use answer_judge_rules::asked::Asked;
 use answer_judge_rules::decide::{Facts, HashLink, NsecLink, Rrset};
 use answer_judge_rules::verdict::DataList;
 use answer_scheme::checks::Checks;
-use answer_terms::owner::{hash_spelled, spells_hash};
 use messages::names::{Name, ToName, cow_name, is_at_or_above};
 use messages::rdata::read_hashed_link;
 use messages::{Owner, ViewRecord};

@@ -1,12 +1,16 @@
 //! RRsets of a message and the signatures that verify them (RFC 4035, 5.3).
-ghost use Rattle.std.specs.Prelude.{◌≡◌, ◌==◌, ◌&&◌, ◌+◌, ◌<◌, ◌≤◌, ◌^◌, [], ◌∷◌, true, false, None, IfOk, IfSome, OnOk, MatchOption, length, map, filter, get_or};
+ghost use Rattle.std.specs.Prelude.{◌≡◌, ◌==◌, ◌&&◌, ◌+◌, ◌<◌, ◌≤◌, ◌^◌, [], ◌∷◌, true, false};
+ghost use Rattle.std.specs.Prelude.{None, IfOk, IfSome, OnOk, MatchOption, length, map, filter};
+ghost use Rattle.std.specs.Prelude.{get_or};
 ghost use Rattle.std.specs.Cow.{cow_slice_items};
 ghost use Rattle.definitions.specs.Limits.{pointer_limit};
 ghost use Rattle.messages.specs.Record.{fields_read, spelled};
 ghost use Rattle.answer_judge_keys.specs.Trusted.{is_signature};
 ghost use Rattle.answer_judge_facts.specs.Verified.{datum_of, rrset_in};
 ghost use Rattle.answer_judge_facts.specs.declared.groups.SignedRrset.{SignedRrset};
-ghost use Rattle.answer_judge_facts.specs.Marked.{held_by, is_of, data_in, marked, signed_of, signs_group, is_chain_type, is_tried_in, tries_in};
+ghost use Rattle.answer_judge_facts.specs.Marked.{held_by, is_of, data_in, marked, signed_of};
+ghost use Rattle.answer_judge_facts.specs.Marked.{signs_group, is_chain_type, is_tried_in};
+ghost use Rattle.answer_judge_facts.specs.Marked.{tries_in};
 ghost use Rattle.answer_judge_facts.specs.Ranked.{AreRanked, place_of, sought_cmp, type_rank};
 ghost use Rattle.messages.specs.Message.{if_true};
 ghost use Rattle.answer_judge_facts.specs.Counted.{can_try, one_if};

@@ -1,5 +1,6 @@
 //! Whether a trusted key signs the keys of a DNSKEY answer (RFC 4035, 5.2).
-ghost use Rattle.std.specs.Prelude.{◌≡◌, ◌+◌, ◌<◌, ◌≤◌, ◌^◌, [], IfOk, MatchOption, None, is_some, length, map, filter, false};
+ghost use Rattle.std.specs.Prelude.{◌≡◌, ◌+◌, ◌<◌, ◌≤◌, ◌^◌, [], IfOk, MatchOption, None, is_some};
+ghost use Rattle.std.specs.Prelude.{length, map, filter, false};
 ghost use Rattle.std.specs.Cow.{cow_slice_items};
 ghost use Rattle.definitions.specs.Limits.{pointer_limit};
 ghost use Rattle.definitions.specs.Dnskey.{dnskey_data};

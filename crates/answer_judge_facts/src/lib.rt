@@ -7,3 +7,5 @@ pub mod groups;
 pub mod key_rrset;
 pub mod times;
 pub mod validity;
+
+pub use answer_judge_keys as keys;

@@ -1,8 +1,11 @@
 //! How long what signatures verify lasts: how long records may be kept (RFC 4035, 5.3.3), and for
 //! how many seconds signatures hold (RFC 4034, 3.1.5).
-ghost use Rattle.std.specs.Prelude.{◌≡◌, ◌<◌, ◌+◌, ◌&&◌, MatchOption, false, length, map, ◌-◌, ◌/◌, ◌^◌, min};
+ghost use Rattle.std.specs.Prelude.{◌≡◌, ◌<◌, ◌+◌, ◌&&◌, MatchOption, false, length, map, ◌-◌, ◌/◌};
+ghost use Rattle.std.specs.Prelude.{◌^◌, min};
 ghost use Rattle.std.specs.List.{filter_map};
-ghost use Rattle.answer_judge_facts.specs.Validity.{held_for, idle_for, least, least_or_max, original_in, own_in, seconds_in, ttls_in, wait_in};
+ghost use Rattle.answer_judge_facts.specs.Validity.{held_for, idle_for, least, least_or_max};
+ghost use Rattle.answer_judge_facts.specs.Validity.{original_in, own_in, seconds_in, ttls_in};
+ghost use Rattle.answer_judge_facts.specs.Validity.{wait_in};
 ghost use Rattle.answer_judge_facts.specs.Marked.{times_by, times_in};
 ghost use Rattle.answer_judge_facts.specs.Ranked.{AreRanked};
 ghost use Rattle.answer_judge_facts.specs.Times.{Times};

@@ -6,3 +6,4 @@ pub mod KeyClashes
 pub mod KeyPlaces
 pub mod MadeDigests
 pub mod Searching
+pub use Rattle.answer_terms.proofs.ZoneData

@@ -7,3 +7,5 @@ pub mod key_index;
 pub mod keys;
 pub mod order;
 pub mod trust;
+
+pub use answer_terms::owner;

@@ -1,10 +1,12 @@
 //! What follows from verified facts (RFC 4035, 5; RFC 4592; RFC 5155, 8).
-ghost use Rattle.std.specs.Prelude.{◌≡◌, ◌⊎◌, ◌+◌, ◌<◌, ◌≤◌, ◌^◌, length, true, false, IfOk, OnOk, IsErrOf};
+ghost use Rattle.std.specs.Prelude.{◌≡◌, ◌⊎◌, ◌+◌, ◌<◌, ◌≤◌, ◌^◌, length, true, false, IfOk, OnOk};
+ghost use Rattle.std.specs.Prelude.{IsErrOf};
 ghost use Rattle.std.specs.List.{list_any};
 ghost use Rattle.std.specs.Option.{option_map};
 ghost use Rattle.denial_laws.specs.Deciding.{decided, hashed};
 ghost use Rattle.answer_judge_rules.specs.Hashes.{fails_among, hash_among, hashed_for};
-ghost use Rattle.answer_judge_rules.specs.Hashing.{by_hashes, by_names, fails_as, hash_as, hashed_by, HashesInTurn};
+ghost use Rattle.answer_judge_rules.specs.Hashing.{by_hashes, by_names, fails_as, hash_as};
+ghost use Rattle.answer_judge_rules.specs.Hashing.{hashed_by, HashesInTurn};
 ghost use Rattle.answer_judge_rules.specs.Rules.{verdict_of};
 ghost use Rattle.answer_scheme.specs.Answers.{NoneVerified};
 

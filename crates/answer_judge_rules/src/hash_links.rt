@@ -4,7 +4,8 @@ ghost use Rattle.std.specs.List.{list_any};
 ghost use Rattle.std.specs.Option.{option_map};
 ghost use Rattle.definitions.specs.Covering.{octets_before};
 ghost use Rattle.denial_laws.specs.NsecRules.{first_some};
-ghost use Rattle.denial_laws.specs.Nsec3Rules.{is_at, covers_hash, is_matched, at_hash, encloses, cut_above, star_at, asks_star};
+ghost use Rattle.denial_laws.specs.Nsec3Rules.{is_at, covers_hash, is_matched, at_hash, encloses};
+ghost use Rattle.denial_laws.specs.Nsec3Rules.{cut_above, star_at, asks_star};
 ghost use Rattle.answer_judge_rules.specs.Hashing.{opens, open_among};
 ghost use Rattle.answer_judge_rules.specs.Rules.{verdict_of};
 

@@ -1,5 +1,6 @@
 //! Names that are hashed for a question (RFC 5155, 5).
-ghost use Rattle.std.specs.Prelude.{◌≡◌, ◌+◌, ◌<◌, ◌^◌, ◌∷◌, [], Some, None, IfOk, IsErrOf, OnOk, drop};
+ghost use Rattle.std.specs.Prelude.{◌≡◌, ◌+◌, ◌<◌, ◌^◌, ◌∷◌, [], Some, None, IfOk, IsErrOf, OnOk};
+ghost use Rattle.std.specs.Prelude.{drop};
 ghost use Rattle.definitions.specs.Name.{low, wire};
 ghost use Rattle.definitions.specs.Zone.{star_under};
 ghost use Rattle.answer_judge_rules.specs.Hashing.{fails_as, hash_as, HashesInTurn};

@@ -2,7 +2,8 @@
 ghost use Rattle.std.specs.Prelude.{◌≡◌, length, IfOk, IfSome};
 ghost use Rattle.std.specs.Option.{option_map};
 ghost use Rattle.definitions.specs.Zone.{star_under};
-ghost use Rattle.denial_laws.specs.NsecRules.{first_some, at_owner, below_cut, redirects, link_covers, closest, at_star, covered, denied};
+ghost use Rattle.denial_laws.specs.NsecRules.{first_some, at_owner, below_cut, redirects};
+ghost use Rattle.denial_laws.specs.NsecRules.{link_covers, closest, at_star, covered, denied};
 ghost use Rattle.answer_judge_rules.specs.Enclosers.{told_of_star, IsUntold};
 ghost use Rattle.answer_judge_rules.specs.Rules.{verdict_of};
 

@@ -14,7 +14,7 @@ use Rattle.answer_terms.specs.Hashing.{Hasher, hash_in, served}
 use Rattle.answer_terms.specs.Served.{ServedRrset, answer_groups, by_tag, key_group, keys_ttl}
 use Rattle.messages.specs.WrittenLaws.{IsQuestion}
 use Rattle.answer_terms.specs.ZoneView.{AcceptedZone}
-use Rattle.answer_zone_records.specs.ZoneInOrder.{AreZoneRecords}
+use Rattle.answer_zone.specs.ZoneInOrder.{AreZoneRecords}
 use Rattle.answer_publisher.proofs.WritesAnswer.{answer_gives}
 use Rattle.answer_publisher.proofs.WritesGroups.{IsFormed}
 use Rattle.answer_publisher.proofs.WritesData.{of_chain}

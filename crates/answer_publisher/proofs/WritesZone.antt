@@ -16,7 +16,7 @@ use Rattle.messages.specs.Handed.{AreHanded, IsHanded}
 use Rattle.answer_terms.specs.GroupView.{all_spelled_by, spelled_by}
 use Rattle.answer_terms.specs.Served.{ServedRrset, Served, ahead, ahead_open, answer_groups, canonical_group, chain_names, chain_record, chain_ttl, if_any, key_data, key_group, written_under, owner_among, proofs_of, rrset, served_of, served_owner, soa, speaks_for, spelled_among, spoken, ttl_among, under, unsigned_ns, written_among, written_of_handed, written_rr}
 use Rattle.answer_terms.specs.ZoneView.{is_of}
-use Rattle.answer_zone_records.specs.ZoneInOrder.{AreZoneRecords}
+use Rattle.answer_zone.specs.ZoneInOrder.{AreZoneRecords}
 use Rattle.denial_nsec_data.specs.Hashed.{nsec3param_octets, nsec3param_with}
 use Rattle.answer_publisher.specs.Parameters.{parameters_group}
 use Rattle.answer_publisher.proofs.WritesAnswer.{all_behind}

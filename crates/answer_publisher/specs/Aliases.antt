@@ -11,7 +11,7 @@ use Rattle.answer_terms.specs.Asking.{asks_alias, is_allowed}
 use Rattle.answer_terms.specs.Hashing.{Hasher}
 use Rattle.answer_terms.specs.ZoneView.{AcceptedZone}
 use Rattle.answer_zone.specs.Finding.{finds, links_names, redirecting}
-use Rattle.answer_zone_records.specs.AliasFaults.{RefusesZoneWithAliases}
+use Rattle.answer_zone.specs.AliasFaults.{RefusesZoneWithAliases}
 use Rattle.answer_publisher.specs.Replacing.{is_too_soon}
 use Rattle.answer_publisher.specs.declared.fault.ReplaceFault.{ReplaceFault}
 use Rattle.answer_publisher.specs.declared.fault.ReplaceFault.TheVariants as replace

@@ -4,7 +4,7 @@ use Rattle.std.specs.Option.{option_map}
 use Rattle.messages.specs.HandedRr.{HandedRr}
 use Rattle.answer_terms.specs.Hashing.{Hasher}
 use Rattle.answer_terms.specs.ZoneView.{AcceptedZone}
-use Rattle.answer_zone_records.specs.Faults.{RefusesZone, first_fault}
+use Rattle.answer_zone.specs.Faults.{RefusesZone, first_fault}
 use Rattle.answer_publisher.specs.declared.fault.ReplaceFault.{ReplaceFault}
 use Rattle.answer_publisher.specs.declared.fault.ReplaceFault.TheVariants.{TooSoon, Zone}
 

@@ -1,12 +1,14 @@
 //! Writing answers (RFC 1035, 4.1; RFC 4035, 3.1.1).
-ghost use Rattle.std.specs.Prelude.{◌≡◌, ◌+◌, ◌++◌, [], ◌∷◌, true, map, length, Err, IfOk, IfErr, OnOk, if◌then◌else◌};
+ghost use Rattle.std.specs.Prelude.{◌≡◌, ◌+◌, ◌++◌, [], ◌∷◌, true, map, length, Err, IfOk, IfErr};
+ghost use Rattle.std.specs.Prelude.{OnOk, if◌then◌else◌};
 ghost use Rattle.std.specs.List.{AllZip, flat_map};
 ghost use Rattle.answer_terms.specs.GroupView.{FailsFor, IsRrsigData};
 ghost use Rattle.answer_publisher.specs.Answering.{ahead_of_records};
 ghost use Rattle.messages.specs.Questions.{asked_of};
 ghost use Rattle.answer_scheme.specs.declared.error.SchemeError.TheVariants as error;
 ghost use Rattle.messages.specs.Written.{record_octets};
-ghost use Rattle.answer_publisher.specs.Composed.{HasRoom, IsAnswer, IsSection, RefusesGroups, RefusesRecords, rrsig_of};
+ghost use Rattle.answer_publisher.specs.Composed.{HasRoom, IsAnswer, IsSection, RefusesGroups};
+ghost use Rattle.answer_publisher.specs.Composed.{RefusesRecords, rrsig_of};
 ghost use Rattle.answer_terms.specs.Served.{written_rr};
 
 use crate::fault::AnswerFault;
@@ -14,7 +16,7 @@ use crate::signing::{SignatureTerms, sign_group};
 use answer_scheme::error::SchemeError;
 use answer_scheme::scheme::Scheme;
 use answer_terms::dnskey::Dnskey;
-use answer_zone_records::group::RrGroup;
+use answer_zone::records::group::RrGroup;
 use messages::names::{Name, Octets};
 use messages::question::Question;
 use messages::write::{push_header, push_question, push_record};

@@ -1,7 +1,7 @@
 //! Why a publisher refuses.
 pub use answer_publisher_keys::fault::KeyFault;
 use answer_scheme::error::SchemeError;
-pub use answer_zone_records::fault::ZoneFault;
+pub use answer_zone::records::fault::ZoneFault;
 use denial_nsec3_hash::hasher::HashError;
 use std::alloc::AllocError;
 use thiserror::Error;

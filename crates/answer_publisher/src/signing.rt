@@ -15,7 +15,7 @@ ghost use Rattle.answer_scheme.specs.declared.error.SchemeError.TheVariants as e
 use answer_scheme::error::SchemeError;
 use answer_scheme::scheme::Scheme;
 use answer_terms::dnskey::{Dnskey, ZoneKey};
-use answer_zone_records::group::RrGroup;
+use answer_zone::records::group::RrGroup;
 use denial_data::{ProtoRrsig, Timestamp};
 use messages::names::{Name, Octets, ToName};
 use messages::question::Question;

@@ -1,5 +1,7 @@
 //! The keys of a zone, each reference bound to one DNSKEY for good.
-ghost use Rattle.std.specs.Prelude.{◌≡◌, ◌<◌, ◌≤◌, [], ◌∷◌, ◌++◌, map, length, IfErr, insert, string_bytes, IfOk, OnOk, OnErr, Option, Some, None, option_copied, is_none, List, ℕ, IsTrue, false};
+ghost use Rattle.std.specs.Prelude.{◌≡◌, ◌<◌, ◌≤◌, [], ◌∷◌, ◌++◌, map, length, IfErr, insert};
+ghost use Rattle.std.specs.Prelude.{string_bytes, IfOk, OnOk, OnErr, Option, Some, None};
+ghost use Rattle.std.specs.Prelude.{option_copied, is_none, List, ℕ, IsTrue, false};
 ghost use Rattle.std.specs.List.{AllByRecursion};
 ghost use Rattle.std.specs.FinMap.Entries.{put};
 ghost use Rattle.definitions.specs.Dnskey as dnskey;
@@ -7,8 +9,13 @@ ghost use Rattle.definitions.specs.Dnskey.{dnskey_data};
 ghost use Rattle.definitions.specs.Sorting.{put_by, sort_by};
 ghost use Rattle.std.specs.Ordering.{nat_cmp};
 ghost use Rattle.keyset.specs.KeyState.{Key, add};
-ghost use Rattle.answer_events.specs.Calls.{Decoupled, Present, Signer, AtParent, Visible, DsVisible, RrsigVisible, Stale};
-ghost use Rattle.answer_publisher_keys.specs.Bindings.{ZoneKeys, BoundKey, no_keys, Set, Delete, Start, Report1, Wait1, Report2, Wait2, Finish, bound_at, dnskey_at, is_bound_away, has_role, is_published, keys_by_tag, ds_of, ds_set, cds_set, cdnskey_set, dnskey_rdata};
+ghost use Rattle.answer_events.specs.Calls.{Decoupled, Present, Signer, AtParent, Visible};
+ghost use Rattle.answer_events.specs.Calls.{DsVisible, RrsigVisible, Stale};
+ghost use Rattle.answer_publisher_keys.specs.Bindings.{ZoneKeys, BoundKey, no_keys, Set, Delete};
+ghost use Rattle.answer_publisher_keys.specs.Bindings.{Start, Report1, Wait1, Report2, Wait2};
+ghost use Rattle.answer_publisher_keys.specs.Bindings.{Finish, bound_at, dnskey_at, is_bound_away};
+ghost use Rattle.answer_publisher_keys.specs.Bindings.{has_role, is_published, keys_by_tag, ds_of};
+ghost use Rattle.answer_publisher_keys.specs.Bindings.{ds_set, cds_set, cdnskey_set, dnskey_rdata};
 ghost use Rattle.answer_publisher_keys.specs.Bindings as bindings;
 ghost use Rattle.answer_publisher_keys.specs.BoundView.{by_text};
 ghost use Rattle.keyset.specs.KeyAnswers.{Changes, IsAccepted};

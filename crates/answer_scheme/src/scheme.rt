@@ -1,5 +1,6 @@
 //! What signs, verifies and digests.
-ghost use Rattle.std.specs.Prelude.{◌≡◌, ℕ, List, Bool, true, ◌≤◌, length, Option, Some, None, IfOk, IsErrOf};
+ghost use Rattle.std.specs.Prelude.{◌≡◌, ℕ, List, Bool, true, ◌≤◌, length, Option, Some, None};
+ghost use Rattle.std.specs.Prelude.{IfOk, IsErrOf};
 ghost use Rattle.definitions.specs.Dnskey.{Dnskey};
 
 use crate::error::SchemeError;

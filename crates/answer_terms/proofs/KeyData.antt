@@ -7,7 +7,7 @@ use Rattle.definitions.specs.Dnskey.{Dnskey, dnskey_data, dnskey_of_data}
 use Rattle.definitions.specs.Reading.{ReadFault}
 use Rattle.names_rdata.specs.Reading.{data_at}
 use Rattle.denial_fields.specs.Ended.{ended_part}
-use Rattle.denial_data.proofs.WrittenData.{ended}
+use Rattle.messages.proofs.WrittenData.{ended}
 
 -- what is read of some octets, from the first to the last
 abbrev pub found : List ℕ → Result (List ℕ) ReadFault

@@ -3,7 +3,8 @@
 ghost use Rattle.answer_terms.specs.Alike.{AlikeTellsAlike};
 ghost use Rattle.answer_terms.specs.FactsCase.{CaseMeansNothing};
 ghost use Rattle.answer_terms.specs.Given.{GivenIsTold};
-ghost use Rattle.answer_terms.specs.Servable.{AcceptedIsServable, AcceptedHasNoAlias, AllowedAnswersDecide};
+ghost use Rattle.answer_terms.specs.Servable.{AcceptedIsServable, AcceptedHasNoAlias};
+ghost use Rattle.answer_terms.specs.Servable.{AllowedAnswersDecide};
 
 /// What a publisher gives is told to a judge: bytes that spell each owner and each TTL as the zone
 /// has them tell its RRsets and their signatures, of which a judge sees owners in lower case and no

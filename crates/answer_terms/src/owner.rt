@@ -5,7 +5,8 @@ ghost use Rattle.std.specs.List.{list_all};
 ghost use Rattle.std.specs.Str.{str_to_ascii_lowercase};
 ghost use Rattle.definitions.specs.Base32hex.{base32hex};
 ghost use Rattle.numbers.specs.Decoding.{is_digit, value};
-ghost use Rattle.answer_terms.specs.HashOwner.{hash_spelled, is_base32hex, label_octets, spells_hash};
+ghost use Rattle.answer_terms.specs.HashOwner.{hash_spelled, is_base32hex, label_octets};
+ghost use Rattle.answer_terms.specs.HashOwner.{spells_hash};
 
 use messages::Owner;
 use messages::names::{Name, ToName};

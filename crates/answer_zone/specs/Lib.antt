@@ -6,3 +6,7 @@ pub mod ZoneAnswers
 pub mod Finding
 pub mod Placed
 pub mod Questions
+pub use Rattle.answer_zone_records.specs.AliasFaults
+pub use Rattle.answer_zone_records.specs.Faults
+pub use Rattle.answer_zone_records.specs.GroupRecords
+pub use Rattle.answer_zone_records.specs.ZoneInOrder

@@ -2,3 +2,5 @@
 #![tactic(auto)]
 
 pub mod zone;
+
+pub use answer_zone_records as records;

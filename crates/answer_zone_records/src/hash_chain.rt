@@ -1,6 +1,7 @@
 //! A chain of hashes, made once: a record for each kept name and each empty non-terminal, in the
 //! order of their hashes (RFC 5155, 7.1).
-ghost use Rattle.std.specs.Prelude.{◌≡◌, ◌<◌, ◌≤◌, [], length, map, true, false, IfErr, IfOk, IfSome, OnOk, if◌then◌else◌};
+ghost use Rattle.std.specs.Prelude.{◌≡◌, ◌<◌, ◌≤◌, [], length, map, true, false, IfErr, IfOk};
+ghost use Rattle.std.specs.Prelude.{IfSome, OnOk, if◌then◌else◌};
 ghost use Rattle.std.specs.List.{AllByRecursion};
 ghost use Rattle.std.specs.List.Sorted.{IsPartitionPoint};
 ghost use Rattle.std.specs.Option.{option_to_list};

@@ -5,7 +5,8 @@ ghost use Rattle.std.specs.List.Sorted.{IsPartitionPoint};
 ghost use Rattle.definitions.specs.Covering.{before};
 ghost use Rattle.std.specs.Ordering.{is_le};
 ghost use Rattle.definitions.specs.Name.{at_or_above, name_cmp, same, strictly_above};
-ghost use Rattle.answer_zone_records.specs.Near.{AreRising, IsNameAt, is_below, is_strictly_below, owns, shows};
+ghost use Rattle.answer_zone_records.specs.Near.{AreRising, IsNameAt, is_below, is_strictly_below};
+ghost use Rattle.answer_zone_records.specs.Near.{owns, shows};
 
 use messages::names::{Name, ToName, is_above, is_at_or_above};
 use messages::record::ZoneRecord;

@@ -1,5 +1,6 @@
 //! The records of an owner of a zone, found by binary search, and the RRsets among them.
-ghost use Rattle.std.specs.Prelude.{◌≡◌, ◌↔◌, ℕ, [], List, true, false, find, map, min, slice_index, IfErr, IfOk, IsTrue, Some};
+ghost use Rattle.std.specs.Prelude.{◌≡◌, ◌↔◌, ℕ, [], List, true, false, find, map, min};
+ghost use Rattle.std.specs.Prelude.{slice_index, IfErr, IfOk, IsTrue, Some};
 ghost use Rattle.std.specs.Option.{option_map};
 ghost use Rattle.std.specs.List.{AllByRecursion, list_any, slice_get};
 ghost use Rattle.definitions.specs.Name.{same};

@@ -1,5 +1,6 @@
 //! Laws of reports by a clock.
-ghost use Rattle.clock_laws.specs.Clocks.{HeldThingsAreUnretired, NextSecondsCount, WaitsOutlastCaches};
+ghost use Rattle.clock_laws.specs.Clocks.{HeldThingsAreUnretired, NextSecondsCount};
+ghost use Rattle.clock_laws.specs.Clocks.{WaitsOutlastCaches};
 ghost use Rattle.clock_laws.specs.ClockRows.{EarlyReportsMiss};
 
 /// A report of the next second, so rounded up, counts for all that was handed out in its own second

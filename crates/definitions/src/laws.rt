@@ -1,7 +1,10 @@
 //! Laws over the definitions. Each is the contract of a function that does nothing.
 ghost use Rattle.std.specs.Prelude.{ℕ, List};
 ghost use Rattle.definitions.specs.Name.{Name};
-ghost use Rattle.definitions.specs.Laws.{OrdersNames, IsInterval, OneLinkSpeaks, OneHashLinkSpeaks, NsecChainSpeaks, Nsec3ChainSpeaks, WireSpells, SignedOctetsSpell, OrderMeansNothing, SpellsSet, OneSpelling, ReadsExactly, EndsOnce, ReadingIsShort};
+ghost use Rattle.definitions.specs.Laws.{OrdersNames, IsInterval, OneLinkSpeaks, OneHashLinkSpeaks};
+ghost use Rattle.definitions.specs.Laws.{NsecChainSpeaks, Nsec3ChainSpeaks, WireSpells};
+ghost use Rattle.definitions.specs.Laws.{SignedOctetsSpell, OrderMeansNothing, SpellsSet};
+ghost use Rattle.definitions.specs.Laws.{OneSpelling, ReadsExactly, EndsOnce, ReadingIsShort};
 
 /// Names have one canonical order up to ASCII case, and are equal in it exactly where they are the
 /// same up to case (RFC 4034, 6.1).

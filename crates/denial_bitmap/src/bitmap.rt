@@ -1,6 +1,7 @@
 //! Type bitmaps (RFC 4034, 4.1.2).
 
-ghost use Rattle.std.specs.Prelude.{◌≡◌, ◌==◌, ◌≤◌, ◌↔◌, [], true, length, IfOk, IfErr, IsOk, IsTrue};
+ghost use Rattle.std.specs.Prelude.{◌≡◌, ◌==◌, ◌≤◌, ◌↔◌, [], true, length, IfOk, IfErr, IsOk};
+ghost use Rattle.std.specs.Prelude.{IsTrue};
 ghost use Rattle.definitions.specs.Bitmap.{bitmap, is_bitmap, bitmap_has};
 ghost use Rattle.denial_bitmap.specs.Faults.{BreaksOff};
 

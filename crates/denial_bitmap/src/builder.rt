@@ -1,8 +1,10 @@
 //! Building type bitmaps (RFC 4034, 4.1.2).
 
-ghost use Rattle.std.specs.Prelude.{◌≡◌, ◌<◌, ◌≤◌, ◌+◌, ◌-◌, ◌%◌, ◌/◌, ◌++◌, ◌∷◌, [], ℕ, List, length, take, drop, set, slice_index, OnOk, OnErr, max};
+ghost use Rattle.std.specs.Prelude.{◌≡◌, ◌<◌, ◌≤◌, ◌+◌, ◌-◌, ◌%◌, ◌/◌, ◌++◌, ◌∷◌, [], ℕ, List};
+ghost use Rattle.std.specs.Prelude.{length, take, drop, set, slice_index, OnOk, OnErr, max};
 ghost use Rattle.definitions.specs.Bitmap.{bitmap};
-ghost use Rattle.denial_bitmap.specs.Building.{IsBuilt, zeros, inserted, window_len, with_bit, windows_before};
+ghost use Rattle.denial_bitmap.specs.Building.{IsBuilt, zeros, inserted, window_len, with_bit};
+ghost use Rattle.denial_bitmap.specs.Building.{windows_before};
 ghost use Rattle.denial_bitmap.specs.Padding.{roomy, IsPlaced};
 
 use crate::bitmap::RtypeBitmap;

@@ -5,3 +5,7 @@ pub mod Protos
 pub mod RrsigData
 pub mod Signatures
 pub mod SignatureLaws
+pub use Rattle.denial_nsec_data.specs.Bitmaps
+pub use Rattle.denial_nsec_data.specs.Hashed
+pub use Rattle.denial_nsec_data.specs.Nsec
+pub use Rattle.denial_nsec_data.specs.NsecData

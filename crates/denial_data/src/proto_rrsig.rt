@@ -1,8 +1,10 @@
 //! RRSIG data without the signature, over which the signature is made (RFC 4034, 3.1.8.1).
 
-ghost use Rattle.std.specs.Prelude.{◌≡◌, ◌↔◌, ◌++◌, ◌≤◌, length, take, Some, IsOk, IfOk, OnOk, OnErr};
+ghost use Rattle.std.specs.Prelude.{◌≡◌, ◌↔◌, ◌++◌, ◌≤◌, length, take, Some, IsOk, IfOk, OnOk};
+ghost use Rattle.std.specs.Prelude.{OnErr};
 ghost use Rattle.names_wire.specs.Room.{LeavesRoom};
-ghost use Rattle.denial_data.specs.Protos.{numbers_with, numbers_octets, proto_octets, proto_canonical};
+ghost use Rattle.denial_data.specs.Protos.{numbers_with, numbers_octets, proto_octets};
+ghost use Rattle.denial_data.specs.Protos.{proto_canonical};
 ghost use Rattle.denial_data.specs.RrsigData.{rrsig_with, rrsig_len};
 
 use crate::rrsig::Rrsig;

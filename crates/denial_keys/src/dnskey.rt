@@ -1,6 +1,7 @@
 //! Keys of a zone (RFC 4034, 2).
 
-ghost use Rattle.std.specs.Prelude.{◌≡◌, ◌↔◌, ◌+◌, ◌≤◌, ◌/◌, ◌%◌, ◌==◌, false, length, refl, Some, IsOk, IfOk, IsTrue};
+ghost use Rattle.std.specs.Prelude.{◌≡◌, ◌↔◌, ◌+◌, ◌≤◌, ◌/◌, ◌%◌, ◌==◌, false, length, refl, Some};
+ghost use Rattle.std.specs.Prelude.{IsOk, IfOk, IsTrue};
 ghost use Rattle.std.specs.Ordering.{nat_cmp};
 ghost use Rattle.std.specs.Cmp.Lexicographic.{slice_cmp};
 ghost use Rattle.definitions.specs.Dnskey.{dnskey_data, key_tag};

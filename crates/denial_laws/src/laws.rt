@@ -1,6 +1,8 @@
 //! Laws of denial. Each is the contract of a function that does nothing.
 ghost use Rattle.denial_laws.specs.Leading.{OnlyAliasesLead, AliasesLeadToOne};
-ghost use Rattle.denial_laws.specs.Laws.{TrueFactsDecideTruly, OwnAnswersDecide, BothChainsSayTheSame, ConcernedAreNames, FewHashes, OneVerdict};
+ghost use Rattle.denial_laws.specs.Laws.{TrueFactsDecideTruly, OwnAnswersDecide};
+ghost use Rattle.denial_laws.specs.Laws.{BothChainsSayTheSame, ConcernedAreNames, FewHashes};
+ghost use Rattle.denial_laws.specs.Laws.{OneVerdict};
 
 /// Every question has exactly one verdict: the conditions under which a zone gives one or another
 /// shut each other out, and leave no question over (RFC 1034, 4.3.2; RFC 4592).

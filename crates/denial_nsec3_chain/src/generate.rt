@@ -3,7 +3,8 @@
 ghost use Rattle.std.specs.Prelude.{◌≡◌, IfErr, IfOk};
 ghost use Rattle.definitions.specs.Laws.{IsNsec3Chain};
 ghost use Rattle.denial_nsec3_hash.specs.Hashing.{hash_by};
-ghost use Rattle.denial_nsec3_chain.specs.Chain.{leaves_out, nsec3_chain, nsec3param_record, zone_among};
+ghost use Rattle.denial_nsec3_chain.specs.Chain.{leaves_out, nsec3_chain, nsec3param_record};
+ghost use Rattle.denial_nsec3_chain.specs.Chain.{zone_among};
 ghost use Rattle.denial_nsec3_chain.specs.Faults.{HasNoFault, IsNsec3Fault};
 ghost use Rattle.denial_chain_owners.specs.Conditions.{IsOneClass, IsZoneOrder};
 ghost use Rattle.denial_chain_owners.specs.declared.soa.SoaTtls.{SoaTtls as Ttls};

@@ -4,7 +4,8 @@ ghost use Rattle.std.specs.Prelude.{◌≡◌, true, false};
 ghost use Rattle.denial_nsec_data.specs.Hashed.{with_opt_out};
 ghost use Rattle.definitions.specs.ZoneChain.{excludes};
 ghost use Rattle.denial_nsec3_hash.specs.Configured.{parameter_ttl, parameters};
-ghost use Rattle.denial_nsec3_hash.specs.declared.config.Nsec3ParamTtlMode.TheVariants.{Fixed, Soa, SoaMinimum};
+ghost use Rattle.denial_nsec3_hash.specs.declared.config.Nsec3ParamTtlMode.TheVariants.{Fixed, Soa};
+ghost use Rattle.denial_nsec3_hash.specs.declared.config.Nsec3ParamTtlMode.TheVariants.{SoaMinimum};
 
 use denial_nsec_data::nsec3param::Nsec3param;
 use names_wire::octets::Octets;

@@ -1,6 +1,7 @@
 //! Links of the chain of names (RFC 4034, 4).
 
-ghost use Rattle.std.specs.Prelude.{◌≡◌, ◌↔◌, ◌+◌, ◌≤◌, ◌++◌, false, length, refl, IsOk, IfOk, IsTrue, OnOk, OnErr, take};
+ghost use Rattle.std.specs.Prelude.{◌≡◌, ◌↔◌, ◌+◌, ◌≤◌, ◌++◌, false, length, refl, IsOk, IfOk};
+ghost use Rattle.std.specs.Prelude.{IsTrue, OnOk, OnErr, take};
 ghost use Rattle.std.specs.Ordering.{nat_cmp};
 ghost use Rattle.std.specs.Cmp.Lexicographic.{slice_cmp};
 ghost use Rattle.definitions.specs.Name.{wire};

@@ -1,6 +1,7 @@
 //! Links of the chain of hashed names (RFC 5155, 3).
 
-ghost use Rattle.std.specs.Prelude.{◌≡◌, ◌↔◌, ◌+◌, ◌≤◌, ◌++◌, ◌%◌, ◌==◌, false, length, refl, IsOk, IfOk, IsTrue, OnOk, OnErr, take};
+ghost use Rattle.std.specs.Prelude.{◌≡◌, ◌↔◌, ◌+◌, ◌≤◌, ◌++◌, ◌%◌, ◌==◌, false, length, refl, IsOk};
+ghost use Rattle.std.specs.Prelude.{IfOk, IsTrue, OnOk, OnErr, take};
 ghost use Rattle.std.specs.Ordering.{nat_cmp};
 ghost use Rattle.std.specs.Cmp.Lexicographic.{slice_cmp};
 ghost use Rattle.names_wire.specs.Room.{LeavesRoom};

@@ -1,11 +1,14 @@
 //! What the names of a chain are hashed with (RFC 5155, 4).
 
-ghost use Rattle.std.specs.Prelude.{◌≡◌, ◌+◌, ◌≤◌, ◌++◌, ◌%◌, ◌==◌, false, length, refl, Some, OnOk, OnErr, take};
+ghost use Rattle.std.specs.Prelude.{◌≡◌, ◌+◌, ◌≤◌, ◌++◌, ◌%◌, ◌==◌, false, length, refl, Some};
+ghost use Rattle.std.specs.Prelude.{OnOk, OnErr, take};
 ghost use Rattle.std.specs.Ordering.{nat_cmp};
 ghost use Rattle.std.specs.Cmp.Lexicographic.{slice_cmp};
 ghost use Rattle.names_wire.specs.Room.{LeavesRoom};
 ghost use Rattle.names_rdata.specs.Reading.{ReadsData, ReadsPart, data_at};
-ghost use Rattle.denial_nsec_data.specs.Hashed.{nsec3param_with, nsec3param_head, nsec3param_octets, nsec3param_part, nsec3param_text, with_opt_out};
+ghost use Rattle.denial_nsec_data.specs.Hashed.{nsec3param_with, nsec3param_head};
+ghost use Rattle.denial_nsec_data.specs.Hashed.{nsec3param_octets, nsec3param_part};
+ghost use Rattle.denial_nsec_data.specs.Hashed.{nsec3param_text, with_opt_out};
 
 use denial_fields::ended::number_16;
 use denial_fields::salt::Nsec3Salt;

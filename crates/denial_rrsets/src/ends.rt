@@ -1,6 +1,7 @@
 //! Owners and RRsets split off records, by the places at which owners begin where these are known.
 
-ghost use Rattle.std.specs.Prelude.{◌≡◌, ◌≤◌, ◌∷◌, [], drop, if◌then◌else◌, IfSome, MatchOption, Some};
+ghost use Rattle.std.specs.Prelude.{◌≡◌, ◌≤◌, ◌∷◌, [], drop, if◌then◌else◌, IfSome, MatchOption};
+ghost use Rattle.std.specs.Prelude.{Some};
 ghost use Rattle.denial_rrsets.specs.Ends.{AreEnds, first_count};
 ghost use Rattle.denial_rrsets.specs.Groups.{IsGroup, groups, of_one_owner, of_one_set};
 ghost use Rattle.denial_rrsets.specs.Slices.{items_of};

@@ -5,7 +5,8 @@ ghost use Rattle.std.specs.Option.{option_map};
 ghost use Rattle.definitions.specs.Name.{at_or_above};
 ghost use Rattle.std.specs.List.{list_any, slice_get};
 ghost use Rattle.std.specs.Result.{result_ok};
-ghost use Rattle.denial_rrsets.specs.Groups.{IsGroup, in_zone, of_one_owner, of_one_set, rrset_of, ttls_differ, zone_cut};
+ghost use Rattle.denial_rrsets.specs.Groups.{IsGroup, in_zone, of_one_owner, of_one_set, rrset_of};
+ghost use Rattle.denial_rrsets.specs.Groups.{ttls_differ, zone_cut};
 ghost use Rattle.denial_rrsets.specs.Slices.{items_of};
 
 use crate::rows::row_ends_with;

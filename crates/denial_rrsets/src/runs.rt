@@ -2,7 +2,8 @@
 
 ghost use Rattle.std.specs.Prelude.{◌≡◌, ◌<◌, ◌∷◌, [], Bool, IfSome, MatchOption, length};
 ghost use Rattle.std.specs.Cmp.{IsEquivalence};
-ghost use Rattle.denial_rrsets.specs.Groups.{IsGroup, groups, of_one_owner, of_one_set, of_one_type};
+ghost use Rattle.denial_rrsets.specs.Groups.{IsGroup, groups, of_one_owner, of_one_set};
+ghost use Rattle.denial_rrsets.specs.Groups.{of_one_type};
 ghost use Rattle.denial_rrsets.specs.Slices.{items_of};
 
 use crate::rows::names_eq;

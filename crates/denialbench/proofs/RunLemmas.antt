@@ -9,10 +9,10 @@ use Rattle.answer_zone_records.specs.declared.fault.ZoneFault.{ZoneFault}
 use Rattle.answer.specs.Simulations.{IsSimulation}
 use Rattle.answer_events.specs.declared.event.Event.{Event}
 use Rattle.answer.specs.Outcome.{Outcome}
-use Rattle.denialbench_session.specs.Grammar.{ZoneLine}
-use Rattle.denialbench_session.specs.Readings.{event_view}
-use Rattle.denialbench_print.specs.Names.{zone_fault_name}
-use Rattle.denialbench_print.specs.Printed.{outcome_text}
+use Rattle.session_grammar.specs.Grammar.{ZoneLine}
+use Rattle.session_grammar.specs.Readings.{event_view}
+use Rattle.printed_outcomes.specs.Names.{zone_fault_name}
+use Rattle.printed_outcomes.specs.Printed.{outcome_text}
 use Rattle.denialbench.specs.Responses.{PrintsSession, bench}
 
 pub outcomes_printed : (zone : ZoneLine) (records : List HandedRr) (acted : List Event) (outcomes : List Outcome) → IsSimulation (bench zone records) records acted outcomes

@@ -14,11 +14,11 @@ use Rattle.answer.specs.World.{World, world}
 use Rattle.answer_events.specs.declared.event.Event.{Event}
 use Rattle.answer.specs.Outcome.{Outcome}
 use Rattle.answer_zone_records.specs.declared.fault.ZoneFault.{ZoneFault}
-use Rattle.denialbench_session.specs.Grammar.{ZoneLine, EventLine}
-use Rattle.denialbench_session.specs.Readings.{event_view}
-use Rattle.denialbench_session.specs.Sessions.{Session, session_of}
-use Rattle.denialbench_print.specs.Names.{zone_fault_name}
-use Rattle.denialbench_print.specs.Printed.{outcome_text}
+use Rattle.session_grammar.specs.Grammar.{ZoneLine, EventLine}
+use Rattle.session_grammar.specs.Readings.{event_view}
+use Rattle.session_grammar.specs.Sessions.{Session, session_of}
+use Rattle.printed_outcomes.specs.Names.{zone_fault_name}
+use Rattle.printed_outcomes.specs.Printed.{outcome_text}
 use Rattle.denialbench.specs.declared.status.Status.{Status}
 use Rattle.denialbench.specs.declared.status.Status.TheVariants.{Done, BadLine, Fault}
 

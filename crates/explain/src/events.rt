@@ -10,11 +10,11 @@ use crate::signed_alike::note_unlike;
 use answer::names::ToName;
 use answer::{Act, Case, Dnskey, Ds, Event, Name, Outcome};
 use denial_nsec3_sha1::hasher::Sha1Hasher;
-use denialbench_print::print::push_outcome;
-use denialbench_print::scheme::BenchScheme;
-use denialbench_session::lines::Lines;
 use explain_messages::message::MessageText;
 use explain_reasons::explanation::{Explanation, explanation_of};
+use printed_outcomes::print::push_outcome;
+use printed_outcomes::scheme::BenchScheme;
+use session_grammar::lines::Lines;
 use std::alloc::{AllocError, Global};
 
 /// What is known of a session while its events are explained.

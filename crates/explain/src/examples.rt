@@ -1,6 +1,6 @@
 //! What a line takes, and one that is right.
 
-use denialbench_session::form::Form;
+use session_grammar::form::Form;
 
 /// What a line of a form takes, and a right one.
 pub fn example_of(form: Form) -> (&'static str, &'static str) {

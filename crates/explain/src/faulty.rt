@@ -9,9 +9,9 @@ use answer::{Mode, Name, ZoneData, ZoneFault, ZoneRecord};
 use answer_zone_records::faults::first_fault;
 use denial_chain_owners::kept::kept_owners;
 use denial_sorted::laws::zone_data_order_is_total;
-use denialbench_print::named::Named;
-use denialbench_session::lines::Lines;
-use denialbench_session::session::{Session, read_session};
+use printed_outcomes::named::Named;
+use session_grammar::lines::Lines;
+use session_grammar::session::{Session, read_session};
 use std::alloc::{AllocError, Global};
 use std::slice;
 

@@ -25,7 +25,7 @@ use crate::options::{OPTIONS, Options, Style, Task, is_option};
 use crate::session::push_explained;
 use anyhow::{Context, Result, anyhow, ensure};
 use explain_messages::date::Date;
-use explain_zone::zone_file::{Reading, session_lines};
+use master_files::zone_file::{Reading, session_lines};
 use std::io::Read;
 use std::rt::Files;
 use std::{env, fs};

@@ -10,11 +10,11 @@ use crate::signed_alike::{push_warnings, signed_alike};
 use answer::names::ToName;
 use answer::{ZoneFault, simulate};
 use denial_nsec3_sha1::hasher::Sha1Hasher;
-use denialbench_print::scheme::BenchScheme;
-use denialbench_session::form::Form;
-use denialbench_session::line_error::LineFault;
-use denialbench_session::lines::{Lines, is_passed_over};
-use denialbench_session::session::{Session, SessionError, read_session};
+use printed_outcomes::scheme::BenchScheme;
+use session_grammar::form::Form;
+use session_grammar::line_error::LineFault;
+use session_grammar::lines::{Lines, is_passed_over};
+use session_grammar::session::{Session, SessionError, read_session};
 use std::alloc::{AllocError, Global};
 
 /// Explains the session of an input. Its only error is out of memory.

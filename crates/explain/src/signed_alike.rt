@@ -6,9 +6,9 @@ use crate::options::Options;
 use crate::session::next_counting;
 use answer::ZoneRecord;
 use answer::names::ToName;
-use denialbench_session::lines::Lines;
 use explain_messages::type_text::TypeText;
 use messages_canonical::is_record_in_form;
+use session_grammar::lines::Lines;
 use std::alloc::{AllocError, Global};
 
 /// What is said of a record that is signed otherwise elsewhere.

@@ -6,4 +6,4 @@ pub mod date;
 pub mod message;
 mod record;
 
-pub use explain_zone::type_text;
+pub use master_files::type_text;

@@ -1,7 +1,8 @@
 //! Laws of key sets.
 ghost use Rattle.keyset.specs.AskingLaws.{CdsComesWithDs, CreatedCdsAsks, RemovedCdsAsksNot};
 ghost use Rattle.keyset.specs.KeyLaws.{PhasesFollow, StartsEnter, WaitsAreExact};
-ghost use Rattle.keyset.specs.KeyRunLaws.{RolesKeep, RollsRunTogether, TagsDiffer, WaitsCountFromReports};
+ghost use Rattle.keyset.specs.KeyRunLaws.{RolesKeep, RollsRunTogether, TagsDiffer};
+ghost use Rattle.keyset.specs.KeyRunLaws.{WaitsCountFromReports};
 ghost use Rattle.keyset.specs.KeyRows.{RefusesOnTheWay, RollsSevenTimes};
 
 /// What holds of every key set, for every roll and at every moment.

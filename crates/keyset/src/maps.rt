@@ -2,7 +2,9 @@
 ghost use Rattle.std.specs.Prelude.{◌≡◌, ℕ, ◌*◌, ◌≤◌, string_bytes, OnOk, OnErr};
 ghost use Rattle.std.specs.List.{list_any};
 ghost use Rattle.std.specs.FinMap.Entries.{put};
-ghost use Rattle.keyset.specs.KeyState.{by_reference, by_kind, reference_cmp, kind_cmp, has_tag, has_needed, listed, roles_after, on_keys, started, misses, greatest_rest, without, removed, suitable};
+ghost use Rattle.keyset.specs.KeyState.{by_reference, by_kind, reference_cmp, kind_cmp, has_tag};
+ghost use Rattle.keyset.specs.KeyState.{has_needed, listed, roles_after, on_keys, started, misses};
+ghost use Rattle.keyset.specs.KeyState.{greatest_rest, without, removed, suitable};
 ghost use Rattle.keyset.specs.KeySteps.{stepped};
 ghost use Rattle.keyset.specs.Listing.{listed_by};
 ghost use Rattle.keyset_rolls.specs.Rolls.{conflicts, started_roles};

@@ -1,9 +1,18 @@
 //! The key set.
-ghost use Rattle.std.specs.Prelude.{◌≡◌, ◌∷◌, ◌++◌, ℕ, List, Bool, [], Some, string_bytes, option_copied, map, MatchResult, IfOk, IfErr, OnOk, OnErr};
+ghost use Rattle.std.specs.Prelude.{◌≡◌, ◌∷◌, ◌++◌, ℕ, List, Bool, [], Some, string_bytes};
+ghost use Rattle.std.specs.Prelude.{option_copied, map, MatchResult, IfOk, IfErr, OnOk, OnErr};
 ghost use Rattle.keyset_keys.specs.declared.keys.KeyType.TheVariants.{Ksk, Zsk, Csk, Include};
 ghost use Rattle.keyset_keys.specs.declared.errors.Error.TheVariants.{Memory};
 ghost use Rattle.keyset_rolls.specs.Actions.{actions_in};
-ghost use Rattle.keyset.specs.KeyState.{KeySetState, by_reference, by_kind, key_of, phase_of, asks_in, asks_parent, add, done, entered, on_keys, first_fault, first_new_fault, has_tag, new_fault, old_fault, report1, report2, start, start_fault, algorithms_fault, wait1, wait2, wait_fault, new_key, text_of, clear, is_available, write, decoupled_to, present_to, signer_to, at_parent_to, seen_at, ds_seen_at, rrsig_seen_at, stale_now, delete, Reference, algorithms_within, algorithm_is_within, same_algorithms};
+ghost use Rattle.keyset.specs.KeyState.{KeySetState, by_reference, by_kind, key_of, phase_of};
+ghost use Rattle.keyset.specs.KeyState.{asks_in, asks_parent, add, done, entered, on_keys};
+ghost use Rattle.keyset.specs.KeyState.{first_fault, first_new_fault, has_tag, new_fault};
+ghost use Rattle.keyset.specs.KeyState.{old_fault, report1, report2, start, start_fault};
+ghost use Rattle.keyset.specs.KeyState.{algorithms_fault, wait1, wait2, wait_fault, new_key};
+ghost use Rattle.keyset.specs.KeyState.{text_of, clear, is_available, write, decoupled_to};
+ghost use Rattle.keyset.specs.KeyState.{present_to, signer_to, at_parent_to, seen_at, ds_seen_at};
+ghost use Rattle.keyset.specs.KeyState.{rrsig_seen_at, stale_now, delete, Reference};
+ghost use Rattle.keyset.specs.KeyState.{algorithms_within, algorithm_is_within, same_algorithms};
 ghost use Rattle.keyset.specs.KeyAnswers.{Acts, Adds, Finds, GivesAtOnce, Lists, Writes};
 ghost use Rattle.keyset.specs.Listing.{AreAlgorithmsOf, listed_by};
 ghost use Rattle.keyset.specs.KeySteps.{new_csk, new_ksk, new_other, new_zsk, set_to, stepped};

@@ -1,7 +1,8 @@
 //! What is set by hand of a key, outside rolls.
 ghost use Rattle.std.specs.Prelude.{◌≡◌};
 ghost use Rattle.keyset.specs.KeyAnswers.{Sets};
-ghost use Rattle.keyset.specs.KeyState.{set_stale, on_each, on_ksk, set_present, set_signer, set_at_parent, may_sign, may_be_at_parent, published_once};
+ghost use Rattle.keyset.specs.KeyState.{set_stale, on_each, on_ksk, set_present, set_signer};
+ghost use Rattle.keyset.specs.KeyState.{set_at_parent, may_sign, may_be_at_parent, published_once};
 ghost use Rattle.keyset.specs.KeySteps.{set_to};
 
 use keyset_keys::{Error, Key, KeyState, KeyType, UnixTime};

@@ -2,7 +2,8 @@
 ghost use Rattle.std.specs.Prelude.{◌≡◌, ℕ, ◌<◌, ◌≤◌, ◌*◌, ◌^◌, ◌↔◌, IfOk, Some};
 ghost use Rattle.keyset_rolls.specs.Rolls.{awaited, stamp_read};
 ghost use Rattle.keyset.specs.KeyState.{by_reference, misses, phase_of, wait_fault};
-ghost use Rattle.keyset_due.specs.Dues.{IsDue, IsPassedFrom, IsReached, IsWaitFrom, end_of, greatest_end};
+ghost use Rattle.keyset_due.specs.Dues.{IsDue, IsPassedFrom, IsReached, IsWaitFrom, end_of};
+ghost use Rattle.keyset_due.specs.Dues.{greatest_end};
 
 use keyset::{Action, Key, KeySet, RollState, RollType, UnixTime};
 use keyset_rolls::Turn;

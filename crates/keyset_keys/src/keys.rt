@@ -26,7 +26,8 @@ pub struct KeyState {
 }
 
 impl KeyState {
-    ghost use Rattle.keyset_keys.specs.Keys.{is_available, clear, set_old, set_signer, set_present, set_at_parent, is_fresh, is_stale};
+    ghost use Rattle.keyset_keys.specs.Keys.{is_available, clear, set_old, set_signer, set_present};
+    ghost use Rattle.keyset_keys.specs.Keys.{set_at_parent, is_fresh, is_stale};
 
     /// The flags of a key that is added.
     pub fn new(available: Available) -> Self
@@ -294,7 +295,8 @@ impl Model for Key {
 }
 
 impl Key {
-    ghost use Rattle.keyset_keys.specs.Keys.{new_key, text_of, publish, see, see_ds, see_rrsig, withdraw, with_stamps};
+    ghost use Rattle.keyset_keys.specs.Keys.{new_key, text_of, publish, see, see_ds, see_rrsig};
+    ghost use Rattle.keyset_keys.specs.Keys.{withdraw, with_stamps};
 
     /// A key that was made at `creation` and has no other stamp yet.
     pub fn new(

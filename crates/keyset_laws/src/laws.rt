@@ -1,6 +1,7 @@
 //! Laws of the life of keys.
 ghost use Rattle.keyset_laws.specs.KeyLifeRows.{RetiresAndMeets};
-ghost use Rattle.keyset_laws.specs.Meeting.{CallsMakeLives, EmptyDsSetsComeFirst, RollsKeepSides, UnretiredThingsMeet};
+ghost use Rattle.keyset_laws.specs.Meeting.{CallsMakeLives, EmptyDsSetsComeFirst, RollsKeepSides};
+ghost use Rattle.keyset_laws.specs.Meeting.{UnretiredThingsMeet};
 ghost use Rattle.keyset_laws.specs.Waiting.{WaitsAreTimed};
 
 /// After all calls on a key set, accepted and refused, what was handed out and isn't retired fits

@@ -1,6 +1,7 @@
 //! Rolls, their phases, and what they ask for.
 ghost use Rattle.std.specs.Prelude.{◌≡◌, IfOk};
-ghost use Rattle.keyset_rolls.specs.Actions.{actions1, actions2, actions3, actions_in, asks_parent_in};
+ghost use Rattle.keyset_rolls.specs.Actions.{actions1, actions2, actions3, actions_in};
+ghost use Rattle.keyset_rolls.specs.Actions.{asks_parent_in};
 ghost use Rattle.keyset_rolls.specs.Rolls.{conflicts, is_of_ksks, is_of_zsks};
 
 use keyset_keys::Error;

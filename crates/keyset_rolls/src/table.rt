@@ -1,8 +1,13 @@
 //! What each roll does to one key.
 ghost use Rattle.std.specs.Prelude.{◌≡◌, ◌≤◌, ◌*◌, if◌then◌else◌};
-ghost use Rattle.keyset_keys.specs.Keys.{main_is, ksk_is, zsk_is, on_ksk, on_zsk, on_each, current, outgoing, is_present, is_at_parent, is_old, signs};
-ghost use Rattle.keyset_rolls.specs.Changes.{changed, retire, hand_over, swap, take_over, fade, leave_parent};
-ghost use Rattle.keyset_rolls.specs.Rolls.{touches, new_roles, started_roles, started_key, watched, awaited, is_missing, rest_of, reported1, reported2, wait1_roles, wait2_roles, waited1, waited2, leaves, idle, meets_need, needs, stamp_read};
+ghost use Rattle.keyset_keys.specs.Keys.{main_is, ksk_is, zsk_is, on_ksk, on_zsk, on_each, current};
+ghost use Rattle.keyset_keys.specs.Keys.{outgoing, is_present, is_at_parent, is_old, signs};
+ghost use Rattle.keyset_rolls.specs.Changes.{changed, retire, hand_over, swap, take_over, fade};
+ghost use Rattle.keyset_rolls.specs.Changes.{leave_parent};
+ghost use Rattle.keyset_rolls.specs.Rolls.{touches, new_roles, started_roles, started_key, watched};
+ghost use Rattle.keyset_rolls.specs.Rolls.{awaited, is_missing, rest_of, reported1, reported2};
+ghost use Rattle.keyset_rolls.specs.Rolls.{wait1_roles, wait2_roles, waited1, waited2, leaves};
+ghost use Rattle.keyset_rolls.specs.Rolls.{idle, meets_need, needs, stamp_read};
 
 use crate::rolls::{RollType, Turn};
 use keyset_keys::{Key, KeyState, KeyType, UnixTime};

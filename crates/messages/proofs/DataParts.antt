@@ -11,8 +11,8 @@ use Rattle.definitions.proofs.ReadingLaws.{reads_exactly}
 use Rattle.definitions.proofs.SignedLaws.{Labelled}
 use Rattle.names_rdata.specs.Reading.{behind_octets, data_at, ended, followed_by, if_short, name_inside, name_part, octets_part, rest_part, two_parts}
 use Rattle.plain.specs.Soa.{soa_part}
-use Rattle.denial_nsec_data.specs.Bitmaps.{bitmap_part}
-use Rattle.denial_nsec_data.specs.Nsec.{nsec_part}
+use Rattle.denial_data.specs.Bitmaps.{bitmap_part}
+use Rattle.denial_data.specs.Nsec.{nsec_part}
 use Rattle.denial_data.specs.Signatures.{rrsig_part}
 use Rattle.messages.specs.declared.error.MessageError.{MessageError}
 use Rattle.messages.specs.Message.{Spelled, fault_of, fits, if_true, name_in, ns_data, nsec_at, owner_at, rrsig_at, rrsig_fields, soa_data}

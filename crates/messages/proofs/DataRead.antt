@@ -14,8 +14,8 @@ use Rattle.plain.specs.declared.ns.Ns.{Ns}
 use Rattle.plain.specs.declared.soa.Soa.{Soa}
 use Rattle.plain.specs.Ns.{ns_octets, ns_canonical}
 use Rattle.plain.specs.Soa.{soa_part, soa_octets, soa_canonical, times_octets}
-use Rattle.denial_nsec_data.specs.Nsec.{nsec_part}
-use Rattle.denial_nsec_data.specs.NsecData.{NsecData, nsec_octets}
+use Rattle.denial_data.specs.Nsec.{nsec_part}
+use Rattle.denial_data.specs.NsecData.{NsecData, nsec_octets}
 use Rattle.denial_data.specs.EqualData.{NumbersFit}
 use Rattle.denial_data.specs.Protos.{numbers_octets}
 use Rattle.denial_data.specs.RrsigData.{rrsig_octets}

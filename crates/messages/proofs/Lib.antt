@@ -20,3 +20,4 @@ pub mod HandedData
 pub mod InFull
 pub mod SignOctets
 pub mod SpelledFields
+pub use Rattle.denial_data.proofs.WrittenData

@@ -16,8 +16,8 @@ use Rattle.definitions.proofs.BitmapLaws.{spells_set}
 use Rattle.names_rdata.specs.Reading.{behind_octets, data_at, ended, followed_by, if_short, octets_part}
 use Rattle.names_parser.specs.Reader.{Reader}
 use Rattle.denial_fields.specs.Counted.{counted, counted_by, counted_part}
-use Rattle.denial_nsec_data.specs.Bitmaps.{bitmap_part}
-use Rattle.denial_nsec_data.specs.Hashed.{Nsec3Data, nsec3_octets, nsec3_part, tail_part}
+use Rattle.denial_data.specs.Bitmaps.{bitmap_part}
+use Rattle.denial_data.specs.Hashed.{Nsec3Data, nsec3_octets, nsec3_part, tail_part}
 use Rattle.messages.specs.Message.{HashedNext, Spelled, data_of, hashed_next, if_true, next_of, nsec3_at, nsec3_data, nsec3_of, of_octets}
 use Rattle.messages.specs.Message as message
 use Rattle.messages.specs.Record.{hashed_link_of}

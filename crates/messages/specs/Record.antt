@@ -9,8 +9,8 @@ use Rattle.names_parsed.specs.Parsed.{parsed_name}
 use Rattle.names_parsed.specs.declared.parsed.ParsedName.{ParsedName}
 use Rattle.denial_data.specs.Protos as protos
 use Rattle.denial_data.specs.RrsigData.{RrsigData}
-use Rattle.denial_nsec_data.specs.Hashed.{Nsec3Data}
-use Rattle.denial_nsec_data.specs.NsecData.{NsecData}
+use Rattle.denial_data.specs.Hashed.{Nsec3Data}
+use Rattle.denial_data.specs.NsecData.{NsecData}
 
 abbrev pub spelled : ViewRecord → Spelled
 spelled r = record { owner = r.owner; rtype = r.rtype; class = r.class; ttl = r.ttl; start = r.start; length = r.length }

@@ -1,7 +1,8 @@
 //! Laws of messages: what is written reads back.
 
 ghost use Rattle.messages.specs.Numbers.{NumbersReadAlike};
-ghost use Rattle.messages.specs.WrittenLaws.{NamesReadBack, MessagesReadBack, SignaturesReadBack, DataReadBack};
+ghost use Rattle.messages.specs.WrittenLaws.{NamesReadBack, MessagesReadBack, SignaturesReadBack};
+ghost use Rattle.messages.specs.WrittenLaws.{DataReadBack};
 
 /// A name in wire form reads as itself, with its own spelling, wherever it stands, whatever number
 /// of pointers may be followed (RFC 1035, 3.1 and 4.1.4).

@@ -1,5 +1,6 @@
 //! What a zone asks of its names, beyond what all names have.
-ghost use Rattle.std.specs.Prelude.{◌≡◌, ℕ, ◌-◌, ◌<◌, ◌≤◌, ◌↔◌, ◌++◌, List, length, drop, None, IfOk, OnOk, IfSome};
+ghost use Rattle.std.specs.Prelude.{◌≡◌, ℕ, ◌-◌, ◌<◌, ◌≤◌, ◌↔◌, ◌++◌, List, length, drop, None};
+ghost use Rattle.std.specs.Prelude.{IfOk, OnOk, IfSome};
 ghost use Rattle.definitions.specs.Name.{IsName, wire, wire_len, low};
 ghost use Rattle.definitions.specs.Signing.{label_count};
 ghost use Rattle.definitions.specs.Zone.{star_under};

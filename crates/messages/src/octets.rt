@@ -1,5 +1,6 @@
 //! Numbers that stand in octets with the highest octet first (RFC 1035, 2.3.2).
-ghost use Rattle.std.specs.Prelude.{◌≡◌, ◌+◌, ◌<◌, ◌≤◌, length, IfErr, IfOk, slice_range, slice_index};
+ghost use Rattle.std.specs.Prelude.{◌≡◌, ◌+◌, ◌<◌, ◌≤◌, length, IfErr, IfOk, slice_range};
+ghost use Rattle.std.specs.Prelude.{slice_index};
 ghost use Rattle.messages.specs.Message.{of_octets, of_pairs, pair, quad, u16_at};
 ghost use Rattle.messages.specs.View.{Gives};
 

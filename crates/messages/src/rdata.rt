@@ -1,12 +1,14 @@
 //! The data of records within a message (RFC 1035, 3.3; RFC 4034, 3.1 and 4.1; RFC 5155, 3.2), read
 //! in place.
-ghost use Rattle.std.specs.Prelude.{◌≡◌, ◌+◌, ◌++◌, ◌<◌, ◌≤◌, length, true, IfOk, IfSome, IfNone, Some};
+ghost use Rattle.std.specs.Prelude.{◌≡◌, ◌+◌, ◌++◌, ◌<◌, ◌≤◌, length, true, IfOk, IfSome, IfNone};
+ghost use Rattle.std.specs.Prelude.{Some};
 ghost use Rattle.definitions.specs.Name.{wire};
 ghost use Rattle.definitions.specs.Limits.{pointer_limit};
 ghost use Rattle.std.specs.Cow.{cow_slice_items};
 ghost use Rattle.std.specs.Option.{option_map};
 ghost use Rattle.messages.specs.Message.{rrsig_at, nsec_at, nsec3_at, nsec3_of};
-ghost use Rattle.messages.specs.Message.{canonical_data, data_of, ns_data, soa_data, nsec_data, nsec3_data};
+ghost use Rattle.messages.specs.Message.{canonical_data, data_of, ns_data, soa_data, nsec_data};
+ghost use Rattle.messages.specs.Message.{nsec3_data};
 ghost use Rattle.messages.specs.Record.{hashed_link_of};
 ghost use Rattle.names_parsed.specs.Parsed.{parsed_name};
 ghost use Rattle.plain.specs.Ns.{ns_canonical};

@@ -8,7 +8,9 @@ ghost use Rattle.messages.specs.Record.{spelled};
 ghost use Rattle.messages.specs.View.{named};
 ghost use Rattle.names_parsed.specs.Parsed.{parsed_name};
 ghost use Rattle.messages_canonical.specs.Forms.{form_of};
-ghost use Rattle.messages_canonical.specs.Canonical.{PutsData, PutsPart, formed_data, is_canonical_data, octets_upto, part_at, parts_at, suffix_width, width_at};
+ghost use Rattle.messages_canonical.specs.Canonical.{PutsData, PutsPart, formed_data};
+ghost use Rattle.messages_canonical.specs.Canonical.{is_canonical_data, octets_upto, part_at};
+ghost use Rattle.messages_canonical.specs.Canonical.{parts_at, suffix_width, width_at};
 
 use crate::form::{Part, form_of};
 use crate::names::{put_lowered_at, put_name_at};

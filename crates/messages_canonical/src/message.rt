@@ -6,7 +6,9 @@ ghost use Rattle.definitions.specs.Limits.{pointer_limit};
 ghost use Rattle.messages.specs.Message.{data_of, records_at};
 ghost use Rattle.messages.specs.Record.{spelled};
 ghost use Rattle.messages.specs.Written.{record_octets};
-ghost use Rattle.messages_canonical.specs.Canonical.{HasNone, IsCanonical, Writes, canonical_rdata, canonical_record, canonical_records, head_octets, most_octets, with_data};
+ghost use Rattle.messages_canonical.specs.Canonical.{HasNone, IsCanonical, Writes, canonical_rdata};
+ghost use Rattle.messages_canonical.specs.Canonical.{canonical_record, canonical_records};
+ghost use Rattle.messages_canonical.specs.Canonical.{head_octets, most_octets, with_data};
 ghost use Rattle.messages_canonical.specs.InForm.{HasNoForm, IsInForm};
 ghost use Rattle.messages_canonical.specs.Walking.{StandsAt};
 

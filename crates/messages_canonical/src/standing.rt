@@ -1,5 +1,6 @@
 //! Data that stand in canonical form already, or are read in it however they stand.
-ghost use Rattle.std.specs.Prelude.{◌≡◌, ◌≤◌, true, length, slice_index, slice_range, IfOk, IfSome, Some};
+ghost use Rattle.std.specs.Prelude.{◌≡◌, ◌≤◌, true, length, slice_index, slice_range, IfOk, IfSome};
+ghost use Rattle.std.specs.Prelude.{Some};
 ghost use Rattle.std.specs.Str.{str_to_ascii_lowercase};
 ghost use Rattle.definitions.specs.Limits.{pointer_limit};
 ghost use Rattle.messages_canonical.specs.Forms.{form_of, is_among};

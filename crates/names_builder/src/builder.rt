@@ -1,6 +1,8 @@
 //! Building names label by label or octet by octet.
 
-ghost use Rattle.std.specs.Prelude.{List, true, Some, None, ◌≡◌, ◌≢◌, ◌↔◌, ◌+◌, ◌<◌, ◌≤◌, ◌++◌, ◌∷◌, ◌==◌, [], ℕ, length, slice_set, MatchOption, IfOk, IfErr, IfSome, IsOk, IsTrue, IsErrOf, OnOk, OnErr};
+ghost use Rattle.std.specs.Prelude.{List, true, Some, None, ◌≡◌, ◌≢◌, ◌↔◌, ◌+◌, ◌<◌, ◌≤◌, ◌++◌};
+ghost use Rattle.std.specs.Prelude.{◌∷◌, ◌==◌, [], ℕ, length, slice_set, MatchOption, IfOk, IfErr};
+ghost use Rattle.std.specs.Prelude.{IfSome, IsOk, IsTrue, IsErrOf, OnOk, OnErr};
 ghost use Rattle.definitions.specs.Name.{IsName};
 ghost use Rattle.names_labels.specs.Flat.{SpellsRelative, SpellsName, labels_in, spelled};
 ghost use Rattle.names_labels.specs.RefusedRelative.{RefusedRelative};
@@ -9,9 +11,13 @@ ghost use Rattle.definitions.specs.Text.{Symbol as TextSymbol};
 ghost use Rattle.names_wire.specs.Symbols.{symbol_of, is_begun};
 ghost use Rattle.names_wire.specs.Spelled.{CharsSpell, SpellsNothing};
 ghost use Rattle.names_labels.specs.Open.{if_open_short};
-ghost use Rattle.names_builder.specs.FromText.{is_text, continued, standing, text_behind, AddsChar, ReadsSymbols, StopsAtSymbol, StopsInText, FirstFault, FaultBehind};
+ghost use Rattle.names_builder.specs.FromText.{is_text, continued, standing, text_behind, AddsChar};
+ghost use Rattle.names_builder.specs.FromText.{ReadsSymbols, StopsAtSymbol, StopsInText};
+ghost use Rattle.names_builder.specs.FromText.{FirstFault, FaultBehind};
 ghost use Rattle.names_builder.specs.Fault.{CharFault, FaultAt, fault_of};
-ghost use Rattle.names_builder.specs.Building.{Building, IsShort, IsFront, octets_of_building, IsLongLabel, IsLongName, IsOver, with_octets, closed, ended, labels_with, with_labels, all_labels};
+ghost use Rattle.names_builder.specs.Building.{Building, IsShort, IsFront, octets_of_building};
+ghost use Rattle.names_builder.specs.Building.{IsLongLabel, IsLongName, IsOver, with_octets};
+ghost use Rattle.names_builder.specs.Building.{closed, ended, labels_with, with_labels, all_labels};
 
 use crate::push_error::{PushError, PushNameError};
 use crate::text::octet_of;

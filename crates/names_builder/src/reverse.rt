@@ -1,8 +1,10 @@
 //! The names of addresses (RFC 1035, 3.5; RFC 3596, 2.5).
 
-ghost use Rattle.std.specs.Prelude.{◌≡◌, ◌↔◌, ◌<◌, ◌≤◌, ◌+◌, ◌*◌, ◌%◌, ◌++◌, [], ◌∷◌, length, IfOk, IfErr, IsErrOf, OnOk, OnErr};
+ghost use Rattle.std.specs.Prelude.{◌≡◌, ◌↔◌, ◌<◌, ◌≤◌, ◌+◌, ◌*◌, ◌%◌, ◌++◌, [], ◌∷◌, length, IfOk};
+ghost use Rattle.std.specs.Prelude.{IfErr, IsErrOf, OnOk, OnErr};
 ghost use Rattle.names_labels.specs.Flat.{spelled};
-ghost use Rattle.names_builder.specs.Addresses.{decimal_label, hex_digit, decimal_labels, hex_labels, reverse_name};
+ghost use Rattle.names_builder.specs.Addresses.{decimal_label, hex_digit, decimal_labels};
+ghost use Rattle.names_builder.specs.Addresses.{hex_labels, reverse_name};
 ghost use Rattle.names_builder.specs.Building.{all_labels, IsOver, with_labels};
 
 use crate::builder::NameBuilder;

@@ -29,7 +29,8 @@ pub struct PresentationError(Fault);
 
 impl PresentationError {
     ghost use Rattle.names_builder.specs.Fault.{named};
-    ghost use Rattle.names_builder.specs.declared.text_error.Fault.TheVariants.{BinaryLabel, EmptyLabel};
+    ghost use Rattle.names_builder.specs.declared.text_error.Fault.TheVariants.{BinaryLabel};
+    ghost use Rattle.names_builder.specs.declared.text_error.Fault.TheVariants.{EmptyLabel};
 
     /// A label that begins as a binary one.
     pub(crate) fn binary_label() -> PresentationError

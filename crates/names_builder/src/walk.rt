@@ -1,9 +1,11 @@
 //! Texts of names, read in one walk over their octets (RFC 1035, 5.1). The walk reports no faults:
 //! a text that it does not read is left to the reader that goes symbol by symbol.
 
-ghost use Rattle.std.specs.Prelude.{◌≡◌, ◌≢◌, ◌<◌, ◌≤◌, ◌∷◌, Bool, true, drop, length, IfOk, IfSome};
+ghost use Rattle.std.specs.Prelude.{◌≡◌, ◌≢◌, ◌<◌, ◌≤◌, ◌∷◌, Bool, true, drop, length, IfOk};
+ghost use Rattle.std.specs.Prelude.{IfSome};
 ghost use Rattle.definitions.specs.Text.{is_digit};
-ghost use Rattle.names_builder.specs.TextWalk.{ReadsOctet, WritesLabels, SpellsText, SpellsRelativeText};
+ghost use Rattle.names_builder.specs.TextWalk.{ReadsOctet, WritesLabels, SpellsText};
+ghost use Rattle.names_builder.specs.TextWalk.{SpellsRelativeText};
 
 use std::alloc::{AllocError, Global};
 

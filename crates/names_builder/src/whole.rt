@@ -5,7 +5,9 @@ ghost use Rattle.std.specs.Iterator.{IsFinite};
 ghost use Rattle.definitions.specs.Text.{name_of_text, name_of_symbols, relative_of_text};
 ghost use Rattle.names_wire.specs.Spelled.{CharsSpell, SpellsNothing};
 ghost use Rattle.names_builder.specs.Fault.{fault_of, relative_fault_of};
-ghost use Rattle.names_builder.specs.FromText.{NameFault, RelativeFault, SymbolsFault, is_text, is_relative_text, SymbolsSpell, SymbolsSpellNothing, SpellsAbsolute};
+ghost use Rattle.names_builder.specs.FromText.{NameFault, RelativeFault, SymbolsFault, is_text};
+ghost use Rattle.names_builder.specs.FromText.{is_relative_text, SymbolsSpell, SymbolsSpellNothing};
+ghost use Rattle.names_builder.specs.FromText.{SpellsAbsolute};
 ghost use Rattle.names_builder.specs.Building.{all_labels};
 
 use crate::builder::NameBuilder;

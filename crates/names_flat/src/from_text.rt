@@ -1,12 +1,15 @@
 //! Names read from text (RFC 1035, 5.1).
 
-ghost use Rattle.std.specs.Prelude.{◌≡◌, ◌≤◌, true, None, Some, ℕ, List, IfOk, IfErr, IfSome, IsErrOf};
+ghost use Rattle.std.specs.Prelude.{◌≡◌, ◌≤◌, true, None, Some, ℕ, List, IfOk, IfErr, IfSome};
+ghost use Rattle.std.specs.Prelude.{IsErrOf};
 ghost use Rattle.std.specs.Iterator.{IsFinite};
 ghost use Rattle.std.specs.Str.{chars as chars_of};
 ghost use Rattle.definitions.specs.Text.{name_of_text, name_of_symbols, relative_of_text};
 ghost use Rattle.names_wire.specs.Spelled.{CharsSpell, SpellsNothing, in_turn};
 ghost use Rattle.names_builder.specs.Fault.{fault_of, relative_fault_of};
-ghost use Rattle.names_builder.specs.FromText.{is_text, is_relative_text, NameFault, RelativeFault, SymbolsFault, SymbolsSpell, SymbolsSpellNothing, IsAbsolute, SpellsAbsolute};
+ghost use Rattle.names_builder.specs.FromText.{is_text, is_relative_text, NameFault, RelativeFault};
+ghost use Rattle.names_builder.specs.FromText.{SymbolsFault, SymbolsSpell, SymbolsSpellNothing};
+ghost use Rattle.names_builder.specs.FromText.{IsAbsolute, SpellsAbsolute};
 
 use crate::builder::Finish;
 use crate::name::Name;

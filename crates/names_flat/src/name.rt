@@ -1,8 +1,10 @@
 //! Absolute names over flat octets.
 
-ghost use Rattle.std.specs.Prelude.{◌≡◌, ◌↔◌, ◌+◌, ◌++◌, ◌∷◌, [], ℕ, List, length, slice_index_or, IfOk, IfErr, IsOk, IsTrue};
+ghost use Rattle.std.specs.Prelude.{◌≡◌, ◌↔◌, ◌+◌, ◌++◌, ◌∷◌, [], ℕ, List, length, slice_index_or};
+ghost use Rattle.std.specs.Prelude.{IfOk, IfErr, IsOk, IsTrue};
 ghost use Rattle.definitions.specs.Name.{IsName, low, wire};
-ghost use Rattle.names_labels.specs.Flat.{StartsLabel, spelled, IsRun, IsFlat, labels_in, name_in, SpellsName};
+ghost use Rattle.names_labels.specs.Flat.{StartsLabel, spelled, IsRun, IsFlat, labels_in, name_in};
+ghost use Rattle.names_labels.specs.Flat.{SpellsName};
 ghost use Rattle.names_labels.specs.Refused.{RefusedName};
 ghost use Rattle.names_wire.specs.Label.{octets_of};
 

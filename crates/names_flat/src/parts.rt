@@ -1,6 +1,7 @@
 //! Parts of names: views over their octets, cut where labels begin.
 
-ghost use Rattle.std.specs.Prelude.{◌≡◌, ◌≤◌, ◌↔◌, ◌++◌, ◌∷◌, [], length, drop, slice_range, IsTrue, IfSome, IsNone, MatchOption};
+ghost use Rattle.std.specs.Prelude.{◌≡◌, ◌≤◌, ◌↔◌, ◌++◌, ◌∷◌, [], length, drop, slice_range};
+ghost use Rattle.std.specs.Prelude.{IsTrue, IfSome, IsNone, MatchOption};
 ghost use Rattle.definitions.specs.Name.{at_or_above, wire};
 ghost use Rattle.names_labels.specs.Compare.{begins_with};
 ghost use Rattle.names_wire.specs.Label.{octets_of};

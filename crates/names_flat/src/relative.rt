@@ -1,8 +1,10 @@
 //! Relative names over flat octets.
 
-ghost use Rattle.std.specs.Prelude.{◌∷◌, ◌++◌, ◌≡◌, ◌↔◌, ◌-◌, ◌==◌, [], ℕ, List, length, slice_get, option_map, IfOk, IfErr, IsOk};
+ghost use Rattle.std.specs.Prelude.{◌∷◌, ◌++◌, ◌≡◌, ◌↔◌, ◌-◌, ◌==◌, [], ℕ, List, length, slice_get};
+ghost use Rattle.std.specs.Prelude.{option_map, IfOk, IfErr, IsOk};
 ghost use Rattle.definitions.specs.Name.{IsName, low};
-ghost use Rattle.names_labels.specs.Flat.{StartsLabel, IsRun, IsFlatRelative, labels_in, spelled, SpellsRelative};
+ghost use Rattle.names_labels.specs.Flat.{StartsLabel, IsRun, IsFlatRelative, labels_in, spelled};
+ghost use Rattle.names_labels.specs.Flat.{SpellsRelative};
 ghost use Rattle.names_labels.specs.RefusedRelative.{RefusedRelative};
 ghost use Rattle.names_wire.specs.Label.{octets_of};
 

@@ -3,7 +3,8 @@
 ghost use Rattle.std.specs.Prelude.{◌≡◌, refl, Some};
 ghost use Rattle.std.specs.Cmp.{partial_equiv_from_equiv};
 ghost use Rattle.definitions.specs.Name.{same, name_cmp};
-ghost use Rattle.names_labels.specs.Laws.{same_equivalence, name_cmp_total, name_cmp_partial, name_cmp_ties};
+ghost use Rattle.names_labels.specs.Laws.{same_equivalence, name_cmp_total, name_cmp_partial};
+ghost use Rattle.names_labels.specs.Laws.{name_cmp_ties};
 ghost use Rattle.names_labels.specs.Feed.{labels_feed, labels_feed-same};
 
 use crate::relative::RelativeName;

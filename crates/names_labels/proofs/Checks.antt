@@ -7,7 +7,7 @@ use Rattle.std.proofs.Math.Dec.{leb-zero}
 use Rattle.std.specs.List.{AllByRecursion}
 use Rattle.std.proofs.lemmas.List.{append-nil, drop_at, take-append-drop, length-take-le}
 use Rattle.std.proofs.lemmas.List.Sums.{sum_by-cons}
-use Rattle.definitions.specs.Name.{Name, Label, wire, wire_len, IsLabel}
+use Rattle.names_wire.specs.Name.{Name, Label, wire, wire_len, IsLabel}
 use Rattle.names_labels.specs.Flat.{spelled, name_in, IsFlat, SpellsName}
 use Rattle.names_labels.specs.Refused.{head_fault, end_fault, StopsShort, RefusedName, fault_of}
 use Rattle.names_labels.specs.declared.name_error.NameError.{NameError}

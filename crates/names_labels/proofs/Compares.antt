@@ -3,7 +3,7 @@ use Rattle.std.proofs.Common.{[], ◌≡◌, ℕ, zero, suc, ◌+◌, ◌<◌, �
 use Rattle.std.specs.Prelude.{Some, slice_get}
 use Rattle.std.specs.Str.{bytes_eq, str_to_ascii_lowercase}
 use Rattle.std.proofs.lemmas.Cmp.{nat_list_eq_equiv}
-use Rattle.definitions.specs.Name.{Name, Label, same, at_or_above}
+use Rattle.names_wire.specs.Name.{Name, Label, same, at_or_above}
 use Rattle.names_labels.specs.Compare.{begins_with}
 use Rattle.std.specs.Prelude.{◌↔◌, IsTrue}
 use Rattle.std.proofs.Common.{length-drop}

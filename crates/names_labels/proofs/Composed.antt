@@ -2,7 +2,7 @@
 use Rattle.std.proofs.Common.{◌≡◌, [], ◌∷◌, ◌++◌, map, sym, ap, ◌∙◌}
 use Rattle.std.specs.Str.{str_to_ascii_lowercase}
 use Rattle.std.proofs.lemmas.List.{map-append, map-id}
-use Rattle.definitions.specs.Name.{Name, wire, low}
+use Rattle.names_wire.specs.Name.{Name, wire, low}
 use Rattle.names_labels.specs.Flat.{spelled}
 use Rattle.names_labels.specs.Order.{in_case}
 use Rattle.names_labels.specs.declared.order.Case.TheVariants.{Kept, Lowered}

@@ -4,7 +4,7 @@ use Rattle.std.proofs.Common.{◌≡◌, ℕ, zero, suc, ◌+◌, ◌-◌, ◌<�
 use Rattle.std.specs.List.{AllByRecursion}
 use Rattle.std.proofs.lemmas.List.{take_at, drop_at, take-append-drop}
 use Rattle.std.proofs.lemmas.Bool.{eqb-true, leb-true, leb-false}
-use Rattle.definitions.specs.Name.{Name, Label}
+use Rattle.names_wire.specs.Name.{Name, Label}
 use Rattle.names_labels.specs.Flat.{spelled, labels_in, IsRun, SplitsLabel, SplitsLast, SplitsRun, StartsLabel}
 use Rattle.names_labels.proofs.Runs.{spelled-append, labels_in-spelled, drop-one}
 

@@ -3,7 +3,7 @@ use Rattle.std.proofs.Common.{◌≡◌, ℕ, List, ◌∷◌, sym, ap, ◌∙�
 use Rattle.std.specs.List.{fold}
 use Rattle.std.specs.Str.{str_to_ascii_lowercase}
 use Rattle.std.proofs.lemmas.List.Sums.{fold-append}
-use Rattle.definitions.specs.Name.{Name, Label}
+use Rattle.names_wire.specs.Name.{Name, Label}
 use Rattle.names_wire.specs.Label.{label_hash}
 use Rattle.names_labels.specs.Feed.{labels_feed}
 

@@ -5,8 +5,8 @@ use Rattle.std.specs.List.{AllByRecursion}
 use Rattle.std.specs.Str.{str_to_ascii_lowercase}
 use Rattle.std.proofs.lemmas.Bool.{lt-ltb}
 use Rattle.std.proofs.lemmas.List.{map-append, length-map}
-use Rattle.definitions.specs.Name.{Name, low, same}
-use Rattle.definitions.proofs.NameLaws.{labels_decide}
+use Rattle.names_wire.specs.Name.{Name, low, same}
+use Rattle.names_wire.proofs.NameLaws.{labels_decide}
 use Rattle.names_labels.specs.Flat.{spelled, labels_in, IsRun}
 use Rattle.names_labels.proofs.Runs.{spelled-injective}
 

@@ -11,7 +11,7 @@ use Rattle.std.proofs.lemmas.List.{map-append, reverse-append, length-map, lengt
 use Rattle.std.proofs.lemmas.Cmp.{ranked}
 use Rattle.names_wire.specs.Label.{wire_label}
 use Rattle.std.proofs.lemmas.Bool.{lt-ltb, le-ltb, ne_eqb, cases_eq}
-use Rattle.definitions.specs.Name.{Name, Label, low, from_root, name_cmp}
+use Rattle.names_wire.specs.Name.{Name, Label, low, from_root, name_cmp}
 use Rattle.names_labels.specs.Flat.{spelled}
 use Rattle.names_labels.specs.Order.{in_case}
 use Rattle.names_labels.specs.declared.order.Case.{Case}

@@ -4,8 +4,8 @@ use Rattle.std.specs.Option.{option_map}
 use Rattle.std.specs.List.{list_any, AllByRecursion}
 use Rattle.std.proofs.lemmas.List.{append-nil}
 use Rattle.std.proofs.lemmas.Bool.{le-leb}
-use Rattle.definitions.specs.Name.{Name, Label, IsLabel, IsName, wire_len}
-use Rattle.definitions.specs.Text.{Symbol, Plain, is_dot, symbol_of_octet, text_of_octet, text_of_label, text_of_relative, text_of_name, dotted_text_of_name, symbols_of, pieces, onto_first, labels_of_pieces, if_short, without_last_dot, is_lone_dot, name_of_symbols, name_of_text, relative_of_symbols, relative_of_text}
+use Rattle.names_wire.specs.Name.{Name, Label, IsLabel, IsName, wire_len}
+use Rattle.names_wire.specs.Text.{Symbol, Plain, is_dot, symbol_of_octet, text_of_octet, text_of_label, text_of_relative, text_of_name, dotted_text_of_name, symbols_of, pieces, onto_first, labels_of_pieces, if_short, without_last_dot, is_lone_dot, name_of_symbols, name_of_text, relative_of_symbols, relative_of_text}
 use Rattle.names_wire.proofs.Printed.{symbol_again, prints, no_dot, as_label}
 
 -- each label is of octets

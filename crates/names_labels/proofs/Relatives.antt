@@ -5,7 +5,7 @@ use Rattle.std.specs.List.{AllByRecursion}
 use Rattle.std.proofs.lemmas.Bool.{le-leb}
 use Rattle.std.proofs.Math.Dec.{leb-zero}
 use Rattle.std.proofs.lemmas.List.{append-nil, drop_at}
-use Rattle.definitions.specs.Name.{Name, Label, IsLabel, IsName}
+use Rattle.names_wire.specs.Name.{Name, Label, IsLabel, IsName}
 use Rattle.names_labels.specs.Flat.{spelled, labels_in, IsRun, IsFlatRelative, SpellsRelative}
 use Rattle.names_labels.specs.RefusedRelative.{label_fault, fault_of, StopsShort, RefusedRelative}
 use Rattle.names_labels.specs.declared.relative_error.RelativeNameError.{RelativeNameError}

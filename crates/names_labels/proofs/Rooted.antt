@@ -7,7 +7,7 @@ use Rattle.std.specs.Cmp.Lexicographic.{slice_cmp}
 use Rattle.std.specs.Str.{bytes_eq, str_to_ascii_lowercase}
 use Rattle.std.proofs.lemmas.List.{map-append, reverse-append}
 use Rattle.std.proofs.lemmas.Bool.{and_right, eqb-true}
-use Rattle.definitions.specs.Name.{Name, Label, IsLabel, IsName, wire, low, from_root, same, name_cmp}
+use Rattle.names_wire.specs.Name.{Name, Label, IsLabel, IsName, wire, low, from_root, same, name_cmp}
 use Rattle.names_labels.specs.Flat.{spelled, labels_in, name_in, IsRun, IsFlat, SpellsName}
 use Rattle.names_labels.proofs.Runs.{labels_in-wire, wire-spelled}
 use Rattle.names_labels.proofs.Checks.{length-wire}

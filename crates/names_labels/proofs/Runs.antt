@@ -3,7 +3,7 @@ use Rattle.std.specs.Prelude.{slice_get, None, Some}
 use Rattle.std.proofs.Common.{◌≡◌, ℕ, zero, suc, ◌+◌, ◌-◌, ◌<◌, ◌≤◌, List, [], ◌∷◌, ◌++◌, length, take, drop, refl, sym, ap, ◌∙◌, append_assoc, length-append, add-one, arith}
 use Rattle.std.proofs.lemmas.List.{take_at, drop_at, drop-drop, take-append-drop}
 use Rattle.std.specs.List.{AllByRecursion}
-use Rattle.definitions.specs.Name.{Name, Label, wire}
+use Rattle.names_wire.specs.Name.{Name, Label, wire}
 use Rattle.names_labels.specs.Flat.{spelled, labels_up_to, labels_in, name_in, IsRun, SplitsLabel}
 
 pub spelled-append : (a b : Name) → spelled (a ++ b) ≡ spelled a ++ spelled b

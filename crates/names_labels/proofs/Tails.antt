@@ -11,8 +11,8 @@ use Rattle.std.specs.declared.cmp.Ordering.{Ordering}
 use Rattle.std.specs.declared.cmp.Ordering.TheVariants.{Equal}
 use Rattle.std.proofs.lemmas.Bool.{cases_lt}
 use Rattle.std.proofs.lemmas.List.{drop_at, drop-drop, drop-map, length-map, map-append, take-append-drop, get_or-take, get_or-drop, get_or_past, length-take}
-use Rattle.definitions.specs.Name.{Name, Label, same, name_cmp}
-use Rattle.definitions.proofs.NameLaws.{equal_is_same, same_is_equal}
+use Rattle.names_wire.specs.Name.{Name, Label, same, name_cmp}
+use Rattle.names_wire.proofs.NameLaws.{equal_is_same, same_is_equal}
 use Rattle.names_wire.specs.Label.{octets_of}
 use Rattle.names_wire.specs.declared.label.Label.{Label as LabelOf}
 use Rattle.names_labels.specs.Flat.{spelled, labels_in, IsRun, SplitsLabel}

@@ -4,8 +4,8 @@ use Rattle.std.specs.Option.{option_map, option_and_then}
 use Rattle.std.specs.List.{list_all, list_any}
 use Rattle.std.proofs.lemmas.List.{append-nil, length-map}
 use Rattle.std.proofs.lemmas.Bool.{and_parts, leb-true, leb-false, lt-leb, le-leb, lt-ltb}
-use Rattle.definitions.specs.Text.{Symbol, is_symbol, is_dot, octet, begins_binary, is_label_text, label_of_symbols, labels_of_pieces, pieces, onto_first, without_last_dot}
-use Rattle.definitions.specs.Name.{Name, Label}
+use Rattle.names_wire.specs.Text.{Symbol, is_symbol, is_dot, octet, begins_binary, is_label_text, label_of_symbols, labels_of_pieces, pieces, onto_first, without_last_dot}
+use Rattle.names_wire.specs.Name.{Name, Label}
 use Rattle.names_labels.specs.Open.{binary_behind, piece_behind, some_before, open_labels, without_empty}
 
 -- a symbol goes on behind an open label

@@ -1,7 +1,7 @@
 -- The text of names with a dot behind each label.
 use Rattle.std.proofs.Common.{◌≡◌, ℕ, ◌+◌, ◌*◌, ◌-◌, ◌<◌, ◌≤◌, Bool, true, false, cond, List, [], ◌∷◌, ◌++◌, length, take, refl, sym, ap, ◌∙◌, append_assoc, length-append, arith}
-use Rattle.definitions.specs.Name.{Name, Label}
-use Rattle.definitions.specs.Text.{Plain, Quoted, Decimal, is_quoted, is_printable, spelling, text_of_octet, text_of_label, text_of_relative, text_of_name}
+use Rattle.names_wire.specs.Name.{Name, Label}
+use Rattle.names_wire.specs.Text.{Plain, Quoted, Decimal, is_quoted, is_printable, spelling, text_of_octet, text_of_label, text_of_relative, text_of_name}
 use Rattle.std.proofs.lemmas.List.{append-nil, take_at, take_more}
 use Rattle.std.proofs.lemmas.Grind.{flat_map-append}
 use Rattle.std.specs.List.{slice_index}

@@ -2,8 +2,8 @@
 use Rattle.std.proofs.Common.{◌≡◌, ℕ, ◌+◌, ◌-◌, ◌*◌, ◌<◌, ◌≤◌, Bool, true, false, cond, ◌&&◌, List, [], ◌∷◌, ◌++◌, length, refl, sym, ap, ◌∙◌, arith, nat_eq, nat_le, length-append, subst, Option, Some, None}
 use Rattle.std.specs.Option.{option_map, option_and_then}
 use Rattle.std.proofs.lemmas.List.Sums.{sum_by-cons}
-use Rattle.definitions.specs.Name.{Name, Label, wire_len}
-use Rattle.definitions.specs.Text.{Symbol, Plain, Quoted, Decimal, is_dot, is_digit, is_printable, octet, octet_at, escape_at, symbol_at, symbols_behind, symbols_of, tail_len, pieces, labels_of_pieces, if_short, without_last_dot, is_lone_dot, name_of_symbols, name_of_text, relative_of_symbols, relative_of_text}
+use Rattle.names_wire.specs.Name.{Name, Label, wire_len}
+use Rattle.names_wire.specs.Text.{Symbol, Plain, Quoted, Decimal, is_dot, is_digit, is_printable, octet, octet_at, escape_at, symbol_at, symbols_behind, symbols_of, tail_len, pieces, labels_of_pieces, if_short, without_last_dot, is_lone_dot, name_of_symbols, name_of_text, relative_of_symbols, relative_of_text}
 use Rattle.names_labels.specs.Open.{some_before, open_labels, without_empty, if_open_short, read_behind}
 use Rattle.names_labels.proofs.Taken.{taken, fits, taken_pieces, absolute_labels, relative_labels, if_closed}
 

@@ -1,7 +1,7 @@
 -- Names compared label by label.
 use Rattle.std.specs.Prelude.{Bool, true, false, ◌&&◌, [], ◌∷◌}
 use Rattle.std.specs.Str.{bytes_eq, str_to_ascii_lowercase}
-use Rattle.definitions.specs.Name.{Name}
+use Rattle.names_wire.specs.Name.{Name}
 
 -- the labels of a name begin with those of another, up to ASCII case
 abbrev pub begins_with : Name → Name → Bool

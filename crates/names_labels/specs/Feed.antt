@@ -5,7 +5,7 @@ use Rattle.std.specs.List.{flat_map}
 use Rattle.std.specs.Str.{bytes_eq, str_to_ascii_lowercase}
 use Rattle.std.proofs.lemmas.Slice.Eq.{bytes_eq-Decides}
 use Rattle.std.proofs.lemmas.Bool.{and_parts}
-use Rattle.definitions.specs.Name.{Name, same}
+use Rattle.names_wire.specs.Name.{Name, same}
 use Rattle.names_wire.specs.Label.{label_hash}
 
 -- each label, with ASCII letters lowered

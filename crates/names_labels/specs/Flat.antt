@@ -1,7 +1,7 @@
 -- Labels in a row of octets, each behind its length (RFC 1035, 3.1).
 use Rattle.std.specs.Prelude.{◌≡◌, ℕ, zero, suc, ◌-◌, ◌≤◌, List, [], ◌∷◌, ◌++◌, length, take, drop}
 use Rattle.std.specs.List.{flat_map, AllByRecursion}
-use Rattle.definitions.specs.Name.{Name, Label, wire, IsName}
+use Rattle.names_wire.specs.Name.{Name, Label, wire, IsName}
 
 -- The octets of labels in a row. With the root's empty label last they are the wire form of a name.
 abbrev pub spelled : Name → List ℕ

@@ -7,7 +7,7 @@ use Rattle.std.specs.Cmp.Lexicographic.{slice_cmp, lists_ties, texts_ties, point
 use Rattle.std.proofs.lemmas.Slice.Eq.{bytes_eq-Decides}
 use Rattle.std.proofs.lemmas.List.{reverse-reverse}
 use Rattle.std.proofs.lemmas.Cmp.{nat_list_eq_equiv, nat_list_cmp_total, lists_equiv, lists_total}
-use Rattle.definitions.specs.Name.{Name, low, from_root, labels_eq, same, name_cmp}
+use Rattle.names_wire.specs.Name.{Name, low, from_root, labels_eq, same, name_cmp}
 
 pub same_equivalence : IsEquivalence same
 same_equivalence = on_equiv low (lists_equiv nat_list_eq_equiv)

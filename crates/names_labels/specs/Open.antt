@@ -2,8 +2,8 @@
 use Rattle.std.specs.Prelude.{◌+◌, Bool, false, not, ◌&&◌, if◌then◌else◌, nat_le, List, [], ◌∷◌, ◌++◌, map, length, Option, Some, None}
 use Rattle.std.specs.List.{list_all}
 use Rattle.std.specs.Option.{option_map}
-use Rattle.definitions.specs.Name.{Name, Label, wire_len}
-use Rattle.definitions.specs.Text.{Symbol, is_symbol, octet, begins_binary, pieces}
+use Rattle.names_wire.specs.Name.{Name, Label, wire_len}
+use Rattle.names_wire.specs.Text.{Symbol, is_symbol, octet, begins_binary, pieces}
 
 -- a binary label would begin with these symbols; within an open label none begins
 abbrev pub binary_behind : Label → List Symbol → Bool

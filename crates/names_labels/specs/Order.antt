@@ -1,7 +1,7 @@
 -- Labels and octets in the case in which they are compared.
 use Rattle.std.specs.Prelude.{◌≡◌, ℕ, ◌-◌, ◌≤◌, List, length, drop}
 use Rattle.std.specs.Str.{str_to_ascii_lowercase}
-use Rattle.definitions.specs.Name.{Label}
+use Rattle.names_wire.specs.Name.{Label}
 use Rattle.names_labels.specs.declared.order.Case.{Case}
 use Rattle.names_labels.specs.declared.order.Case.TheVariants.{Kept, Lowered}
 

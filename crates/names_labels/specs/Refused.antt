@@ -1,7 +1,7 @@
 -- Why octets are no name (RFC 1035, 3.1).
 use Rattle.std.specs.Prelude.{◌≡◌, ℕ, ◌<◌, ◌≤◌, List, [], ◌∷◌, ◌++◌, length, Option, Some, None, Result, Ok, Err, ◌⊎◌, zero, suc}
 use Rattle.std.specs.List.{AllByRecursion}
-use Rattle.definitions.specs.Name.{Name, Label, IsLabel}
+use Rattle.names_wire.specs.Name.{Name, Label, IsLabel}
 use Rattle.names_labels.specs.Flat.{spelled}
 use Rattle.names_wire.specs.Label.{split}
 use Rattle.names_wire.specs.declared.label.SplitLabelError.{SplitLabelError}

@@ -1,6 +1,6 @@
 -- A name and its ancestors.
 use Rattle.std.specs.Prelude.{ℕ, ◌<◌, List, [], ◌∷◌, length}
-use Rattle.definitions.specs.Name.{Name}
+use Rattle.names_wire.specs.Name.{Name}
 use Rattle.names_labels.specs.Flat.{name_in, IsFlat}
 
 -- the name, its parent and so on to the root

@@ -1,6 +1,6 @@
 -- Labels that were walked over (RFC 1035, 3.1).
 use Rattle.std.specs.Prelude.{◌≡◌, ℕ, ◌+◌, ◌<◌, ◌≤◌, List, ◌++◌, length, Option, Some, None}
-use Rattle.definitions.specs.Name.{Name, Label}
+use Rattle.names_wire.specs.Name.{Name, Label}
 use Rattle.names_labels.specs.Flat.{labels_in, IsRun, SplitsLabel}
 use Rattle.names_wire.specs.Label.{octets_of}
 use Rattle.names_wire.specs.declared.label.Label.{Label as LabelOf}

@@ -1,6 +1,6 @@
 -- Going from label to label.
 use Rattle.std.specs.Prelude.{ℕ, drop}
-use Rattle.definitions.specs.Name.{Name}
+use Rattle.names_wire.specs.Name.{Name}
 use Rattle.names_labels.specs.Flat.{IsRunOf}
 use Rattle.names_labels.specs.declared.traits.Spot.{Spot}
 use Rattle.names_labels.specs.declared.traits.Spot.TheVariants.{Row, Place}

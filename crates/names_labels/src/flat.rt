@@ -1,6 +1,8 @@
-ghost use Rattle.std.specs.Prelude.{◌≡◌, ◌↔◌, ℕ, List, length, [], take, drop, true, IsTrue, MatchOption, option_map, slice_get};
-ghost use Rattle.definitions.specs.Name.{same};
-ghost use Rattle.names_labels.specs.Flat.{labels_in, spelled, IsRun, SplitsLabel, SplitsLast, SplitsRun, StartsLabel};
+ghost use Rattle.std.specs.Prelude.{◌≡◌, ◌↔◌, ℕ, List, length, [], take, drop, true, IsTrue};
+ghost use Rattle.std.specs.Prelude.{MatchOption, option_map, slice_get};
+ghost use Rattle.names_wire.specs.Name.{same};
+ghost use Rattle.names_labels.specs.Flat.{labels_in, spelled, IsRun, SplitsLabel, SplitsLast};
+ghost use Rattle.names_labels.specs.Flat.{SplitsRun, StartsLabel};
 ghost use Rattle.names_wire.specs.Label.{octets_of};
 
 use names_wire::label::Label;

@@ -2,8 +2,9 @@
 
 ghost use Rattle.std.specs.Prelude.{◌≡◌, Some};
 ghost use Rattle.names_labels.specs.Octets.{AreOctets};
-ghost use Rattle.definitions.specs.Name.{Name, IsName};
-ghost use Rattle.definitions.specs.Text.{name_of_text, relative_of_text, text_of_name, text_of_relative, dotted_text_of_name};
+ghost use Rattle.names_wire.specs.Name.{Name, IsName};
+ghost use Rattle.names_wire.specs.Text.{name_of_text, relative_of_text, text_of_name};
+ghost use Rattle.names_wire.specs.Text.{text_of_relative, dotted_text_of_name};
 
 /// A printed name reads as the same labels, octet for octet (RFC 1035, 5.1). This holds for an
 /// absolute name, with or without its last dot, and for a relative name, also an empty one.

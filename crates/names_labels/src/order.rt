@@ -6,7 +6,7 @@ ghost use Rattle.std.specs.Char.{to_ascii_lowercase};
 ghost use Rattle.std.specs.Ordering.{nat_cmp};
 ghost use Rattle.std.specs.Cmp.Lexicographic.{slice_cmp};
 ghost use Rattle.names_wire.specs.Label.{octets_of, wire_label};
-ghost use Rattle.definitions.specs.Name.{low, wire, name_cmp};
+ghost use Rattle.names_wire.specs.Name.{low, wire, name_cmp};
 ghost use Rattle.names_labels.specs.Flat.{labels_in, spelled, IsRun};
 ghost use Rattle.names_labels.specs.Order.{in_case, SameEnds, HaveTail};
 ghost use Rattle.names_labels.specs.Walked.{WalksTo};

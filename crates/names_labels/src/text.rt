@@ -1,9 +1,10 @@
 //! The text of names (RFC 1035, 5.1), gathered so that it is written in one call.
 
-ghost use Rattle.std.specs.Prelude.{◌≡◌, ◌+◌, ◌*◌, ◌-◌, ◌<◌, ◌≤◌, ◌++◌, ◌∷◌, [], Some, length, take};
+ghost use Rattle.std.specs.Prelude.{◌≡◌, ◌+◌, ◌*◌, ◌-◌, ◌<◌, ◌≤◌, ◌++◌, ◌∷◌, [], Some, length};
+ghost use Rattle.std.specs.Prelude.{take};
 ghost use Rattle.std.specs.Str.{IsAscii};
 ghost use Rattle.std.specs.Fmt.{DisplaysOnOk};
-ghost use Rattle.definitions.specs.Text.{text_of_octet, text_of_label, text_of_relative};
+ghost use Rattle.names_wire.specs.Text.{text_of_octet, text_of_label, text_of_relative};
 ghost use Rattle.names_labels.specs.Flat.{labels_in, IsRun};
 ghost use Rattle.names_wire.specs.Label.{octets_of};
 ghost use Rattle.names_wire.specs.Symbols.{is_plain};

@@ -1,7 +1,8 @@
 //! What names have in common, however they are kept: labels by place.
 
-ghost use Rattle.std.specs.Prelude.{◌≡◌, ◌++◌, ◌∷◌, [], ◌≤◌, ◌+◌, ◌-◌, ℕ, length, option_map, slice_get, drop, IfSome, MatchOption, Some, None};
-ghost use Rattle.definitions.specs.Name.{Name, IsName, at_or_above, same};
+ghost use Rattle.std.specs.Prelude.{◌≡◌, ◌++◌, ◌∷◌, [], ◌≤◌, ◌+◌, ◌-◌, ℕ, length, option_map};
+ghost use Rattle.std.specs.Prelude.{slice_get, drop, IfSome, MatchOption, Some, None};
+ghost use Rattle.names_wire.specs.Name.{Name, IsName, at_or_above, same};
 ghost use Rattle.names_labels.specs.Flat.{spelled, IsRunOf};
 ghost use Rattle.std.specs.Iterator.{YieldsFirstBy, YieldsLastBy, item_count};
 ghost use Rattle.names_wire.specs.Label.{octets_of};

@@ -2,7 +2,9 @@
 
 ghost use Rattle.std.specs.Prelude.{◌≡◌, refl, Some};
 ghost use Rattle.std.specs.Cmp.{partial_equiv_from_equiv};
-ghost use Rattle.names_parsed.specs.Orders.{parsed_same, parsed_cmp, parsed_feed, parsed_feed-same, parsed_equivalence, parsed_total, parsed_partial, parsed_ties};
+ghost use Rattle.names_parsed.specs.Orders.{parsed_same, parsed_cmp, parsed_feed, parsed_feed-same};
+ghost use Rattle.names_parsed.specs.Orders.{parsed_equivalence, parsed_total, parsed_partial};
+ghost use Rattle.names_parsed.specs.Orders.{parsed_ties};
 
 use crate::parsed::ParsedName;
 use names_labels::feed::feed_labels;

@@ -1,6 +1,8 @@
 //! Names that stand in a message (RFC 1035, 4.1.4).
 
-ghost use Rattle.std.specs.Prelude.{◌≡◌, ◌↔◌, ◌+◌, ◌++◌, ◌∷◌, ◌<◌, ◌≤◌, [], true, false, length, drop, slice_index_or, IfOk, IfErr, IfSome, IsNone, IsTrue, OnOk, OnErr, MatchOption};
+ghost use Rattle.std.specs.Prelude.{◌≡◌, ◌↔◌, ◌+◌, ◌++◌, ◌∷◌, ◌<◌, ◌≤◌, [], true, false, length};
+ghost use Rattle.std.specs.Prelude.{drop, slice_index_or, IfOk, IfErr, IfSome, IsNone, IsTrue};
+ghost use Rattle.std.specs.Prelude.{OnOk, OnErr, MatchOption};
 ghost use Rattle.definitions.specs.Name.{IsName, at_or_above};
 ghost use Rattle.names_wire.specs.Label.{octets_of};
 ghost use Rattle.names_labels.specs.Compare.{begins_with};
@@ -36,7 +38,8 @@ pub struct ParsedName<'a> {
 }
 
 impl<'a> ParsedName<'a> {
-    ghost use Rattle.names_parsed.specs.Parsed.{parsed_name, message_of, place_of, ReadsName, NoName, StopsAt, HasPointers, HasNoPointers};
+    ghost use Rattle.names_parsed.specs.Parsed.{parsed_name, message_of, place_of, ReadsName};
+    ghost use Rattle.names_parsed.specs.Parsed.{NoName, StopsAt, HasPointers, HasNoPointers};
 
     /// The suffix of this name that stands at a place of the message and has `labels` labels.
     fn suffix(&self, start: usize, labels: u8) -> Self

@@ -2,7 +2,7 @@
 use Rattle.std.specs.Prelude.{ℕ, ◌+◌, ◌%◌, ◌^◌, Bool, true, false, Option, Some, None}
 use Rattle.std.specs.declared.cmp.Ordering.{Ordering}
 use Rattle.std.specs.declared.cmp.Ordering.TheVariants.{Less, Equal, Greater}
-use Rattle.definitions.specs.Serial.{serial_le}
+use Rattle.names_wire.specs.Serial.{serial_le}
 
 -- the order of two numbers of which each is or isn't at or before the other; half a circle apart, neither is
 abbrev pub order_by : Bool → Bool → Option Ordering

@@ -4,7 +4,7 @@ ghost use Rattle.std.specs.Fmt.{decimal};
 ghost use Rattle.std.specs.Prelude.{◌≡◌, Some, ◌≤◌, ◌++◌, length, OnOk, OnErr};
 ghost use Rattle.std.specs.Int.{w32, from_be_bytes, to_be_bytes};
 ghost use Rattle.std.specs.Ordering.{nat_cmp};
-ghost use Rattle.definitions.specs.Serial.{serial_le};
+ghost use Rattle.names_wire.specs.Serial.{serial_le};
 ghost use Rattle.names_wire.specs.Room.{LeavesRoom};
 ghost use Rattle.names_parser.specs.Reader.{Takes};
 ghost use Rattle.names_parser.specs.Serials.{serial_add, serial_cmp};

@@ -1,6 +1,7 @@
 //! What the data of records have in common, whatever their type (RFC 1035, 3.2.1).
 
-ghost use Rattle.std.specs.Prelude.{◌≡◌, ◌↔◌, ◌++◌, ℕ, Bool, true, List, Result, length, IfSome, IfOk, IsNone, IsTrue, OnOk, OnErr};
+ghost use Rattle.std.specs.Prelude.{◌≡◌, ◌↔◌, ◌++◌, ℕ, Bool, true, List, Result, length, IfSome};
+ghost use Rattle.std.specs.Prelude.{IfOk, IsNone, IsTrue, OnOk, OnErr};
 ghost use Rattle.definitions.specs.Reading.{ReadFault};
 ghost use Rattle.names_parser.specs.Reader.{Reader};
 ghost use Rattle.names_wire.specs.Room.{LeavesRoom};

@@ -2,7 +2,9 @@
 
 ghost use Rattle.std.specs.Prelude.{◌≡◌, refl, Some};
 ghost use Rattle.std.specs.Cmp.{partial_equiv_from_equiv};
-ghost use Rattle.names_rdata.specs.Unknown.{opaque_eq, opaque_cmp, opaque_feed, opaque_equivalence, opaque_total, opaque_ties, opaque_partial, opaque_feed-same};
+ghost use Rattle.names_rdata.specs.Unknown.{opaque_eq, opaque_cmp, opaque_feed, opaque_equivalence};
+ghost use Rattle.names_rdata.specs.Unknown.{opaque_total, opaque_ties, opaque_partial};
+ghost use Rattle.names_rdata.specs.Unknown.{opaque_feed-same};
 
 use crate::unknown::UnknownRecordData;
 use names_wire::octets::Octets;

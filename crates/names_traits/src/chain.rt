@@ -1,8 +1,10 @@
 //! Names that stand one behind the other.
 
-ghost use Rattle.std.specs.Prelude.{◌≡◌, ◌⊎◌, ◌↔◌, ◌+◌, ◌<◌, ◌++◌, ◌∷◌, [], length, refl, IfOk, IsErr};
+ghost use Rattle.std.specs.Prelude.{◌≡◌, ◌⊎◌, ◌↔◌, ◌+◌, ◌<◌, ◌++◌, ◌∷◌, [], length, refl, IfOk};
+ghost use Rattle.std.specs.Prelude.{IsErr};
 ghost use Rattle.names_labels.specs.Flat.{spelled};
-ghost use Rattle.names_traits.specs.Chains.{absolute_end, relative_end, chain_end, chain_rooted, chain_unrooted};
+ghost use Rattle.names_traits.specs.Chains.{absolute_end, relative_end, chain_end, chain_rooted};
+ghost use Rattle.names_traits.specs.Chains.{chain_unrooted};
 
 use crate::to_name::ToName;
 use crate::to_relative::ToRelativeName;

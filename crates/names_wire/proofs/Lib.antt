@@ -9,3 +9,4 @@ pub mod LabelFaults
 pub mod AlongNames
 pub mod PlainText
 pub mod Room
+pub use Rattle.definitions.proofs.NameLaws

@@ -8,3 +8,6 @@ pub mod Slices
 pub mod Spelled
 pub mod Symbols
 pub mod Writable
+pub use Rattle.definitions.specs.Name
+pub use Rattle.definitions.specs.Text
+pub use Rattle.definitions.specs.Serial

@@ -1,6 +1,7 @@
 //! Octets that grow at their end.
 
-ghost use Rattle.std.specs.Prelude.{◌≡◌, ℕ, List, ◌++◌, take, OnOk, OnErr, length, refl, ◌+◌, ◌<◌, ◌≤◌};
+ghost use Rattle.std.specs.Prelude.{◌≡◌, ℕ, List, ◌++◌, take, OnOk, OnErr, length, refl, ◌+◌, ◌<◌};
+ghost use Rattle.std.specs.Prelude.{◌≤◌};
 ghost use Rattle.std.specs.Borrow.{Lends, sem, Array, u8 as byte};
 ghost use Rattle.std.specs.Vec.{with_items, vec_len, vec_capacity};
 ghost use Rattle.arrayvec.specs.ArrayVec.{with_items as with_array_items};

@@ -1,6 +1,7 @@
 //! Labels in wire form.
 
-ghost use Rattle.std.specs.Prelude.{◌≡◌, ◌==◌, ◌≤◌, ◌↔◌, [], ◌∷◌, length, MatchResult, Ok, Err, IfOk, IsOk, IsTrue, OnOk, OnErr, ◌++◌, ◌+◌};
+ghost use Rattle.std.specs.Prelude.{◌≡◌, ◌==◌, ◌≤◌, ◌↔◌, [], ◌∷◌, length, MatchResult, Ok, Err};
+ghost use Rattle.std.specs.Prelude.{IfOk, IsOk, IsTrue, OnOk, OnErr, ◌++◌, ◌+◌};
 ghost use Rattle.std.specs.Ordering.{nat_cmp};
 ghost use Rattle.std.specs.Cmp.Lexicographic.{slice_cmp};
 

@@ -1,6 +1,7 @@
 //! Labels one after another.
 
-ghost use Rattle.std.specs.Prelude.{◌≡◌, ◌≤◌, ◌<◌, length, drop, Some, None, OnSome, IfSome, [], IfNone, IsNone, ◌⊎◌, MatchResult, Ok, Err};
+ghost use Rattle.std.specs.Prelude.{◌≡◌, ◌≤◌, ◌<◌, length, drop, Some, None, OnSome, IfSome, []};
+ghost use Rattle.std.specs.Prelude.{IfNone, IsNone, ◌⊎◌, MatchResult, Ok, Err};
 ghost use Rattle.std.specs.Option.{option_map};
 ghost use Rattle.std.specs.Iterator.{YieldsFirstBy, item_count};
 ghost use Rattle.definitions.specs.Limits.{pointer_limit};

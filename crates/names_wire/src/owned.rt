@@ -1,6 +1,7 @@
 //! Labels that own their octets.
 
-ghost use Rattle.std.specs.Prelude.{◌≡◌, ◌≤◌, slice_index, ◌++◌, [], ◌∷◌, true, ℕ, List, Some, None, IfOk, IfErr, OnOk, OnErr};
+ghost use Rattle.std.specs.Prelude.{◌≡◌, ◌≤◌, slice_index, ◌++◌, [], ◌∷◌, true, ℕ, List, Some};
+ghost use Rattle.std.specs.Prelude.{None, IfOk, IfErr, OnOk, OnErr};
 ghost use Rattle.std.specs.Str.{str_to_ascii_lowercase, chars};
 ghost use Rattle.std.specs.Iterator.{IsFinite};
 ghost use Rattle.definitions.specs.Text.{is_symbol, octet, label_of_text};

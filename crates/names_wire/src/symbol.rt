@@ -1,10 +1,13 @@
 //! Symbols, of which the text of names is made (RFC 1035, 5.1).
 
-ghost use Rattle.std.specs.Prelude.{◌≡◌, ◌≢◌, false, ◌↔◌, ◌++◌, ℕ, List, [], ◌∷◌, true, IfOk, IfErr, IfSome, IsOk, IsTrue, OnErr, OnOk, None, Some};
-ghost use Rattle.definitions.specs.Text.{is_symbol, is_digit, octet, spelling, symbol_of_octet, symbols_of, octet_at, Plain, Quoted};
+ghost use Rattle.std.specs.Prelude.{◌≡◌, ◌≢◌, false, ◌↔◌, ◌++◌, ℕ, List, [], ◌∷◌, true, IfOk};
+ghost use Rattle.std.specs.Prelude.{IfErr, IfSome, IsOk, IsTrue, OnErr, OnOk, None, Some};
+ghost use Rattle.definitions.specs.Text.{is_symbol, is_digit, octet, spelling, symbol_of_octet};
+ghost use Rattle.definitions.specs.Text.{symbols_of, octet_at, Plain, Quoted};
 ghost use Rattle.std.specs.Option.{option_map};
 ghost use Rattle.std.specs.Result.{result_ok};
-ghost use Rattle.names_wire.specs.Symbols.{symbol_of, Takes, written, ReadsAs, char_fault, is_begun, left_of};
+ghost use Rattle.names_wire.specs.Symbols.{symbol_of, Takes, written, ReadsAs, char_fault};
+ghost use Rattle.names_wire.specs.Symbols.{is_begun, left_of};
 
 use std::fmt;
 use std::marker::Model;

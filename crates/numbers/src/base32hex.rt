@@ -1,7 +1,9 @@
 //! base32hex: unpadded and in lower case, eight digits for five octets (RFC 4648, 7; RFC 5155,
 //! 3.3).
 
-ghost use Rattle.std.specs.Prelude.{◌≡◌, ◌==◌, ◌<◌, ◌++◌, ◌∷◌, [], length, not, position, slice_index_or, take, IsTrue, OnOk, OnErr, IfOk, IfErr, MatchBool, MatchOption, ◌↔◌};
+ghost use Rattle.std.specs.Prelude.{◌≡◌, ◌==◌, ◌<◌, ◌++◌, ◌∷◌, [], length, not, position};
+ghost use Rattle.std.specs.Prelude.{slice_index_or, take, IsTrue, OnOk, OnErr, IfOk, IfErr};
+ghost use Rattle.std.specs.Prelude.{MatchBool, MatchOption, ◌↔◌};
 ghost use Rattle.std.specs.Char.{to_ascii_lowercase};
 ghost use Rattle.std.specs.List.{AllByRecursion, list_all};
 ghost use Rattle.std.specs.Str.{str_to_ascii_lowercase};

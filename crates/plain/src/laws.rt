@@ -4,7 +4,8 @@
 ghost use Rattle.definitions.specs.Name.{Name, IsName, wire};
 ghost use Rattle.names_rdata.specs.Reading.{name_part};
 ghost use Rattle.names_rdata.specs.ReadBack.{IsReadBack};
-ghost use Rattle.plain.specs.Spelling.{SoaIsReadBack, SoaIsNamesAndNumbers, NsIsName, SoaOctetsSpell, NsOctetsSpell, RecordOctetsSpell};
+ghost use Rattle.plain.specs.Spelling.{SoaIsReadBack, SoaIsNamesAndNumbers, NsIsName};
+ghost use Rattle.plain.specs.Spelling.{SoaOctetsSpell, NsOctetsSpell, RecordOctetsSpell};
 
 /// SOA data are read as the octets that were written, wherever they stand in a message (RFC 1035,
 /// 3.3.13).

@@ -5,7 +5,8 @@ ghost use Rattle.std.specs.Ordering.{nat_cmp};
 ghost use Rattle.std.specs.Cmp.Lexicographic.{slice_cmp};
 ghost use Rattle.names_parsed.specs.Parsed.{parsed_name};
 ghost use Rattle.names_rdata.specs.Reading.{ReadsData, data_at};
-ghost use Rattle.plain.specs.ZoneData.{zone_type, zone_octets, zone_canonical, zone_part, zone_compressible};
+ghost use Rattle.plain.specs.ZoneData.{zone_type, zone_octets, zone_canonical, zone_part};
+ghost use Rattle.plain.specs.ZoneData.{zone_compressible};
 
 use crate::ns::Ns;
 use crate::soa::Soa;

@@ -7,7 +7,7 @@ use Rattle.messages.specs.Questions.{asked_of}
 use Rattle.answer_judge_octets.specs.Written.{IsList}
 use Rattle.answer_judge_octets.specs.declared.reply.ReplyCode.{ReplyCode}
 use Rattle.answer_judge_octets.specs.declared.reply.ReplyCode.TheVariants as c
-use Rattle.resolution_evidence.specs.Given.{Message}
+use Rattle.evidence_laws.specs.Given.{Message}
 use Rattle.resolution_octets.specs.ReadMessages.{message_of}
 use Rattle.resolution_octets.specs.Sent.{FitsSent, Sent, sent_octets}
 use Rattle.resolution_octets.specs.Spelling.{AreRead, IsRead, IsUnread, SomeUnread, Unread}

@@ -9,7 +9,7 @@ use Rattle.answer_judge.specs.declared.verdict.Refusal.{Refusal}
 use Rattle.answer_extended_errors.specs.declared.error.ExtendedError.{ExtendedError}
 use Rattle.answer_extended_errors.specs.declared.error.ExtendedError.TheVariants as x
 use Rattle.answer_judge_octets.specs.Replying.{error_of}
-use Rattle.resolution_evidence.specs.Given.{Given, IsOf}
+use Rattle.evidence_laws.specs.Given.{Given, IsOf}
 use Rattle.resolution_walk.specs.Wanted.{is_lacking}
 use Rattle.resolution_octets.specs.Saying.{IsErrorOf}
 

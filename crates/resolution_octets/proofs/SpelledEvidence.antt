@@ -7,7 +7,7 @@ use Rattle.answer_judge_octets.specs.Replying.{judged_ds}
 use Rattle.answer_judge_octets.specs.Written.{FitsChecked, FitsDs, checked_octets, ds_octets}
 use Rattle.answer_judge_octets.proofs.ListsRead.{spelled_once}
 use Rattle.answer_judge_octets.proofs.SpelledCases.{one_flag, one_of, one_some}
-use Rattle.resolution_evidence.specs.Given.{Given, Message}
+use Rattle.evidence_laws.specs.Given.{Given, Message}
 use Rattle.resolution_octets.specs.Laws.{OctetsSpellOneEvidence}
 use Rattle.resolution_octets.specs.Sent.{FitsSent, Sent, sent_octets}
 use Rattle.resolution_octets.specs.SentOnce.{once_sent, some_sent}

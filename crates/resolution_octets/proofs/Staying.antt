@@ -4,9 +4,9 @@ use Rattle.std.specs.Prelude.{min}
 use Rattle.messages.specs.Message.{Asked}
 use Rattle.answer_judge_facts.specs.declared.validity.Validity.{Validity}
 use Rattle.answer_judge_octets.specs.Replying.{Replied, until_of}
-use Rattle.resolution_tree.specs.Tree.{Said}
-use Rattle.resolution_evidence.specs.Given.{Given}
-use Rattle.resolution_evidence.specs.Staying.{IsWithinValidity}
+use Rattle.tree_laws.specs.Tree.{Said}
+use Rattle.evidence_laws.specs.Given.{Given}
+use Rattle.evidence_laws.specs.Staying.{IsWithinValidity}
 use Rattle.resolution_walk.specs.Ended.{said_of}
 use Rattle.resolution_walk.specs.Laws.{WalksStayProved}
 use Rattle.resolution_walk.specs.declared.ending.Ending.{Ending}

@@ -5,7 +5,7 @@ use Rattle.messages.specs.Message.{Asked}
 use Rattle.answer_judge_octets.specs.Replying.{Replied, counted, only, reply_seen}
 use Rattle.answer_judge_octets.specs.declared.reply.Reply.{Reply}
 use Rattle.answer_judge_octets.specs.declared.reply.ReplyCode.TheVariants as c
-use Rattle.resolution_evidence.specs.Given.{Given}
+use Rattle.evidence_laws.specs.Given.{Given}
 use Rattle.resolution_walk.specs.declared.ending.Walk.{Walk}
 use Rattle.resolution_octets.specs.Saying.{IsEndSaid, IsSaidWithin}
 use Rattle.resolution_octets.specs.declared.walk_reply.ReplyLimits.{ReplyLimits}

@@ -3,7 +3,7 @@ use Rattle.std.proofs.Common.{◌≡◌, ℕ, length, Result, Ok, Err, IfOk, sub
 use Rattle.std.specs.declared.alloc.AllocError.{AllocError}
 use Rattle.answer_judge_octets.specs.Replying.{reply_seen}
 use Rattle.answer_judge_octets.specs.declared.reply.Reply.{Reply}
-use Rattle.resolution_evidence.specs.Given.{Given}
+use Rattle.evidence_laws.specs.Given.{Given}
 use Rattle.resolution_walk.specs.declared.ending.Walk.{Walk}
 use Rattle.resolution_octets.specs.Limiting.{limits_of, reply_limits_of}
 use Rattle.resolution_octets.specs.ReadEvidence.{asked_in, given_of}

@@ -3,7 +3,7 @@ use Rattle.std.specs.Prelude.{ℕ, Bool, List, [], map, unwrap_or}
 use Rattle.std.specs.List.{list_any}
 use Rattle.definitions.specs.Dnskey.{Ds}
 use Rattle.answer_judge_octets.specs.Replying.{is_made, unsupported}
-use Rattle.resolution_evidence.specs.KnownDs.{ds_of_data}
+use Rattle.evidence_laws.specs.KnownDs.{ds_of_data}
 
 -- the DS record that data spell; data that spell none count as a record of no algorithm and no digest, whose numbers are 0
 abbrev pub ds_counted : List ℕ → Ds

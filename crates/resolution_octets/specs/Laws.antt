@@ -3,9 +3,9 @@ use Rattle.std.specs.Prelude.{◌≡◌, ℕ, ◌*◌, ◌≤◌, Some}
 use Rattle.messages.specs.Message.{Asked}
 use Rattle.answer_judge_facts.specs.declared.validity.Validity.{Validity}
 use Rattle.answer_judge_octets.specs.Replying.{Replied}
-use Rattle.resolution_tree.specs.Tree.{Said}
-use Rattle.resolution_evidence.specs.Given.{Given}
-use Rattle.resolution_evidence.specs.Staying.{HasOctets, ProvesThrough, at_time}
+use Rattle.tree_laws.specs.Tree.{Said}
+use Rattle.evidence_laws.specs.Given.{Given}
+use Rattle.evidence_laws.specs.Staying.{HasOctets, ProvesThrough, at_time}
 use Rattle.resolution_walk.specs.Ended.{said_of}
 use Rattle.resolution_octets.specs.Replying.{SaysWalked}
 use Rattle.resolution_octets.specs.Spelling.{Spells}

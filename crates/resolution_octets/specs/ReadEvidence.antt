@@ -2,7 +2,7 @@
 use Rattle.std.specs.Prelude.{◌*◌, map}
 use Rattle.messages.specs.Message.{Asked}
 use Rattle.messages.specs.Questions.{asked_of}
-use Rattle.resolution_evidence.specs.Given.{Given}
+use Rattle.evidence_laws.specs.Given.{Given}
 use Rattle.resolution_octets.specs.ReadMessages.{message_of}
 use Rattle.resolution_octets.specs.Spelling.{Spells}
 use Rattle.resolution_octets.specs.declared.octets.OctetEvidence.{OctetEvidence}

@@ -1,7 +1,7 @@
 -- A message that was read, as a walk sees it.
 use Rattle.std.specs.Cow.{cow_slice_items}
 use Rattle.messages.specs.Questions.{asked_of}
-use Rattle.resolution_evidence.specs.Given.{Message}
+use Rattle.evidence_laws.specs.Given.{Message}
 use Rattle.resolution_octets.specs.declared.received.ReadMessage.{ReadMessage}
 
 abbrev pub message_of : ReadMessage → Message

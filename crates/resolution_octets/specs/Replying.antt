@@ -7,7 +7,7 @@ use Rattle.answer_judge_octets.specs.Replying.{IsHandedOut, Replied, number_of, 
 use Rattle.answer_judge_octets.specs.declared.octets.Report.{Report}
 use Rattle.answer_judge_octets.specs.declared.reply.ReplyCode.{ReplyCode}
 use Rattle.answer_judge_octets.specs.declared.reply.ReplyCode.TheVariants as c
-use Rattle.resolution_evidence.specs.Given.{Given, Message}
+use Rattle.evidence_laws.specs.Given.{Given, Message}
 use Rattle.resolution_walk.specs.Ended.{IsWalked, LastsIfSaid}
 use Rattle.resolution_walk.specs.Stopping.{StopsWithin}
 use Rattle.resolution_walk.specs.Truth.{WalksTruly}

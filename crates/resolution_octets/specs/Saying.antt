@@ -16,8 +16,8 @@ use Rattle.answer_extended_errors.specs.declared.error.ExtendedError.TheVariants
 use Rattle.answer_judge_octets.specs.Replying.{IsAskReplied, Replied, code_of_verdict, code_refused, counted, error_of, octets_of_verdict, only, ttl_of, until_of}
 use Rattle.answer_judge_octets.specs.declared.reply.ReplyCode.{ReplyCode}
 use Rattle.answer_judge_octets.specs.declared.reply.ReplyCode.TheVariants as c
-use Rattle.resolution_evidence.specs.Given.{Given, IsOf}
-use Rattle.resolution_evidence.specs.Walking.{renamed}
+use Rattle.evidence_laws.specs.Given.{Given, IsOf}
+use Rattle.evidence_laws.specs.Walking.{renamed}
 use Rattle.resolution_walk.specs.Truth.{last_of}
 use Rattle.resolution_walk.specs.Wanted.{is_lacking}
 use Rattle.resolution_walk.specs.declared.ending.Ending.{Ending}

@@ -10,7 +10,7 @@ use Rattle.answer_judge_octets.specs.Replying.{flag_of, judged_ds}
 use Rattle.answer_judge_octets.specs.Written.{FitsChecked, FitsDs, IsList, checked_octets, ds_octets}
 use Rattle.answer_judge_octets.specs.declared.reply.ReplyCode.{ReplyCode}
 use Rattle.answer_judge_octets.specs.declared.reply.ReplyCode.TheVariants as c
-use Rattle.resolution_evidence.specs.Given.{Given, Message}
+use Rattle.evidence_laws.specs.Given.{Given, Message}
 use Rattle.resolution_octets.specs.Sent.{FitsSent, Sent, sent_octets}
 use Rattle.resolution_octets.specs.declared.octets.OctetEvidence.{OctetEvidence}
 

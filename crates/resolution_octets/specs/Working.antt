@@ -1,8 +1,8 @@
 -- Whether a walk that would go on has been as much work as a caller allows.
 use Rattle.std.specs.Prelude.{ℕ, ◌+◌, ◌*◌, ◌==◌, ◌&&◌, Bool, true, false, length, nat_lt, sum_by, if◌then◌else◌}
 use Rattle.answer_findings.specs.Table.{Checked}
-use Rattle.resolution_evidence.specs.Counted.{saturated}
-use Rattle.resolution_evidence.specs.Given.{Given}
+use Rattle.evidence_laws.specs.Counted.{saturated}
+use Rattle.evidence_laws.specs.Given.{Given}
 use Rattle.resolution_walk.specs.declared.ending.Ending.{Ending}
 use Rattle.resolution_walk.specs.declared.ending.Ending.TheVariants as ends
 use Rattle.resolution_walk.specs.declared.ending.Walk.{Walk}

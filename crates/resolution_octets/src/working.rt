@@ -1,6 +1,6 @@
 //! Whether a walk that would go on has been as much work as a caller allows.
 ghost use Rattle.std.specs.Prelude.{◌≡◌, ◌*◌, nat_lt, sum_by};
-ghost use Rattle.resolution_evidence.specs.Counted.{saturated};
+ghost use Rattle.evidence_laws.specs.Counted.{saturated};
 ghost use Rattle.resolution_octets.specs.Working.{calls_of, entry_calls, goes_on, goes_too_far};
 ghost use Rattle.resolution_octets.specs.Working.{is_too_much, most_work};
 

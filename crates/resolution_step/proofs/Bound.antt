@@ -4,7 +4,7 @@ use Rattle.std.specs.List.{list_any}
 use Rattle.definitions.specs.Dnskey.{Ds}
 use Rattle.definitions.specs.Name.{Name, low}
 use Rattle.definitions.specs.Zone.{cut, data_at}
-use Rattle.resolution_tree.specs.Tree.{TreeZone, is_bound, refers_to}
+use Rattle.tree_laws.specs.Tree.{TreeZone, is_bound, refers_to}
 use Rattle.resolution_step.specs.KnownDs.{known_ds, known_in, knows}
 use Rattle.resolution_step.specs.Told.{bound_told, by_known}
 use Rattle.resolution_step.specs.Truth.{IsCutSo, IsToldSo}

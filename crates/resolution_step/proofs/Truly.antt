@@ -28,10 +28,10 @@ use Rattle.answer_findings.specs.Laws.{HasRecords}
 use Rattle.answer_findings.specs.Seen.{Seen, SeesVerdict, SeesDelegated, SeesNoDs, SeesAlias, SeesStarAlias, SeesOpen, SeesDname, SeesReferral, seen}
 use Rattle.answer_findings.specs.Truth.{HasDsInOne, IsSo}
 use Rattle.answer_findings.proofs.Searched.{found_truly}
-use Rattle.resolution_tree.specs.Tree.{TreeZone, refers_to}
-use Rattle.resolution_tree.specs.Orderly.{IsOrderlyZone}
-use Rattle.resolution_tree.proofs.Trees.{lead_uncut, no_data, referred, refers}
-use Rattle.resolution_tree.proofs.Verdicts.{cut_down, delegated_refers, ds_cut, no_ds_cut, no_ds_uncut, open_down, own_cut, own_verdict, unaliased_down, unbound, verdict_told}
+use Rattle.tree_laws.specs.Tree.{TreeZone, refers_to}
+use Rattle.tree_laws.specs.Orderly.{IsOrderlyZone}
+use Rattle.tree_laws.proofs.Trees.{lead_uncut, no_data, referred, refers}
+use Rattle.tree_laws.proofs.Verdicts.{cut_down, delegated_refers, ds_cut, no_ds_cut, no_ds_uncut, open_down, own_cut, own_verdict, unaliased_down, unbound, verdict_told}
 use Rattle.resolution_step.specs.KnownDs.{knows}
 use Rattle.resolution_step.specs.Work.{work_of}
 use Rattle.resolution_step.specs.Told.{StepSeen, TellsVerdict, TellsLead, TellsDown, TellsUnsigned, TellsOpen, TellsNoCut, TellsNoneBelow, TellsNothing, AsksFor, Search, Sees, Refuses, Wants, IsCutFound, IsJudgedCut, IsCutTold, IsStepOfOutcome, IsSearched, IsSearchTold, IsSeenTold, IsJudgedStep, IsTold, IsToldAt, at_cut, counts_of, cut_said, cut_searched, cut_told, validity_of_outcome, referral_told, search_of, seen_told, told, bound_told}

@@ -10,8 +10,8 @@ use Rattle.answer_findings.specs.Versions.{Version, zone_in}
 use Rattle.answer_judge.specs.Judging.{JudgeInput}
 use Rattle.answer_findings.specs.Table.{AreTrue, Checked, Tried, answers_with, passes_in}
 pub use Rattle.answer_findings.specs.Truth.{AreHonestBeside}
-use Rattle.resolution_tree.specs.Tree.{TreeZone, Secure, LeftOpen, Leads, SaysItself, is_bound, refers_to}
-use Rattle.resolution_tree.specs.Orderly.{IsOrderlyZone}
+use Rattle.tree_laws.specs.Tree.{TreeZone, Secure, LeftOpen, Leads, SaysItself, is_bound, refers_to}
+use Rattle.tree_laws.specs.Orderly.{IsOrderlyZone}
 use Rattle.resolution_step.specs.KnownDs.{known_ds, knows}
 use Rattle.resolution_step.specs.Told.{StepSeen, TellsVerdict, TellsLead, TellsDown, TellsUnsigned, TellsOpen, TellsNoCut, TellsNoneBelow}
 

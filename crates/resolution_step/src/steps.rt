@@ -5,7 +5,8 @@ ghost use Rattle.answer_judge_rules.specs.Rules.{verdict_of};
 ghost use Rattle.answer_findings.specs.Judgements.{asking, aside};
 ghost use Rattle.answer_findings.specs.Seen.{seen};
 ghost use Rattle.resolution_step.specs.Told.{IsJudgedCut, IsStepOfOutcome, IsStepOfMeaning};
-ghost use Rattle.resolution_step.specs.Told.{IsJudgedStep, IsStepAtCut, at_cut, referral_told, told};
+ghost use Rattle.resolution_step.specs.Told.{IsJudgedStep, IsStepAtCut, at_cut, referral_told};
+ghost use Rattle.resolution_step.specs.Told.{told};
 ghost use Rattle.resolution_step.specs.Told.{verdict_told};
 ghost use Rattle.resolution_step.specs.Truth.{TellsTruly};
 

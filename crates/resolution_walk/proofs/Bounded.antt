@@ -11,12 +11,12 @@ use Rattle.definitions.specs.Name.{Name, at_or_above, same, strictly_above}
 use Rattle.definitions.proofs.Members.{In, contained, in_contained}
 use Rattle.denial_laws.proofs.NameFacts.{names_same}
 use Rattle.messages.specs.Message.{Asked}
-use Rattle.resolution_evidence.specs.Counted.{no_counts}
-use Rattle.resolution_evidence.specs.Counts.{Counts}
-use Rattle.resolution_evidence.specs.Given.{Given, Message, is_answer}
-use Rattle.resolution_evidence.specs.Staying.{HasOctets}
-use Rattle.resolution_evidence.specs.Walking.{is_asked_of, renamed}
-use Rattle.resolution_evidence.proofs.Downward.{onward_down}
+use Rattle.evidence_laws.specs.Counted.{no_counts}
+use Rattle.evidence_laws.specs.Counts.{Counts}
+use Rattle.evidence_laws.specs.Given.{Given, Message, is_answer}
+use Rattle.evidence_laws.specs.Staying.{HasOctets}
+use Rattle.evidence_laws.specs.Walking.{is_asked_of, renamed}
+use Rattle.evidence_laws.proofs.Downward.{onward_down}
 use Rattle.resolution_walk.specs.Between.{LiesBetween}
 use Rattle.resolution_walk.specs.Laws.{AreFewOf, IsNewOf, IsOneOf, WalksWantFew, may_be_wanted, tails}
 use Rattle.resolution_walk.specs.Stopping.{Stops, Here, Below, TooDeep, StopsBehind, AtOnce, Elsewhere, TooMany, Led, ending_within}

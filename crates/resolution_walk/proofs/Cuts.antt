@@ -6,12 +6,12 @@ use Rattle.definitions.specs.Name.{Name, low}
 use Rattle.definitions.specs.Zone.{Verdict, Records, NoType, NoName, StarRecords, StarNoType, Delegated, Open, Unsigned}
 use Rattle.messages.specs.Message.{Asked}
 use Rattle.answer_judge_facts.specs.declared.validity.Validity.{Validity}
-use Rattle.resolution_evidence.specs.Counts.{Counts}
-use Rattle.resolution_evidence.specs.Given.{Given}
-use Rattle.resolution_evidence.specs.KnownDs.{known_ds}
-use Rattle.resolution_evidence.specs.Seen.{Seen, SeesVerdict, SeesDelegated, SeesNoDs, SeesAlias, SeesStarAlias, SeesOpen, SeesDname, SeesReferral}
-use Rattle.resolution_evidence.specs.Told.{StepSeen, Search, Sees, Refuses, Wants, at_cut, by_known, cut_said, cut_searched, cut_told}
-use Rattle.resolution_evidence.specs.Walking.{IsNameStep}
+use Rattle.evidence_laws.specs.Counts.{Counts}
+use Rattle.evidence_laws.specs.Given.{Given}
+use Rattle.evidence_laws.specs.KnownDs.{known_ds}
+use Rattle.evidence_laws.specs.Seen.{Seen, SeesVerdict, SeesDelegated, SeesNoDs, SeesAlias, SeesStarAlias, SeesOpen, SeesDname, SeesReferral}
+use Rattle.evidence_laws.specs.Told.{StepSeen, Search, Sees, Refuses, Wants, at_cut, by_known, cut_said, cut_searched, cut_told}
+use Rattle.evidence_laws.specs.Walking.{IsNameStep}
 use Rattle.resolution_walk.specs.Judged.{is_uncut}
 
 -- what it tells is of a delegation, or that none is there

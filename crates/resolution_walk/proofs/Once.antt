@@ -5,7 +5,7 @@ use Rattle.std.specs.List.{list_any}
 use Rattle.definitions.specs.Name.{Name, same}
 use Rattle.denial_laws.proofs.NameFacts.{names_same}
 use Rattle.messages.specs.Message.{Asked}
-use Rattle.resolution_evidence.specs.Given.{Given}
+use Rattle.evidence_laws.specs.Given.{Given}
 use Rattle.resolution_walk.specs.Wanted.{AreOnce, is_for_keys, is_same_wanted, lacking, lacks, lacks_besides, wanted_if, wanted_of}
 use Rattle.resolution_walk.specs.declared.ending.Wanted.{Wanted}
 

@@ -11,16 +11,16 @@ use Rattle.definitions.proofs.ZoneNames.{above_itself}
 use Rattle.denial_laws.specs.Leading.{To, TooLong}
 use Rattle.denial_laws.proofs.NameFacts.{above_trans, strictly_at}
 use Rattle.messages.specs.Message.{Asked}
-use Rattle.resolution_tree.specs.Tree.{Said, Secure, Unsigned, LeftOpen, Leads, leads_on}
+use Rattle.tree_laws.specs.Tree.{Said, Secure, Unsigned, LeftOpen, Leads, leads_on}
 use Rattle.answer_judge.specs.Judging.{JudgeInput}
 use Rattle.answer_judge_facts.specs.declared.validity.Validity.{Validity}
 use Rattle.answer_judge.specs.declared.verdict.Refusal.{Refusal}
-use Rattle.resolution_evidence.specs.Counts.{Counts}
-use Rattle.resolution_evidence.specs.Lasts.{least_of}
-use Rattle.resolution_evidence.specs.Told.{StepSeen, TellsNothing, IsJudgedCut, IsJudgedStep, at_cut, told}
-use Rattle.resolution_evidence.specs.JudgedStep.{JudgedStep}
-use Rattle.resolution_evidence.specs.Given.{Given, IsOf}
-use Rattle.resolution_evidence.specs.Walking.{Onward, GoesDown, Stops, IsOnward, Tells, Ends, Goes, Follows, AtOnce, Led, is_asked_of, renamed}
+use Rattle.evidence_laws.specs.Counts.{Counts}
+use Rattle.evidence_laws.specs.Lasts.{least_of}
+use Rattle.evidence_laws.specs.Told.{StepSeen, TellsNothing, IsJudgedCut, IsJudgedStep, at_cut, told}
+use Rattle.evidence_laws.specs.JudgedStep.{JudgedStep}
+use Rattle.evidence_laws.specs.Given.{Given, IsOf}
+use Rattle.evidence_laws.specs.Walking.{Onward, GoesDown, Stops, IsOnward, Tells, Ends, Goes, Follows, AtOnce, Led, is_asked_of, renamed}
 use Rattle.resolution_walk.specs.Ended.{IsWay, IsHop, IsEnding, IsFollowed, IsWalked, LastsIfSaid, ends_in, validity_said, leads_to, onward_of, said_of}
 use Rattle.resolution_walk.specs.Stopping.{EndsHere, IsAliasOf, IsLed, IsNoAlias, IsHopUntold, IsHopTo, StopsIn, ending_within}
 use Rattle.resolution_walk.specs.Stopping as stopping

@@ -3,10 +3,10 @@ use Rattle.std.proofs.Common.{◌≡◌, List, [], Option, Some, sym, subst}
 use Rattle.std.specs.Prelude.{IfSome}
 use Rattle.definitions.specs.Name.{Name}
 use Rattle.messages.specs.Message.{Asked}
-use Rattle.resolution_tree.specs.Tree.{Said}
-use Rattle.resolution_evidence.specs.Given.{Given}
-use Rattle.resolution_evidence.specs.Staying.{EvidenceAgrees, EvidenceStaysProved}
-use Rattle.resolution_evidence.specs.Walking.{Follows}
+use Rattle.tree_laws.specs.Tree.{Said}
+use Rattle.evidence_laws.specs.Given.{Given}
+use Rattle.evidence_laws.specs.Staying.{EvidenceAgrees, EvidenceStaysProved}
+use Rattle.evidence_laws.specs.Walking.{Follows}
 use Rattle.resolution_walk.specs.Ended.{IsFollowed, IsWalked, said_of}
 use Rattle.resolution_walk.specs.Laws.{WalksAgree, WalksStayProved}
 use Rattle.resolution_walk.specs.declared.ending.Walk.{Walk}

@@ -8,12 +8,12 @@ use Rattle.messages.specs.Message.{Asked}
 use Rattle.answer_judge.specs.Judging.{JudgeInput}
 use Rattle.answer_judge_facts.specs.declared.validity.Validity.{Validity}
 use Rattle.answer_judge.specs.declared.verdict.Refusal.{Refusal}
-use Rattle.resolution_evidence.specs.Counted.{no_counts, plus}
-use Rattle.resolution_evidence.specs.Counts.{Counts}
-use Rattle.resolution_evidence.specs.Given.{Given, IsOf}
-use Rattle.resolution_evidence.specs.JudgedStep.{JudgedStep}
-use Rattle.resolution_evidence.specs.Told.{StepSeen, TellsNoneBelow, IsJudgedCut, IsJudgedStep, at_cut, told}
-use Rattle.resolution_evidence.specs.Walking.{GoesDown, IsNameStep, IsOnward, IsOwnStep, ds_at, renamed}
+use Rattle.evidence_laws.specs.Counted.{no_counts, plus}
+use Rattle.evidence_laws.specs.Counts.{Counts}
+use Rattle.evidence_laws.specs.Given.{Given, IsOf}
+use Rattle.evidence_laws.specs.JudgedStep.{JudgedStep}
+use Rattle.evidence_laws.specs.Told.{StepSeen, TellsNoneBelow, IsJudgedCut, IsJudgedStep, at_cut, told}
+use Rattle.evidence_laws.specs.Walking.{GoesDown, IsNameStep, IsOnward, IsOwnStep, ds_at, renamed}
 use Rattle.resolution_walk.specs.Ended.{IsHop, IsWay, onward_of}
 use Rattle.resolution_walk.specs.Between.{AreAllUncut, DownToName, DownToMissing, AreUncut, AreUncutBelow, AtZone, Itself, Next, IsAnswerUntold, IsBetween, IsNothing, IsReached, IsToldFor, IsUnanswered, LiesBetween, is_itself}
 use Rattle.resolution_walk.specs.Judged.{AreJudged, NotJudged, ByAnswer, Between, AreJudgedBetween, UpTo, AndNext, IsCountedBetween, IsJudgedAt, IsJudgedFor, IsLast, IsToldCut, IsToldWay, IsUncut, IsUncutTold, counts_in, counts_of, is_nothing, is_uncut}

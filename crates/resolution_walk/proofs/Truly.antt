@@ -4,15 +4,15 @@ use Rattle.std.specs.Prelude.{nat_lt, if◌then◌else◌, IfSome}
 use Rattle.definitions.specs.Dnskey.{Ds}
 use Rattle.definitions.specs.Name.{Name}
 use Rattle.messages.specs.Message.{Asked}
-use Rattle.resolution_tree.specs.Tree.{Said, Resolves, is_bound, refers_to, zone_at}
-use Rattle.resolution_evidence.specs.KnownDs.{knows}
-use Rattle.resolution_evidence.specs.Counted.{no_counts}
-use Rattle.resolution_evidence.specs.Counts.{Counts}
-use Rattle.resolution_evidence.specs.Given.{Given}
-use Rattle.resolution_evidence.specs.Told.{TellsUnsigned}
-use Rattle.resolution_evidence.specs.Truth.{IsAnchored, IsOfTree, SignedZone, tree_of, zone_of}
-use Rattle.resolution_evidence.specs.Walking.{IsNameStep, renamed}
-use Rattle.resolution_evidence.proofs.Truly.{IsDown, down_so, follows_so, named_so, own_so}
+use Rattle.tree_laws.specs.Tree.{Said, Resolves, is_bound, refers_to, zone_at}
+use Rattle.evidence_laws.specs.KnownDs.{knows}
+use Rattle.evidence_laws.specs.Counted.{no_counts}
+use Rattle.evidence_laws.specs.Counts.{Counts}
+use Rattle.evidence_laws.specs.Given.{Given}
+use Rattle.evidence_laws.specs.Told.{TellsUnsigned}
+use Rattle.evidence_laws.specs.Truth.{IsAnchored, IsOfTree, SignedZone, tree_of, zone_of}
+use Rattle.evidence_laws.specs.Walking.{IsNameStep, renamed}
+use Rattle.evidence_laws.proofs.Truly.{IsDown, down_so, follows_so, named_so, own_so}
 use Rattle.resolution_walk.specs.Ended.{IsFollowed, IsWalked, said_of}
 use Rattle.resolution_walk.specs.Judged.{IsHeard, OfAnswer, OfName}
 use Rattle.resolution_walk.specs.Stopping.{EndsAt, Stops, Here, Below, TooDeep, StopsBehind, AtOnce, Elsewhere, TooMany, Led, StopsWithin, ending_within}

@@ -6,14 +6,14 @@ use Rattle.definitions.specs.Dnskey.{Ds}
 use Rattle.definitions.specs.Name.{Name}
 use Rattle.denial_laws.proofs.NameFacts.{names_same}
 use Rattle.messages.specs.Message.{Asked}
-use Rattle.resolution_tree.specs.Tree.{Secure, LeftOpen}
+use Rattle.tree_laws.specs.Tree.{Secure, LeftOpen}
 use Rattle.answer_judge_rules.specs.Rules.{verdict_of}
 use Rattle.answer_judge_facts.specs.declared.validity.Validity.{Validity}
 use Rattle.answer_judge.specs.declared.verdict.Refusal.{Refusal}
-use Rattle.resolution_evidence.specs.Counts.{Counts}
-use Rattle.resolution_evidence.specs.Given.{Given}
-use Rattle.resolution_evidence.specs.Told.{StepSeen, TellsVerdict, TellsLead, TellsDown, TellsUnsigned, TellsOpen, TellsNoCut, TellsNoneBelow, TellsNothing, AsksFor, at_cut}
-use Rattle.resolution_evidence.specs.Walking.{Onward, GoesDown, EndsIn, Stops, ByName, ByQuestion, IsNameStep, IsOnward, IsOwnStep, ds_at, onward}
+use Rattle.evidence_laws.specs.Counts.{Counts}
+use Rattle.evidence_laws.specs.Given.{Given}
+use Rattle.evidence_laws.specs.Told.{StepSeen, TellsVerdict, TellsLead, TellsDown, TellsUnsigned, TellsOpen, TellsNoCut, TellsNoneBelow, TellsNothing, AsksFor, at_cut}
+use Rattle.evidence_laws.specs.Walking.{Onward, GoesDown, EndsIn, Stops, ByName, ByQuestion, IsNameStep, IsOnward, IsOwnStep, ds_at, onward}
 use Rattle.resolution_walk.specs.Ended.{IsWay, onward_of}
 use Rattle.resolution_walk.specs.Between.{IsAnswerUntold, IsBetween, IsNothing, is_itself}
 use Rattle.resolution_walk.specs.Judged.{IsHeard, OfAnswer, OfName, IsLast, is_nothing}

@@ -5,11 +5,11 @@ use Rattle.definitions.specs.Name.{Name, same, at_or_above, strictly_above}
 use Rattle.messages.specs.Message.{Asked}
 use Rattle.answer_judge_facts.specs.declared.validity.Validity.{Validity}
 use Rattle.answer_judge.specs.declared.verdict.Refusal.{Refusal}
-use Rattle.resolution_evidence.specs.Counted.{plus}
-use Rattle.resolution_evidence.specs.Counts.{Counts}
-use Rattle.resolution_evidence.specs.Given.{Given}
-use Rattle.resolution_evidence.specs.Told.{StepSeen, TellsNoCut, TellsNoneBelow, TellsNothing}
-use Rattle.resolution_evidence.specs.Walking.{IsNameStep, IsOwnStep, ds_at}
+use Rattle.evidence_laws.specs.Counted.{plus}
+use Rattle.evidence_laws.specs.Counts.{Counts}
+use Rattle.evidence_laws.specs.Given.{Given}
+use Rattle.evidence_laws.specs.Told.{StepSeen, TellsNoCut, TellsNoneBelow, TellsNothing}
+use Rattle.evidence_laws.specs.Walking.{IsNameStep, IsOwnStep, ds_at}
 
 -- ---- what tells nothing
 

@@ -5,10 +5,10 @@ use Rattle.denial_laws.specs.Leading.{To}
 use Rattle.messages.specs.Message.{Asked}
 use Rattle.answer_judge_rules.specs.Rules.{verdict_of}
 use Rattle.answer_judge_facts.specs.declared.validity.Validity.{Validity}
-use Rattle.resolution_evidence.specs.Redirection.{lead_seen}
-use Rattle.resolution_tree.specs.Tree.{Said, Secure, Unsigned, LeftOpen, Leads}
-use Rattle.resolution_evidence.specs.Given.{Given}
-use Rattle.resolution_evidence.specs.Walking.{Onward, GoesDown, EndsIn, Stops, IsOnward, Tells, Follows}
+use Rattle.evidence_laws.specs.Redirection.{lead_seen}
+use Rattle.tree_laws.specs.Tree.{Said, Secure, Unsigned, LeftOpen, Leads}
+use Rattle.evidence_laws.specs.Given.{Given}
+use Rattle.evidence_laws.specs.Walking.{Onward, GoesDown, EndsIn, Stops, IsOnward, Tells, Follows}
 use Rattle.resolution_walk.specs.Query.{Query}
 use Rattle.resolution_walk.specs.declared.ending.End.{End}
 use Rattle.resolution_walk.specs.declared.ending.Ending.{Ending}

@@ -6,11 +6,11 @@ use Rattle.messages.specs.Message.{Asked}
 use Rattle.answer_judge_facts.specs.declared.validity.Validity.{Validity}
 use Rattle.answer_judge.specs.declared.verdict.Refusal.{Refusal}
 use Rattle.answer_judge.specs.declared.verdict.Refusal.TheVariants as r
-use Rattle.resolution_evidence.specs.Counted.{plus}
-use Rattle.resolution_evidence.specs.Counts.{Counts}
-use Rattle.resolution_evidence.specs.Given.{Given}
-use Rattle.resolution_evidence.specs.Told.{StepSeen, TellsNoCut, TellsNoneBelow, TellsNothing, at_cut}
-use Rattle.resolution_evidence.specs.Walking.{IsNameStep, IsOwnStep, ds_at}
+use Rattle.evidence_laws.specs.Counted.{plus}
+use Rattle.evidence_laws.specs.Counts.{Counts}
+use Rattle.evidence_laws.specs.Given.{Given}
+use Rattle.evidence_laws.specs.Told.{StepSeen, TellsNoCut, TellsNoneBelow, TellsNothing, at_cut}
+use Rattle.evidence_laws.specs.Walking.{IsNameStep, IsOwnStep, ds_at}
 use Rattle.resolution_walk.specs.Between.{AreAllUncut, AreUncut, AreUncutBelow, IsAnswerUntold, IsBetween, IsNothing, IsToldFor, LiesBetween, is_itself}
 use Rattle.resolution_walk.specs.Query.{Query}
 use Rattle.resolution_walk.specs.Wanted.{is_lacking}

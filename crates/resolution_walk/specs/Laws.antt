@@ -5,12 +5,12 @@ use Rattle.std.specs.List.{AllByRecursion}
 use Rattle.definitions.specs.Name.{Name, at_or_above, same}
 use Rattle.messages.specs.Message.{Asked}
 use Rattle.answer_judge_facts.specs.declared.validity.Validity.{Validity}
-use Rattle.resolution_tree.specs.Laws.{AreAlike}
-use Rattle.resolution_tree.specs.Tree.{Said}
-use Rattle.resolution_evidence.specs.Given.{Given, Message, is_answer}
-use Rattle.resolution_evidence.specs.Staying.{HasOctets, IsWithinValidity, ProvesThrough, at_time}
-use Rattle.resolution_evidence.specs.Truth.{IsOfTree, SignedZone}
-use Rattle.resolution_evidence.specs.Walking.{renamed}
+use Rattle.tree_laws.specs.Laws.{AreAlike}
+use Rattle.tree_laws.specs.Tree.{Said}
+use Rattle.evidence_laws.specs.Given.{Given, Message, is_answer}
+use Rattle.evidence_laws.specs.Staying.{HasOctets, IsWithinValidity, ProvesThrough, at_time}
+use Rattle.evidence_laws.specs.Truth.{IsOfTree, SignedZone}
+use Rattle.evidence_laws.specs.Walking.{renamed}
 use Rattle.resolution_walk.specs.Ended.{IsWalked, said_of}
 use Rattle.resolution_walk.specs.Stopping.{StopsWithin}
 use Rattle.resolution_walk.specs.Truth.{last_of}

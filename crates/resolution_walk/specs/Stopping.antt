@@ -7,13 +7,13 @@ use Rattle.messages.specs.Message.{Asked}
 use Rattle.answer_judge_rules.specs.Rules.{verdict_of}
 use Rattle.answer_judge_facts.specs.declared.validity.Validity.{Validity}
 use Rattle.answer_judge.specs.declared.verdict.Refusal.{Refusal}
-use Rattle.resolution_tree.specs.Tree.{Said, Secure, Unsigned, LeftOpen, Leads}
-use Rattle.resolution_evidence.specs.Counted.{no_counts}
-use Rattle.resolution_evidence.specs.Counts.{Counts}
-use Rattle.resolution_evidence.specs.Given.{Given}
-use Rattle.resolution_evidence.specs.Redirection.{lead_seen}
-use Rattle.resolution_evidence.specs.Told.{StepSeen, TellsVerdict, TellsLead, TellsDown, TellsUnsigned, TellsOpen, AsksFor}
-use Rattle.resolution_evidence.specs.Walking.{GoesDown, EndsIn, IsOnward, Tells, Follows, is_asked_of, renamed}
+use Rattle.tree_laws.specs.Tree.{Said, Secure, Unsigned, LeftOpen, Leads}
+use Rattle.evidence_laws.specs.Counted.{no_counts}
+use Rattle.evidence_laws.specs.Counts.{Counts}
+use Rattle.evidence_laws.specs.Given.{Given}
+use Rattle.evidence_laws.specs.Redirection.{lead_seen}
+use Rattle.evidence_laws.specs.Told.{StepSeen, TellsVerdict, TellsLead, TellsDown, TellsUnsigned, TellsOpen, AsksFor}
+use Rattle.evidence_laws.specs.Walking.{GoesDown, EndsIn, IsOnward, Tells, Follows, is_asked_of, renamed}
 use Rattle.resolution_walk.specs.Ended.{leads_to, said_of}
 use Rattle.resolution_walk.specs.Between.{IsNothing}
 use Rattle.resolution_walk.specs.Judged.{AreJudged, IsHeardThere, IsUntold}

@@ -2,10 +2,10 @@
 use Rattle.std.specs.Prelude.{◌≡◌, ℕ, Bool, true, List, [], ◌∷◌, Some, IfSome}
 use Rattle.definitions.specs.Name.{Name}
 use Rattle.messages.specs.Message.{Asked}
-use Rattle.resolution_tree.specs.Tree.{Tree, TreeZone, Resolves, is_bound, refers_to, zone_at}
-use Rattle.resolution_evidence.specs.KnownDs.{knows}
-use Rattle.resolution_evidence.specs.Given.{Given}
-use Rattle.resolution_evidence.specs.Truth.{IsOfTree, IsUnbound, SignedZone, tree_of, zone_of}
+use Rattle.tree_laws.specs.Tree.{Tree, TreeZone, Resolves, is_bound, refers_to, zone_at}
+use Rattle.evidence_laws.specs.KnownDs.{knows}
+use Rattle.evidence_laws.specs.Given.{Given}
+use Rattle.evidence_laws.specs.Truth.{IsOfTree, IsUnbound, SignedZone, tree_of, zone_of}
 use Rattle.resolution_walk.specs.Ended.{said_of}
 use Rattle.resolution_walk.specs.declared.ending.Ending.{Ending}
 use Rattle.resolution_walk.specs.declared.ending.Ending.TheVariants as ends

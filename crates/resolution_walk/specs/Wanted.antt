@@ -4,7 +4,7 @@ use Rattle.std.specs.List.{list_any}
 use Rattle.definitions.specs.Dnskey.{Ds}
 use Rattle.definitions.specs.Name.{Name, at_or_above, same}
 use Rattle.messages.specs.Message.{Asked}
-use Rattle.resolution_evidence.specs.Given.{Given, message_of}
+use Rattle.evidence_laws.specs.Given.{Given, message_of}
 use Rattle.resolution_walk.specs.Between.{IsBetween}
 use Rattle.resolution_walk.specs.declared.ending.Wanted.{Wanted}
 

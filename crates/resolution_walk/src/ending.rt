@@ -3,9 +3,9 @@ ghost use Rattle.std.specs.Prelude.{◌≡◌};
 ghost use Rattle.resolution_walk.specs.Judged.{counts_of};
 
 use denial_data::Ds;
+use evidence_laws::{Ask, Counts, DataList, Lead, Refusal, Validity, Verdict};
 use messages::names::Name;
 use names_rdata::rtype::Rtype;
-use resolution_evidence::{Ask, Counts, DataList, Lead, Refusal, Validity, Verdict};
 
 /// A message that is wanted: of which zone, and the answer to which question.
 #[derive(Debug, Drop)]

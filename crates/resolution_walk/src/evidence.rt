@@ -2,15 +2,15 @@
 ghost use Rattle.std.specs.Prelude.{◌≡◌};
 ghost use Rattle.std.specs.List.{find};
 ghost use Rattle.std.specs.Option.{option_map};
-ghost use Rattle.resolution_evidence.specs.Given.{is_answer, message_of};
+ghost use Rattle.evidence_laws.specs.Given.{is_answer, message_of};
 ghost use Rattle.resolution_walk.specs.Wanted.{lacks};
 
 use denial_data::Ds;
 use denial_fields::unix_time::UnixTime;
+use evidence_laws::CheckedSignature;
 use messages::names::{Name, ToName};
 use messages::question::Question;
 use names_rdata::rtype::Rtype;
-use resolution_evidence::CheckedSignature;
 use std::marker::Model;
 
 /// A message of a zone, and the question that it answers. The caller says which zone's servers gave
@@ -25,7 +25,7 @@ pub struct Message<'a> {
 
 impl<'a> Model for Message<'a> {
     ghost use Rattle.messages.specs.Questions.{asked_of};
-    ghost use Rattle.resolution_evidence.specs.Given.{Message as Sent};
+    ghost use Rattle.evidence_laws.specs.Given.{Message as Sent};
 
     ghost Value = { Sent };
 
@@ -69,7 +69,7 @@ pub struct Evidence<'a> {
 }
 
 impl<'a> Model for Evidence<'a> {
-    ghost use Rattle.resolution_evidence.specs.Given.{Given};
+    ghost use Rattle.evidence_laws.specs.Given.{Given};
 
     ghost Value = { Given };
 

@@ -1,7 +1,7 @@
 //! Where the messages of a zone lead.
 ghost use Rattle.std.specs.Prelude.{◌≡◌, IfErr, IfOk, MatchResult};
-ghost use Rattle.resolution_evidence.specs.Given.{IsOf};
-ghost use Rattle.resolution_evidence.specs.Told.{told};
+ghost use Rattle.evidence_laws.specs.Given.{IsOf};
+ghost use Rattle.evidence_laws.specs.Told.{told};
 ghost use Rattle.resolution_walk.specs.Between.{IsAnswerUntold, IsNothing, IsUnanswered};
 ghost use Rattle.resolution_walk.specs.Ended.{IsHop};
 ghost use Rattle.resolution_walk.specs.Judged.{IsCountedBetween, IsLast, IsToldWay};
@@ -13,7 +13,7 @@ use crate::evidence::Evidence;
 use crate::names_between::search_down_to;
 use crate::place::{case_of, judged_hop, own_step, untold, wanting};
 use crate::query::ZoneQuery;
-use resolution_evidence::{Case, Counts, JudgedStep, Refusal, Step};
+use evidence_laws::{Case, Counts, JudgedStep, Refusal, Step};
 use std::alloc::{AllocError, Global};
 
 /// An answer to the question that tells nothing of the way.

@@ -1,7 +1,7 @@
 //! Laws of walks. Each is the contract of a function that does nothing.
 ghost use Rattle.resolution_walk.specs.Laws.{WalksAgree, WalksStayProved, WalksWantFew};
 
-use resolution_evidence::laws::{evidence_agrees, evidence_stays_proved};
+use evidence_laws::laws::{evidence_agrees, evidence_stays_proved};
 
 /// What a walk says, secure or insecure, its evidence proves at each moment from there up to the
 /// last second that this lasts: by the same steps down, through the names of the walk.

@@ -16,6 +16,4 @@ pub use crate::ending::{Ending, Walk, Wanted};
 pub use crate::evidence::{Evidence, Message};
 pub use crate::place::case_of;
 pub use crate::walk::{Limits, resolve};
-pub use resolution_evidence::{
-    Ask, CheckedSignature, Counts, DataList, Refusal, Validity, Verdict,
-};
+pub use evidence_laws::{Ask, CheckedSignature, Counts, DataList, Refusal, Validity, Verdict};

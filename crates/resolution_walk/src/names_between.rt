@@ -2,9 +2,9 @@
 ghost use Rattle.std.specs.Prelude.{◌≡◌, [], IfErr, IfOk, MatchOption, MatchResult, false, true};
 ghost use Rattle.definitions.specs.Name.{at_or_above};
 ghost use Rattle.messages.specs.Questions.{asked_of};
-ghost use Rattle.resolution_evidence.specs.Told.{told};
-ghost use Rattle.resolution_evidence.specs.Given.{IsOf};
-ghost use Rattle.resolution_evidence.specs.Walking.{ds_at};
+ghost use Rattle.evidence_laws.specs.Told.{told};
+ghost use Rattle.evidence_laws.specs.Given.{IsOf};
+ghost use Rattle.evidence_laws.specs.Walking.{ds_at};
 ghost use Rattle.resolution_walk.specs.Between.{IsBetween, IsReached, IsUnanswered, is_itself};
 ghost use Rattle.resolution_walk.specs.Ended.{IsHop};
 ghost use Rattle.resolution_walk.specs.Judged.{IsCountedBetween, IsJudgedAt, IsJudgedFor};
@@ -16,10 +16,10 @@ use crate::ending::{JudgedHop, Uncut};
 use crate::evidence::Evidence;
 use crate::place::{case_of, judged_hop, name_step, wanting};
 use crate::query::ZoneQuery;
+use evidence_laws::{Case, Counts, JudgedStep, Step};
 use messages::names::{Name, ToName, copy_name, is_above};
 use messages::question::Question;
 use names_rdata::rtype::Rtype;
-use resolution_evidence::{Case, Counts, JudgedStep, Step};
 use std::alloc::{AllocError, Global};
 
 /// Where answers for DS lead, at the names below the zone down to a name, the topmost first; the

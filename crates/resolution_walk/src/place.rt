@@ -1,8 +1,8 @@
 //! What the messages of a zone on the way tell.
 ghost use Rattle.std.specs.Prelude.{◌≡◌, IfNone, IfOk, IfSome, Some, true};
 ghost use Rattle.messages.specs.Questions.{asked_of};
-ghost use Rattle.resolution_evidence.specs.Told.{IsJudgedCut, IsJudgedStep, told};
-ghost use Rattle.resolution_evidence.specs.Given.{IsOf, message_of};
+ghost use Rattle.evidence_laws.specs.Told.{IsJudgedCut, IsJudgedStep, told};
+ghost use Rattle.evidence_laws.specs.Given.{IsOf, message_of};
 ghost use Rattle.resolution_walk.specs.Stopping.{IsHopUntold, IsHopTo, WantsLacking};
 ghost use Rattle.resolution_walk.specs.Wanted.{is_for_keys, is_lacking, lacking, wanted_of};
 
@@ -10,10 +10,10 @@ use crate::ending::{Ending, Hop, JudgedHop, Wanted};
 use crate::evidence::Evidence;
 use crate::query::ZoneQuery;
 use denial_data::Ds;
+use evidence_laws::{Case, Counts, JudgedStep, Refusal, Step, cut_step, step};
 use messages::names::{Name, ToName, copy_name};
 use messages::question::Question;
 use names_rdata::rtype::Rtype;
-use resolution_evidence::{Case, Counts, JudgedStep, Refusal, Step, cut_step, step};
 use std::alloc::{AllocError, Global};
 
 /// What the zone's answer to a question tells of it.

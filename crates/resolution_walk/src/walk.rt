@@ -3,8 +3,8 @@ ghost use Rattle.std.specs.Prelude.{◌≡◌, ◌++◌, [], ◌∷◌, length, 
 ghost use Rattle.std.specs.Prelude.{None, Some, true};
 ghost use Rattle.std.specs.Option.{is_some};
 ghost use Rattle.messages.specs.Questions.{asked_of};
-ghost use Rattle.resolution_evidence.specs.Lasts.{least_of};
-ghost use Rattle.resolution_evidence.specs.Walking.{is_asked_of};
+ghost use Rattle.evidence_laws.specs.Lasts.{least_of};
+ghost use Rattle.evidence_laws.specs.Walking.{is_asked_of};
 ghost use Rattle.resolution_walk.specs.Ended.{IsEnding, IsWalked, LastsIfSaid, validity_said};
 ghost use Rattle.resolution_walk.specs.Ended.{said_of};
 ghost use Rattle.resolution_walk.specs.Stopping.{EndsHere, IsAliasOf, IsLed, IsNoAlias};
@@ -16,10 +16,10 @@ use crate::ending::{End, Ending, Hop, JudgedHop, Target, Walk};
 use crate::evidence::Evidence;
 use crate::hops::in_zone;
 use crate::query::ZoneQuery;
+use evidence_laws::{Counts, Lead, Validity, least_of};
 use messages::names::{Name, ToName, copy_name, is_at_or_above};
 use messages::question::Question;
 use names_rdata::rtype::Rtype;
-use resolution_evidence::{Counts, Lead, Validity, least_of};
 use std::alloc::{AllocError, Global};
 
 /// How far a walk goes.

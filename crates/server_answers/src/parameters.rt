@@ -4,7 +4,8 @@ ghost use Rattle.answer_publisher.specs.World.{world_of};
 ghost use Rattle.answer_terms.specs.ModeView.{mode_of};
 ghost use Rattle.answer_zone.specs.Finding.{links_names};
 ghost use Rattle.messages.specs.Questions.{asked_of};
-ghost use Rattle.server_answers.specs.Parameters.{RespondsWithParameters, MakesParameters, is_for_parameters};
+ghost use Rattle.server_answers.specs.Parameters.{RespondsWithParameters, MakesParameters};
+ghost use Rattle.server_answers.specs.Parameters.{is_for_parameters};
 ghost use Rattle.server_answers.specs.Servers.{serving_by};
 ghost use Rattle.server_queries.specs.Views.{queried_of};
 

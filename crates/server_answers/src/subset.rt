@@ -8,7 +8,8 @@ ghost use Rattle.server_answers.specs.Moments.{IsOrWasNoted};
 ghost use Rattle.server_answers.specs.Responding.{unsigned};
 ghost use Rattle.server_answers.specs.Servers.{serving_by};
 ghost use Rattle.answer_publisher.specs.Aliases.{for_type};
-ghost use Rattle.server_answers.specs.Subset.{AnswersSubset, IsChosen, IsFirst, IsHeld, MakesSubset, is_memory, is_no_data, wants_signatures};
+ghost use Rattle.server_answers.specs.Subset.{AnswersSubset, IsChosen, IsFirst, IsHeld};
+ghost use Rattle.server_answers.specs.Subset.{MakesSubset, is_memory, is_no_data, wants_signatures};
 ghost use Rattle.server_queries.specs.Views.{queried_of};
 
 use crate::listed::listed_types;

@@ -6,7 +6,9 @@ ghost use Rattle.messages.specs.Questions.{asked_of};
 ghost use Rattle.server_answers.specs.MadeOf.{ReadsWhole};
 ghost use Rattle.server_answers.specs.Moments.{IsOrWasNoted};
 ghost use Rattle.server_answers.specs.Servers.{serving_by};
-ghost use Rattle.server_answers.specs.Synthesized.{AnswersSynthesized, IsMadeSynthesized, has_answers, is_kept_back, is_synthesized, reserved};
+ghost use Rattle.server_answers.specs.Synthesized.{AnswersSynthesized, IsMadeSynthesized};
+ghost use Rattle.server_answers.specs.Synthesized.{has_answers, is_kept_back, is_synthesized};
+ghost use Rattle.server_answers.specs.Synthesized.{reserved};
 ghost use Rattle.server_queries.specs.Views.{queried_of};
 
 use crate::message::{is_for_keys, message_for};

@@ -1,7 +1,8 @@
 //! Queries, and how a request that is none is answered.
 ghost use Rattle.std.specs.Prelude.{◌≡◌};
 ghost use Rattle.definitions.specs.Limits.{pointer_limit};
-ghost use Rattle.server_queries.specs.Queries.{accepted_at, edns_at, end_of, is_whole, read_edns_at, query_at, refused_at};
+ghost use Rattle.server_queries.specs.Queries.{accepted_at, edns_at, end_of, is_whole};
+ghost use Rattle.server_queries.specs.Queries.{read_edns_at, query_at, refused_at};
 ghost use Rattle.server_queries.specs.Views.{GivesQuery, Reads, refused_of};
 
 use crate::edns::{Edns, first_edns, has_opt, only_edns};

@@ -5,7 +5,8 @@ ghost use Rattle.std.specs.Prelude.{◌≡◌, ◌++◌, OnOk};
 ghost use Rattle.messages.specs.Written.{question_octets};
 ghost use Rattle.names_parsed.specs.Parsed.{parsed_name};
 ghost use Rattle.server_queries.specs.Rcodes.{rcode_number};
-ghost use Rattle.server_queries.specs.Replies.{error_octets, header_octets, opt_bits, opt_octets, reply_flags};
+ghost use Rattle.server_queries.specs.Replies.{error_octets, header_octets, opt_bits, opt_octets};
+ghost use Rattle.server_queries.specs.Replies.{reply_flags};
 ghost use Rattle.server_queries.specs.Views.{refused_of};
 
 use crate::edns::Edns;

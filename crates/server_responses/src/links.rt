@@ -6,7 +6,8 @@ ghost use Rattle.messages.specs.Record.{spelled};
 ghost use Rattle.messages.specs.Written.{record_octets};
 ghost use Rattle.names_parsed.specs.Parsed.{parsed_name};
 ghost use Rattle.server_queries.specs.Views.{queried_of};
-ghost use Rattle.server_responses.specs.Links.{is_authoritative, is_link, is_link_hidden, is_link_of};
+ghost use Rattle.server_responses.specs.Links.{is_authoritative, is_link, is_link_hidden};
+ghost use Rattle.server_responses.specs.Links.{is_link_of};
 ghost use Rattle.server_responses.specs.Links.{is_link_or_its_signature, link_shown, links_shown};
 ghost use Rattle.server_responses.specs.Links.{shows_link, tells_of};
 

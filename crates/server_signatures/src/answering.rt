@@ -4,7 +4,10 @@ ghost use Rattle.answer_publisher.specs.Aliases.{is_answered};
 ghost use Rattle.answer_publisher.specs.Inputs.{answer_inputs, keys_inputs};
 ghost use Rattle.answer_publisher.specs.World.{world_of};
 ghost use Rattle.messages.specs.Questions.{asked_of};
-ghost use Rattle.server_signatures.specs.Outcomes.{AnswersEach, AnswersKeysEach, IsSigned, LacksParameters, RefusesEach, RefusesKeysEach, RefusesParametersEach, SignsParameters, is_sign_failed, latest_after};
+ghost use Rattle.server_signatures.specs.Outcomes.{AnswersEach, AnswersKeysEach, IsSigned};
+ghost use Rattle.server_signatures.specs.Outcomes.{LacksParameters, RefusesEach, RefusesKeysEach};
+ghost use Rattle.server_signatures.specs.Outcomes.{RefusesParametersEach, SignsParameters};
+ghost use Rattle.server_signatures.specs.Outcomes.{is_sign_failed, latest_after};
 ghost use Rattle.server_signatures.specs.Table.{missing};
 
 use crate::made::MadeSignature;

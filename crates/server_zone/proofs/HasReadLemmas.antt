@@ -6,9 +6,9 @@ use Rattle.std.proofs.lemmas.Bool.{cases_lt, eqb-true, false≢true, or_parts}
 use Rattle.std.proofs.lemmas.List.{length-take-le, take-append-le}
 use Rattle.messages.specs.HandedRr.{HandedRr}
 use Rattle.answer_terms.specs.Hashing.{Hasher}
-use Rattle.denialbench_session.specs.Grammar.{◌>>=◌, ZoneLine, zone_line}
-use Rattle.denialbench_session.specs.Lines.{is_passed_over}
-use Rattle.denialbench_session.specs.Sessions.{fields_of}
+use Rattle.session_grammar.specs.Grammar.{◌>>=◌, ZoneLine, zone_line}
+use Rattle.session_grammar.specs.Lines.{is_passed_over}
+use Rattle.session_grammar.specs.Sessions.{fields_of}
 use Rattle.std.specs.Str.{is_utf8}
 use Rattle.server_zone.specs.Lines.{has_feed, unfinished, whole_lines}
 use Rattle.server_zone.specs.States.{Digest, State, made}

@@ -2,11 +2,11 @@
 use Rattle.std.proofs.Common.{◌≡◌, ℕ, Bool, true, false, cond, List, [], ◌∷◌, ◌++◌, refl, sym, ap, ◌∙◌}
 use Rattle.std.specs.Prelude.{Option, Some, None}
 use Rattle.messages.specs.HandedRr.{HandedRr}
-use Rattle.denialbench_session.specs.Grammar.{◌>>=◌, ZoneLine}
+use Rattle.session_grammar.specs.Grammar.{◌>>=◌, ZoneLine}
 use Rattle.server_zone.specs.Lines.{has_feed, unfinished, whole_lines}
 use Rattle.answer_terms.specs.Hashing.{Hasher}
 use Rattle.answer_zone_records.specs.declared.fault.ZoneFault.{ZoneFault}
-use Rattle.denialbench_session.specs.declared.line_error.LineFault.{LineFault}
+use Rattle.session_grammar.specs.declared.line_error.LineFault.{LineFault}
 use Rattle.server_zone.specs.declared.refusals.Refusal.{Refusal}
 use Rattle.server_zone.specs.declared.refusals.Refusal.TheVariants as refusal
 use Rattle.server_zone.specs.StateLines.{StateLine, Nothing, Added, Replaced, Called, Other, is_event, state_line}

@@ -13,7 +13,7 @@ use Rattle.answer_terms.specs.Accepting.{sorted_records}
 use Rattle.answer_terms.specs.Hashing.{Hasher}
 use Rattle.answer_terms.specs.ZoneView.{AcceptedZone}
 use Rattle.answer_publisher.specs.declared.publishing.Publisher.{Publisher}
-use Rattle.denialbench_session.specs.Grammar.{ZoneLine}
+use Rattle.session_grammar.specs.Grammar.{ZoneLine}
 use Rattle.server_glue.specs.Glue.{addresses_of}
 use Rattle.server_zone.specs.StateLines.{StateLine, Nothing, Added, Replaced, Called, Other, is_event}
 use Rattle.server_zone.specs.States.{Digest, HasAddresses, IsRestKept, RefusesLine, RefusesTo, State, after, made, state_of}

@@ -2,9 +2,9 @@
 use Rattle.std.proofs.Common.{◌≡◌, ℕ, Bool, true, false, cond, List, [], Option, Some, None, refl, ap, ◌∙◌}
 use Rattle.std.specs.Str.{IsUtf8, is_utf8}
 use Rattle.std.proofs.lemmas.Str.{IsUtf8-from_is_utf8, is_utf8-from_IsUtf8}
-use Rattle.denialbench_session.specs.Grammar.{◌>>=◌, zone_line}
-use Rattle.denialbench_session.specs.Lines.{is_passed_over}
-use Rattle.denialbench_session.specs.Sessions.{fields_of}
+use Rattle.session_grammar.specs.Grammar.{◌>>=◌, zone_line}
+use Rattle.session_grammar.specs.Lines.{is_passed_over}
+use Rattle.session_grammar.specs.Sessions.{fields_of}
 use Rattle.server_zone.specs.StateLines.{Nothing, fields_line, state_line}
 use Rattle.server_zone.specs.Journals.{Phase, Empty, Beginning, first_line}
 

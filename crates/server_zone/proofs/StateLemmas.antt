@@ -2,11 +2,11 @@
 use Rattle.std.proofs.Common.{◌≡◌, ℕ, false, cond, List, sym, ap, subst, ◌∙◌}
 use Rattle.std.specs.Prelude.{Option, Some, None, Err}
 use Rattle.answer_terms.specs.Hashing.{Hasher}
-use Rattle.denialbench_session.specs.Grammar.{◌>>=◌}
-use Rattle.denialbench_session.specs.Readings.{Reads}
-use Rattle.denialbench_session.specs.declared.line_error.LineFault.{LineFault}
-use Rattle.denialbench_session.specs.declared.line_error.LineError.{LineError}
-use Rattle.denialbench_session.specs.declared.line_error.LineError.TheVariants as error
+use Rattle.session_grammar.specs.Grammar.{◌>>=◌}
+use Rattle.session_grammar.specs.Readings.{Reads}
+use Rattle.session_grammar.specs.declared.line_error.LineFault.{LineFault}
+use Rattle.session_grammar.specs.declared.line_error.LineError.{LineError}
+use Rattle.session_grammar.specs.declared.line_error.LineError.TheVariants as error
 use Rattle.server_zone.specs.Lines.{has_feed}
 use Rattle.server_zone.specs.Refusals.{refusal_of_line}
 use Rattle.server_zone.specs.StateLines.{StateLine, Nothing, Added, Replaced, Called, Other, state_line}

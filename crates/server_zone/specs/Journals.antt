@@ -4,11 +4,11 @@ use Rattle.std.specs.Str.{is_utf8}
 use Rattle.messages.specs.HandedRr.{HandedRr, handed_of}
 use Rattle.answer_terms.specs.Hashing.{Hasher}
 use Rattle.answer_zone_records.specs.AliasFaults.{RefusesZoneWithAliases}
-use Rattle.denialbench_session.specs.Grammar.{◌>>=◌, ZoneLine, zone_line}
-use Rattle.denialbench_session.specs.Lines.{is_passed_over}
-use Rattle.denialbench_session.specs.Readings.{zone_view}
-use Rattle.denialbench_session.specs.Sessions.{fields_of}
-use Rattle.denialbench_session.specs.declared.line_error.LineFault.TheVariants.{NoZone}
+use Rattle.session_grammar.specs.Grammar.{◌>>=◌, ZoneLine, zone_line}
+use Rattle.session_grammar.specs.Lines.{is_passed_over}
+use Rattle.session_grammar.specs.Readings.{zone_view}
+use Rattle.session_grammar.specs.Sessions.{fields_of}
+use Rattle.session_grammar.specs.declared.line_error.LineFault.TheVariants.{NoZone}
 use Rattle.server_zone.specs.Lines.{unfinished, whole_lines}
 use Rattle.server_zone.specs.StateLines.{StateLine, Nothing, Added, state_line}
 use Rattle.server_zone.specs.States.{Digest, HasAddresses, OfLine, RefusesLine, RefusesTo, State, after, applied_line, made, state_of}

@@ -1,6 +1,6 @@
 -- What an unreadable line is refused for.
-use Rattle.denialbench_session.specs.declared.line_error.LineError.{LineError}
-use Rattle.denialbench_session.specs.declared.line_error.LineError.TheVariants as error
+use Rattle.session_grammar.specs.declared.line_error.LineError.{LineError}
+use Rattle.session_grammar.specs.declared.line_error.LineError.TheVariants as error
 use Rattle.server_zone.specs.declared.refusals.Refusal.{Refusal}
 use Rattle.server_zone.specs.declared.refusals.Refusal.TheVariants as refusal
 

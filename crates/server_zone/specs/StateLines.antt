@@ -4,9 +4,9 @@ use Rattle.std.specs.Str.{is_utf8}
 use Rattle.answer_events.specs.Calls.{Call, call_of}
 use Rattle.answer_events.specs.Events.{added_by_call}
 use Rattle.answer_events.specs.HandedRr.{HandedRr, handed_of}
-use Rattle.denialbench_session.specs.Grammar.{◌>>=◌, ActLine, EventLine, KeyCall, Replace, ShowDs, ShowDnskey, ShowCds, ShowCdnskey, Ask, Judge, JudgeBytes, event_line, record_line, replacement_line}
-use Rattle.denialbench_session.specs.Lines.{is_passed_over}
-use Rattle.denialbench_session.specs.Sessions.{fields_of, is_record_line, is_replacement_line}
+use Rattle.session_grammar.specs.Grammar.{◌>>=◌, ActLine, EventLine, KeyCall, Replace, ShowDs, ShowDnskey, ShowCds, ShowCdnskey, Ask, Judge, JudgeBytes, event_line, record_line, replacement_line}
+use Rattle.session_grammar.specs.Lines.{is_passed_over}
+use Rattle.session_grammar.specs.Sessions.{fields_of, is_record_line, is_replacement_line}
 use Rattle.server_zone.specs.declared.line.Line.{Line}
 use Rattle.server_zone.specs.declared.line.Line.TheVariants as line
 

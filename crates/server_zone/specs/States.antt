@@ -16,8 +16,8 @@ use Rattle.answer_publisher.specs.Aliases.{RefusesReplacementWithAliases}
 use Rattle.answer_publisher.specs.Replacing.{is_too_soon}
 use Rattle.answer_publisher.specs.World.{zone_by}
 use Rattle.answer_publisher.specs.declared.publishing.Publisher.{Publisher}
-use Rattle.denialbench_session.specs.Grammar.{◌>>=◌, ZoneLine}
-use Rattle.denialbench_session.specs.declared.line_error.LineFault.TheVariants as line_fault
+use Rattle.session_grammar.specs.Grammar.{◌>>=◌, ZoneLine}
+use Rattle.session_grammar.specs.declared.line_error.LineFault.TheVariants as line_fault
 use Rattle.server_glue.specs.Glue.{addresses_of}
 use Rattle.server_zone.specs.Lines.{has_feed}
 use Rattle.server_zone.specs.StateLines.{StateLine, Nothing, Added, Replaced, Called, Other, state_line}

@@ -1,5 +1,6 @@
 //! Laws of journals.
-ghost use Rattle.server_zone.specs.JournalLaws.{AcceptedLinesExtend, CutsKeepLines, CutsKeepState, LinesSpellText};
+ghost use Rattle.server_zone.specs.JournalLaws.{AcceptedLinesExtend, CutsKeepLines, CutsKeepState};
+ghost use Rattle.server_zone.specs.JournalLaws.{LinesSpellText};
 
 /// A journal that is cut at any octet, by a crash, gives the state of the lines that are whole
 /// there, which are the first of its lines; behind them stand the octets of one unfinished line, or

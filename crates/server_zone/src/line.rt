@@ -1,17 +1,18 @@
 //! The lines of a journal behind that of its zone.
 ghost use Rattle.std.specs.Prelude.{◌≡◌, ◌≤◌, IfOk};
 ghost use Rattle.answer_events.specs.Events.{added_octets};
-ghost use Rattle.denialbench_session.specs.Readings.{Reads, event_view, texts};
-ghost use Rattle.server_zone.specs.StateLines.{added_in, event_kind, fields_line, line_view, state_line};
+ghost use Rattle.session_grammar.specs.Readings.{Reads, event_view, texts};
+ghost use Rattle.server_zone.specs.StateLines.{added_in, event_kind, fields_line, line_view};
+ghost use Rattle.server_zone.specs.StateLines.{state_line};
 
 use answer_events::event::{Act, Event, KeyCall};
 use answer_events::keyset::UnixTime;
 use answer_events::record::ZoneRecord;
-use denialbench_session::event_lines::{read_event, read_replacement};
-use denialbench_session::line_error::{LineError, LineFault};
-use denialbench_session::lines::is_passed_over;
-use denialbench_session::session::{fields_of, is_record, is_replacement};
-use denialbench_session::zone_lines::read_record;
+use session_grammar::event_lines::{read_event, read_replacement};
+use session_grammar::line_error::{LineError, LineFault};
+use session_grammar::lines::is_passed_over;
+use session_grammar::session::{fields_of, is_record, is_replacement};
+use session_grammar::zone_lines::read_record;
 use std::alloc::Global;
 
 /// What a line behind that of the zone says.

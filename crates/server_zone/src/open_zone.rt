@@ -4,8 +4,10 @@ ghost use Rattle.answer_events.specs.Calls.{call_of};
 ghost use Rattle.answer_events.specs.Events.{added_by_call};
 ghost use Rattle.messages.specs.HandedRr.{handed_of};
 ghost use Rattle.keyset_due.specs.Dues.{IsDue};
-ghost use Rattle.server_zone.specs.StateLines.{Added, Called, Replaced, added_in, line_view, state_line};
-ghost use Rattle.server_zone.specs.States.{Follows, HasAddresses, IsRestKept, OfLine, RefusesLine, RefusesTo, applied_line, state_of, ungathered};
+ghost use Rattle.server_zone.specs.StateLines.{Added, Called, Replaced, added_in, line_view};
+ghost use Rattle.server_zone.specs.StateLines.{state_line};
+ghost use Rattle.server_zone.specs.States.{Follows, HasAddresses, IsRestKept, OfLine, RefusesLine};
+ghost use Rattle.server_zone.specs.States.{RefusesTo, applied_line, state_of, ungathered};
 
 use crate::line::{Line, read_line};
 use crate::lines::has_feed;

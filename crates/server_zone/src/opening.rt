@@ -1,12 +1,18 @@
 //! Opening a zone from its journal.
-ghost use Rattle.std.specs.Prelude.{◌≡◌, ◌++◌, ◌≤◌, ◌==◌, length, map, IfErr, IfOk, Some, false, take, true};
+ghost use Rattle.std.specs.Prelude.{◌≡◌, ◌++◌, ◌≤◌, ◌==◌, length, map, IfErr, IfOk, Some, false};
+ghost use Rattle.std.specs.Prelude.{take, true};
 ghost use Rattle.messages.specs.HandedRr.{handed_of};
 ghost use Rattle.answer_zone_records.specs.AliasFaults.{RefusesZoneWithAliases};
-ghost use Rattle.denialbench_session.specs.Readings.{zone_view};
-ghost use Rattle.server_zone.specs.Journals.{HasRead, IsFresh, IsOpenError, IsOpening, IsSettledAt, NoneSettledBehind, RefusesBehind, RefusesBeginning, RefusesEnd, RefusesFirst, RefusesOwn, ended, first_line, is_settled, journal_state, own_line, phase_view, ran, with_line, with_own};
+ghost use Rattle.session_grammar.specs.Readings.{zone_view};
+ghost use Rattle.server_zone.specs.Journals.{HasRead, IsFresh, IsOpenError, IsOpening, IsSettledAt};
+ghost use Rattle.server_zone.specs.Journals.{NoneSettledBehind, RefusesBehind, RefusesBeginning};
+ghost use Rattle.server_zone.specs.Journals.{RefusesEnd, RefusesFirst, RefusesOwn, ended};
+ghost use Rattle.server_zone.specs.Journals.{first_line, is_settled, journal_state, own_line};
+ghost use Rattle.server_zone.specs.Journals.{phase_view, ran, with_line, with_own};
 ghost use Rattle.server_zone.specs.Lines.{has_feed, unfinished};
 ghost use Rattle.server_zone.specs.StateLines.{added_in, is_event, line_view};
-ghost use Rattle.server_zone.specs.States.{RefusesLine, RefusesTo, after, applied_line, made, state_of};
+ghost use Rattle.server_zone.specs.States.{RefusesLine, RefusesTo, after, applied_line, made};
+ghost use Rattle.server_zone.specs.States.{state_of};
 
 use crate::line::{Line, read_line};
 use crate::lines::split_line;
@@ -17,12 +23,12 @@ use answer_publisher::fault::ZoneFault;
 use answer_publisher::publishing::Publisher;
 use answer_scheme::scheme::Scheme;
 use denial_nsec3_hash::hasher::Nsec3Hasher;
-use denialbench_session::line_error::LineFault;
-use denialbench_session::lines::is_passed_over;
-use denialbench_session::session::fields_of;
-use denialbench_session::zone::Zone as ZoneLine;
-use denialbench_session::zone_lines::read_zone;
 use server_glue::Addresses;
+use session_grammar::line_error::LineFault;
+use session_grammar::lines::is_passed_over;
+use session_grammar::session::fields_of;
+use session_grammar::zone::Zone as ZoneLine;
+use session_grammar::zone_lines::read_zone;
 use std::alloc::Global;
 
 /// A zone that was opened from a journal.

@@ -1,6 +1,6 @@
 //! Why a line is not applied, and why a journal is not opened.
 use answer_publisher::fault::{KeyFault, ReplaceFault, ZoneFault};
-use denialbench_session::line_error::{LineError, LineFault};
+use session_grammar::line_error::{LineError, LineFault};
 use std::alloc::{AllocError, AllocFailed};
 use thiserror::Error;
 

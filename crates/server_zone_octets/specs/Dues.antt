@@ -1,7 +1,7 @@
 -- What is said of a roll in numbers.
 use Rattle.std.specs.Prelude.{◌≡◌, ◌⊎◌, ℕ, ◌==◌, ◌++◌, ◌∷◌, [], Bool, true, false, List, length, Option, Some, None, if◌then◌else◌}
 use Rattle.std.specs.List.{flat_map}
-use Rattle.denialbench_print.specs.Names.{action_name}
+use Rattle.printed_outcomes.specs.Names.{action_name}
 use Rattle.keyset_rolls.specs.declared.rolls.Action.{Action}
 use Rattle.keyset_rolls.specs.declared.rolls.RollState.{RollState}
 use Rattle.keyset_rolls.specs.declared.rolls.RollState.TheVariants as state

@@ -1,8 +1,8 @@
 -- What is told of a master file.
 use Rattle.std.specs.Prelude.{◌≡◌, ◌⊎◌, ℕ, ◌==◌, ◌&&◌, Bool, true, false, List, length}
-use Rattle.explain_zone.specs.Reading.{AreZoneLines}
-use Rattle.explain_zone.specs.declared.fault.ZoneFileError.{ZoneFileError}
-use Rattle.explain_zone.specs.declared.fault.ZoneFileError.TheVariants as file
+use Rattle.master_files.specs.Reading.{AreZoneLines}
+use Rattle.master_files.specs.declared.fault.ZoneFileError.{ZoneFileError}
+use Rattle.master_files.specs.declared.fault.ZoneFileError.TheVariants as file
 use Rattle.server_zone_octets.specs.declared.code.ZoneCode.{ZoneCode}
 use Rattle.server_zone_octets.specs.declared.code.ZoneCode.TheVariants as c
 use Rattle.server_zone_octets.specs.declared.master.OctetMaster.{OctetMaster}

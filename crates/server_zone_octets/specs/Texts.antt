@@ -1,7 +1,7 @@
 -- What is printed of a line that is applied to a zone.
 use Rattle.std.specs.Prelude.{ℕ, List, [], ◌++◌, codes}
-use Rattle.denialbench_print.specs.Names.{replace_fault_name, zone_fault_name}
-use Rattle.denialbench_print.specs.Printed.{actions_text, key_refusal}
+use Rattle.printed_outcomes.specs.Names.{replace_fault_name, zone_fault_name}
+use Rattle.printed_outcomes.specs.Printed.{actions_text, key_refusal}
 use Rattle.server_zone.specs.declared.refusals.Refusal.{Refusal}
 use Rattle.server_zone.specs.declared.refusals.Refusal.TheVariants.{Unreadable, ManyLines, NotOfState, TooEarly, Zone, Key, Replace, Memory}
 use Rattle.server_zone.specs.declared.open_zone.Applied.{Applied}

@@ -7,8 +7,8 @@ use crate::code::ZoneCode;
 use crate::told::put;
 use answer_scheme::Scheme;
 use denial_nsec3_hash::hasher::Nsec3Hasher;
-use denialbench_print::named::Named;
 use keyset::{Action, RollState, RollType};
+use printed_outcomes::named::Named;
 use server_zone::{Due, Zone};
 use std::alloc::{AllocError, Global};
 

@@ -1,7 +1,9 @@
 //! Opening a zone from its journal, and applying a line.
 ghost use Rattle.std.specs.Prelude.{◌≡◌, true, IfErr, IfOk};
 ghost use Rattle.server_zone_octets.specs.Lines.{AppliesLine, IsToldApplied, IsToldRefused};
-ghost use Rattle.server_zone_octets.specs.Lines.{OpensAs, RefusesOpening, SaysApplied, is_key_memory, is_memory, is_replace_memory, is_zone_memory};
+ghost use Rattle.server_zone_octets.specs.Lines.{OpensAs, RefusesOpening, SaysApplied};
+ghost use Rattle.server_zone_octets.specs.Lines.{is_key_memory, is_memory, is_replace_memory};
+ghost use Rattle.server_zone_octets.specs.Lines.{is_zone_memory};
 ghost use Rattle.server_zone_octets.specs.Telling.{is_known, told_seen};
 
 use crate::code::ZoneCode;

@@ -7,7 +7,7 @@ ghost use Rattle.server_zone_octets.specs.Telling.{told_seen};
 use crate::code::ZoneCode;
 use crate::report::ZoneReport;
 use crate::told::{CodeAndOctets, hand_out, put};
-use explain_zone::zone_file::{Reading, ZoneFileError, session_lines};
+use master_files::zone_file::{Reading, ZoneFileError, session_lines};
 use std::alloc::Global;
 
 /// A master file, and what is wanted of it.

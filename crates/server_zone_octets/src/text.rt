@@ -2,8 +2,8 @@
 ghost use Rattle.std.specs.Prelude.{◌≡◌, ◌++◌, OnOk, codes, string_bytes};
 ghost use Rattle.server_zone_octets.specs.Texts.{applied_text, refusal_text};
 
-use denialbench_print::named::Named;
-use denialbench_print::print::{push_actions, push_key_fault};
+use printed_outcomes::named::Named;
+use printed_outcomes::print::{push_actions, push_key_fault};
 use server_zone::{Applied, Refusal};
 use std::alloc::AllocError;
 

@@ -4,9 +4,9 @@ use answer::denial::SigningError;
 use answer::keyset::Error;
 use answer::names::LongRecordData;
 use answer::{AnswerFault, HashError, KeyFault, KeyKind, Refusal, SchemeError, ZoneFault};
-use denialbench_session::line_error::LineFault;
-use denialbench_session::session::SessionError;
 use messages::MessageError;
+use session_grammar::line_error::LineFault;
+use session_grammar::session::SessionError;
 use std::alloc::Global;
 use test_lines::joined;
 

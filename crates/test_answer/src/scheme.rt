@@ -77,7 +77,8 @@ fn behind(alloc: Global, key: &[u8], octets: &[u8]) -> Result<Vec<u8>, AllocErro
 }
 
 impl Scheme for TestScheme {
-    ghost use Rattle.std.specs.Prelude.{[], ◌∷◌, ◌++◌, ◌&&◌, Some, None, nat_eq, take, drop, length, if◌then◌else◌};
+    ghost use Rattle.std.specs.Prelude.{[], ◌∷◌, ◌++◌, ◌&&◌, Some, None, nat_eq, take, drop};
+    ghost use Rattle.std.specs.Prelude.{length, if◌then◌else◌};
     ghost use Rattle.std.specs.Str.{bytes_eq};
 
     ghost verifies = { λ s key octets signature. if s.is_keyed

@@ -3,7 +3,7 @@
 use crate::scheme::WELL;
 use crate::words::octets_of;
 use answer::{Act, Event, Outcome, simulate};
-use denialbench_session::session::{Session, read_session};
+use session_grammar::session::{Session, read_session};
 use std::alloc::Global;
 use std::time::Duration;
 use test_lines::{refused, text};

@@ -1,6 +1,7 @@
 //! Words as they stand in an answer.
 
-ghost use Rattle.std.specs.Prelude.{◌≡◌, ◌++◌, [], IfSome, OnSome, codes, string_bytes, if◌then◌else◌};
+ghost use Rattle.std.specs.Prelude.{◌≡◌, ◌++◌, [], IfSome, OnSome, codes, string_bytes};
+ghost use Rattle.std.specs.Prelude.{if◌then◌else◌};
 ghost use Rattle.test_lines.specs.Words.{digits_of, order_name, with_word};
 
 use std::alloc::Global;

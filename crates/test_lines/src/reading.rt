@@ -1,6 +1,7 @@
 //! Words as they stand in a line.
 
-ghost use Rattle.std.specs.Prelude.{◌≡◌, ◌==◌, [], true, false, Some, None, Ok, IfOk, IfSome, map, codes, if◌then◌else◌};
+ghost use Rattle.std.specs.Prelude.{◌≡◌, ◌==◌, [], true, false, Some, None, Ok, IfOk, IfSome, map};
+ghost use Rattle.std.specs.Prelude.{codes, if◌then◌else◌};
 ghost use Rattle.std.specs.List.{before_first, after_first, slice_split};
 ghost use Rattle.std.specs.Str.{bytes_eq};
 ghost use Rattle.hex.specs.Hex.{decode_of};

@@ -10,8 +10,8 @@ use Rattle.definitions.proofs.NameLaws.{labels_decide}
 use Rattle.definitions.proofs.ZoneNames.{above_itself, above_lowered, low-low, lowered_above}
 use Rattle.denial_laws.proofs.NameFacts.{above-same, above_trans, at_strictly_above, names_same, same_names, strictly_at, strictly_unlike}
 use Rattle.denial_laws.proofs.ZoneCuts.{IsCut, cut_from, cut_is, cut_live}
-use Rattle.resolution_tree.specs.Tree.{Tree, TreeZone, is_bound, refers_to, zone_at}
-use Rattle.resolution_tree.proofs.Trees.{referred, refers, zone_named}
+use Rattle.tree_laws.specs.Tree.{Tree, TreeZone, is_bound, refers_to, zone_at}
+use Rattle.tree_laws.proofs.Trees.{referred, refers, zone_named}
 use Rattle.walk_laws.specs.Tree.{handed_down, last_above, zones_down}
 
 strictly_same : (a b n : Name) → low a ≡ low b → strictly_above a n ≡ strictly_above b n

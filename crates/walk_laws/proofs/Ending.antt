@@ -9,16 +9,16 @@ use Rattle.definitions.proofs.Members.{contained}
 use Rattle.messages.specs.Message.{Asked}
 use Rattle.answer_judge.specs.declared.verdict.Refusal.{Refusal}
 use Rattle.answer_judge_rules.specs.Rules.{verdict_of}
-use Rattle.resolution_tree.specs.Laws.{AreAlike, TreesResolveToOne, TreesSayOne}
-use Rattle.resolution_tree.specs.Tree.{Said, Secure, Unsigned, LeftOpen, Leads, Resolves, Tree, TreeZone}
+use Rattle.tree_laws.specs.Laws.{AreAlike, TreesResolveToOne, TreesSayOne}
+use Rattle.tree_laws.specs.Tree.{Said, Secure, Unsigned, LeftOpen, Leads, Resolves, Tree, TreeZone}
 use Rattle.resolution_step.specs.KnownDs.{knows}
-use Rattle.resolution_evidence.specs.Counted.{no_counts}
-use Rattle.resolution_evidence.specs.Counts.{Counts}
-use Rattle.resolution_evidence.specs.Given.{Given}
-use Rattle.resolution_evidence.specs.Redirection.{lead_seen}
-use Rattle.resolution_evidence.specs.Truth.{IsAnchored, IsOfTree, SignedZone, tree_of, zone_of}
-use Rattle.resolution_evidence.specs.Walking.{renamed}
-use Rattle.resolution_evidence.proofs.Truly.{IsDown, down_so}
+use Rattle.evidence_laws.specs.Counted.{no_counts}
+use Rattle.evidence_laws.specs.Counts.{Counts}
+use Rattle.evidence_laws.specs.Given.{Given}
+use Rattle.evidence_laws.specs.Redirection.{lead_seen}
+use Rattle.evidence_laws.specs.Truth.{IsAnchored, IsOfTree, SignedZone, tree_of, zone_of}
+use Rattle.evidence_laws.specs.Walking.{renamed}
+use Rattle.evidence_laws.proofs.Truly.{IsDown, down_so}
 use Rattle.resolution_walk.specs.Ended.{said_of}
 use Rattle.resolution_walk.specs.Stopping.{EndsAt, Stops, Here, Below, TooDeep, StopsBehind, StopsWithin, ending_within}
 use Rattle.resolution_walk.specs.Truth.{WalksTruly, last_of}

@@ -16,10 +16,10 @@ use Rattle.answer_judge.specs.Honest.{IsHonestInput, IsVersion, sought_of_answer
 use Rattle.resolution_step.specs.KnownDs.{knows}
 use Rattle.resolution_step.specs.Table.{AreTrue, Checked, Tried, answers_with, is_entry_of, is_same_try, passes_in}
 use Rattle.resolution_step.specs.Truth.{AreHonestBeside}
-use Rattle.resolution_tree.specs.Tree.{is_bound}
-use Rattle.resolution_tree.specs.Orderly.{IsOrderlyZone}
-use Rattle.resolution_evidence.specs.Given.{IsOf, Message, is_answer, judge_input, message_of}
-use Rattle.resolution_evidence.specs.Truth.{IsAnchored, IsOfTree, SignedZone, zone_of}
+use Rattle.tree_laws.specs.Tree.{is_bound}
+use Rattle.tree_laws.specs.Orderly.{IsOrderlyZone}
+use Rattle.evidence_laws.specs.Given.{IsOf, Message, is_answer, judge_input, message_of}
+use Rattle.evidence_laws.specs.Truth.{IsAnchored, IsOfTree, SignedZone, zone_of}
 use Rattle.walk_laws.specs.Evidence.{evidence, example, keys, own_ds, own_key, passes, version, zone}
 use Rattle.walk_laws.proofs.EvidenceNames.{name_above, name_like}
 use Rattle.walk_laws.proofs.EvidenceUnforged.{IsUnforged, answer_unforged, has_contained, keys_unforged, no_stranger, signings}

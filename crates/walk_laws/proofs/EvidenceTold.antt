@@ -34,9 +34,9 @@ use Rattle.resolution_step.specs.Table.{AgreesWith, Tried, answers_with, passes_
 use Rattle.resolution_step.specs.Told.{TellsVerdict, Sees}
 use Rattle.resolution_step.specs.Work.{work_of}
 use Rattle.resolution_step.specs.declared.judged_step.Counts.{Counts}
-use Rattle.resolution_tree.specs.Tree.{Secure}
-use Rattle.resolution_evidence.specs.Given.{judge_input}
-use Rattle.resolution_evidence.specs.Walking.{AtOnce, ByQuestion, Ends, Follows, IsOwnStep}
+use Rattle.tree_laws.specs.Tree.{Secure}
+use Rattle.evidence_laws.specs.Given.{judge_input}
+use Rattle.evidence_laws.specs.Walking.{AtOnce, ByQuestion, Ends, Follows, IsOwnStep}
 use Rattle.walk_laws.specs.Evidence.{a, address, answer, evidence, example, keys, validity, own_ds, own_key, question}
 use Rattle.walk_laws.proofs.EvidenceUnforged.{read_of}
 

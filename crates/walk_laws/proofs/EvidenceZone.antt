@@ -11,9 +11,9 @@ use Rattle.messages.proofs.Lists.{all_at, all_fail}
 use Rattle.answer_judge_keys.proofs.GivenSorted.{in_has}
 use Rattle.answer_judge.specs.Versions.{zone_in}
 use Rattle.resolution_step.specs.KnownDs.{knows}
-use Rattle.resolution_tree.specs.Tree.{is_bound}
-use Rattle.resolution_tree.specs.Orderly.{IsOrderlyZone}
-use Rattle.resolution_evidence.specs.Truth.{zone_of}
+use Rattle.tree_laws.specs.Tree.{is_bound}
+use Rattle.tree_laws.specs.Orderly.{IsOrderlyZone}
+use Rattle.evidence_laws.specs.Truth.{zone_of}
 use Rattle.walk_laws.specs.Evidence.{a, example, host, soa, version, zone}
 
 pub at_place : {A : Type 0} (xs : List A) (x : A) (k : ℕ) → nat_lt k (length xs) ≡ true → get_or xs k x ≡ x → Contains xs x

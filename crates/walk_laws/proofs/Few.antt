@@ -11,14 +11,14 @@ use Rattle.definitions.specs.Zone.{Zone, cut}
 use Rattle.definitions.proofs.Members.{In}
 use Rattle.denial_laws.proofs.NameFacts.{names_same, same_names, strictly_lowered}
 use Rattle.messages.specs.Message.{Asked}
-use Rattle.resolution_tree.specs.Laws.{TreesSayOne}
-use Rattle.resolution_tree.specs.Tree.{Said, Resolves, Tree, TreeZone, refers_to}
+use Rattle.tree_laws.specs.Laws.{TreesSayOne}
+use Rattle.tree_laws.specs.Tree.{Said, Resolves, Tree, TreeZone, refers_to}
 use Rattle.resolution_step.specs.KnownDs.{knows}
-use Rattle.resolution_evidence.specs.Counted.{no_counts}
-use Rattle.resolution_evidence.specs.Given.{Given, Message}
-use Rattle.resolution_evidence.specs.Staying.{HasOctets}
-use Rattle.resolution_evidence.specs.Truth.{IsOfTree, SignedZone, tree_of, zone_of}
-use Rattle.resolution_evidence.specs.Walking.{renamed}
+use Rattle.evidence_laws.specs.Counted.{no_counts}
+use Rattle.evidence_laws.specs.Given.{Given, Message}
+use Rattle.evidence_laws.specs.Staying.{HasOctets}
+use Rattle.evidence_laws.specs.Truth.{IsOfTree, SignedZone, tree_of, zone_of}
+use Rattle.evidence_laws.specs.Walking.{renamed}
 use Rattle.resolution_walk.specs.Laws.{AreFewOf, IsNewOf, may_be_wanted, tails}
 use Rattle.resolution_walk.specs.Stopping.{StopsBehind}
 use Rattle.resolution_walk.specs.Truth.{last_of}

@@ -6,7 +6,7 @@ use Rattle.std.specs.Option.{option_map}
 use Rattle.std.proofs.lemmas.Bool.{and_from, eq-eqb, false≢true}
 use Rattle.definitions.specs.Name.{same}
 use Rattle.denial_laws.proofs.NameFacts.{names_same}
-use Rattle.resolution_evidence.specs.Given.{Message, is_answer}
+use Rattle.evidence_laws.specs.Given.{Message, is_answer}
 use Rattle.walk_laws.specs.Found.{MessagesAreFound}
 use Rattle.walk_laws.proofs.Found.{found_in, in_list}
 

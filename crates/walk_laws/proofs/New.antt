@@ -20,7 +20,7 @@ use Rattle.answer_findings.specs.Seen.{SeesVerdict, SeesDelegated, SeesNoDs, See
 use Rattle.resolution_step.specs.KnownDs.{known_ds}
 use Rattle.resolution_step.specs.Told.{StepSeen, TellsVerdict, TellsLead, TellsDown, TellsUnsigned, TellsOpen, TellsNoCut, TellsNoneBelow, TellsNothing, AsksFor, Search, Sees, Refuses, Wants, IsCutTold, IsSearched, IsSearchTold, IsSeenTold, IsTold, IsToldAt, at_cut, bound_told, by_known, cut_said, cut_searched, cut_told, search_of, seen_told, verdict_told}
 use Rattle.resolution_step.specs.declared.judged_step.Counts.{Counts}
-use Rattle.resolution_evidence.specs.Given.{Given, Message}
+use Rattle.evidence_laws.specs.Given.{Given, Message}
 use Rattle.resolution_walk.specs.Judged.{IsHeard, OfAnswer, OfName, IsHeardThere}
 use Rattle.resolution_walk.specs.Stopping.{EndsAt, StopsWithin}
 use Rattle.resolution_walk.specs.Wanted.{AreWantedOf, is_for_keys, lacks, lacks_besides, wanted_if, wanted_of}

@@ -20,8 +20,8 @@ use Rattle.answer_findings.specs.Judgements.{is_delegated, is_no_type}
 use Rattle.answer_findings.specs.Seen.{Seen, SeesVerdict, SeesNoDs, answer_found, delegates_found, found_by, no_ds_found, seen, verdict_found}
 use Rattle.answer_findings.specs.declared.meaning.AnswerOutcome.{AnswerOutcome}
 use Rattle.answer_findings.specs.declared.meaning.AnswerOutcome.TheVariants as f
-use Rattle.resolution_tree.specs.Tree.{refers_to}
-use Rattle.resolution_tree.proofs.Verdicts.{delegated_refers, verdict_told as told_verdict}
+use Rattle.tree_laws.specs.Tree.{refers_to}
+use Rattle.tree_laws.proofs.Verdicts.{delegated_refers, verdict_told as told_verdict}
 use Rattle.resolution_step.specs.KnownDs.{known_ds}
 use Rattle.resolution_step.specs.Told.{StepSeen, TellsNoCut, TellsNoneBelow, TellsNothing, Search, Sees, Refuses as Refused_so, Wants, IsCutTold, IsSearchTold, IsSearched, IsSeenTold, IsTold, at_cut, by_known, cut_searched, cut_told, search_of, verdict_told}
 use Rattle.resolution_step.specs.declared.judged_step.Counts.{Counts}

@@ -18,13 +18,13 @@ use Rattle.answer_judge.specs.declared.verdict.Refused.{Refused}
 use Rattle.answer_judge_table.specs.Outcomes.{IsJudgedBy}
 use Rattle.answer_findings.specs.Judgements.{is_delegated}
 use Rattle.answer_findings.specs.Table.{AgreesWith, Tried, answers_with}
-use Rattle.resolution_tree.specs.Laws.{TreesResolveToOne, TreesSayOne}
-use Rattle.resolution_tree.specs.Tree.{refers_to}
+use Rattle.tree_laws.specs.Laws.{TreesResolveToOne, TreesSayOne}
+use Rattle.tree_laws.specs.Tree.{refers_to}
 use Rattle.resolution_step.specs.Told.{StepSeen, IsCutTold, IsTold, at_cut, verdict_told}
 use Rattle.resolution_step.specs.declared.judged_step.Counts.{Counts}
-use Rattle.resolution_evidence.specs.Given.{Given, IsOf, judge_input}
-use Rattle.resolution_evidence.specs.Truth.{IsAnchored, SignedZone, zone_of}
-use Rattle.resolution_evidence.specs.Walking.{IsNameStep, IsOwnStep, renamed}
+use Rattle.evidence_laws.specs.Given.{Given, IsOf, judge_input}
+use Rattle.evidence_laws.specs.Truth.{IsAnchored, SignedZone, zone_of}
+use Rattle.evidence_laws.specs.Walking.{IsNameStep, IsOwnStep, renamed}
 use Rattle.resolution_walk.specs.Between.{IsNothing}
 use Rattle.resolution_walk.specs.Judged.{IsHeard, OfAnswer, OfName, are_keys_refused}
 use Rattle.resolution_walk.specs.declared.ending.Walk.{Walk}

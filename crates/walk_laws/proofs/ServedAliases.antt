@@ -27,14 +27,14 @@ use Rattle.answer_judge_table.specs.Outcomes.{IsJudgedBy}
 use Rattle.answer_findings.specs.Judgements.{is_delegated}
 use Rattle.answer_findings.specs.Table.{Tried, answers_with}
 use Rattle.answer_findings.specs.Versions.{Version}
-use Rattle.resolution_tree.specs.Laws.{TreesResolveToOne, TreesSayOne}
-use Rattle.resolution_tree.specs.Tree.{refers_to}
+use Rattle.tree_laws.specs.Laws.{TreesResolveToOne, TreesSayOne}
+use Rattle.tree_laws.specs.Tree.{refers_to}
 use Rattle.resolution_step.specs.Told.{StepSeen, IsCutTold, IsTold, at_cut, verdict_told}
 use Rattle.resolution_step.specs.Truth.{zone_of_version}
 use Rattle.resolution_step.specs.declared.judged_step.Counts.{Counts}
-use Rattle.resolution_evidence.specs.Given.{Given, IsOf, judge_input}
-use Rattle.resolution_evidence.specs.Truth.{IsAnchored, IsOfTree, SignedZone, zone_of}
-use Rattle.resolution_evidence.specs.Walking.{IsNameStep, IsOwnStep}
+use Rattle.evidence_laws.specs.Given.{Given, IsOf, judge_input}
+use Rattle.evidence_laws.specs.Truth.{IsAnchored, IsOfTree, SignedZone, zone_of}
+use Rattle.evidence_laws.specs.Walking.{IsNameStep, IsOwnStep}
 use Rattle.resolution_walk.specs.Between.{IsNothing}
 use Rattle.walk_laws.specs.Aliased.{AliasedTreesAreWalked, AreServedWithAliases, WasGivenWithAliases, in_place}
 use Rattle.walk_laws.specs.Served.{asking}

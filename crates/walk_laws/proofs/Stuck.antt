@@ -8,12 +8,12 @@ use Rattle.messages.specs.Message.{Asked}
 use Rattle.answer_judge_facts.specs.declared.validity.Validity.{Validity}
 use Rattle.answer_judge.specs.declared.verdict.Refusal.{Refusal}
 use Rattle.answer_judge.specs.declared.verdict.Refusal.TheVariants as r
-use Rattle.resolution_tree.specs.Tree.{Said, refers_to}
-use Rattle.resolution_evidence.specs.Counts.{Counts}
-use Rattle.resolution_evidence.specs.Given.{Given}
-use Rattle.resolution_evidence.specs.Told.{StepSeen, at_cut}
-use Rattle.resolution_evidence.specs.Truth.{IsAnchored, IsOfTree, SignedZone, zone_of}
-use Rattle.resolution_evidence.specs.Walking.{IsNameStep, IsOwnStep, renamed}
+use Rattle.tree_laws.specs.Tree.{Said, refers_to}
+use Rattle.evidence_laws.specs.Counts.{Counts}
+use Rattle.evidence_laws.specs.Given.{Given}
+use Rattle.evidence_laws.specs.Told.{StepSeen, at_cut}
+use Rattle.evidence_laws.specs.Truth.{IsAnchored, IsOfTree, SignedZone, zone_of}
+use Rattle.evidence_laws.specs.Walking.{IsNameStep, IsOwnStep, renamed}
 use Rattle.resolution_walk.specs.Between.{IsAnswerUntold, IsBetween, IsNothing, IsUnanswered}
 use Rattle.resolution_walk.specs.Judged.{IsHeard, OfAnswer, OfName, IsLast, IsUntold}
 use Rattle.resolution_walk.specs.declared.ending.Walk.{Walk}

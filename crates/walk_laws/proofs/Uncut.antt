@@ -12,16 +12,16 @@ use Rattle.denial_laws.proofs.ZoneCuts.{IsCut, cut_is, delegation_low, uncut}
 use Rattle.messages.specs.Message.{Asked}
 use Rattle.answer_judge.specs.Judging.{JudgeInput}
 use Rattle.answer_judge_facts.specs.declared.validity.Validity.{Validity}
-use Rattle.resolution_tree.specs.Orderly.{IsOrderlyZone}
-use Rattle.resolution_tree.specs.Tree.{refers_to}
-use Rattle.resolution_tree.proofs.Trees.{IsReferred, referred}
+use Rattle.tree_laws.specs.Orderly.{IsOrderlyZone}
+use Rattle.tree_laws.specs.Tree.{refers_to}
+use Rattle.tree_laws.proofs.Trees.{IsReferred, referred}
 use Rattle.resolution_step.specs.Truth.{AreOfZone, IsCutSo, zone_of_version}
 use Rattle.resolution_step.proofs.Truly.{cut_truly}
-use Rattle.resolution_evidence.specs.Counts.{Counts}
-use Rattle.resolution_evidence.specs.Given.{Given}
-use Rattle.resolution_evidence.specs.Told.{StepSeen, TellsNoCut, TellsNoneBelow}
-use Rattle.resolution_evidence.specs.Truth.{IsAnchored, IsOfTree, SignedZone, zone_of}
-use Rattle.resolution_evidence.specs.Walking.{IsNameStep, ds_at}
+use Rattle.evidence_laws.specs.Counts.{Counts}
+use Rattle.evidence_laws.specs.Given.{Given}
+use Rattle.evidence_laws.specs.Told.{StepSeen, TellsNoCut, TellsNoneBelow}
+use Rattle.evidence_laws.specs.Truth.{IsAnchored, IsOfTree, SignedZone, zone_of}
+use Rattle.evidence_laws.specs.Walking.{IsNameStep, ds_at}
 use Rattle.resolution_walk.specs.Between.{AreAllUncut, DownToName, DownToMissing, AreUncut, AtZone, Itself, Next, IsReached}
 
 module _ (e : Given) (class : ℕ) (zones : List SignedZone) (anchor : SignedZone) (of : IsOfTree e class zones anchor) (asked : Asked) (in_class : asked.class ≡ class)

@@ -9,11 +9,11 @@ use Rattle.definitions.proofs.Members.{contained}
 use Rattle.denial_laws.proofs.NameFacts.{names_same}
 use Rattle.messages.specs.Message.{Asked}
 use Rattle.answer_findings.specs.Table.{Tried}
-use Rattle.resolution_tree.specs.Laws.{TreesResolveToOne, TreesSayOne}
-use Rattle.resolution_tree.specs.Tree.{Said, Resolves}
+use Rattle.tree_laws.specs.Laws.{TreesResolveToOne, TreesSayOne}
+use Rattle.tree_laws.specs.Tree.{Said, Resolves}
 use Rattle.resolution_step.specs.KnownDs.{knows}
-use Rattle.resolution_evidence.specs.Given.{Given, Message}
-use Rattle.resolution_evidence.specs.Truth.{SignedZone, tree_of, zone_of}
+use Rattle.evidence_laws.specs.Given.{Given, Message}
+use Rattle.evidence_laws.specs.Truth.{SignedZone, tree_of, zone_of}
 use Rattle.resolution_walk.specs.declared.ending.Ending.{Ending}
 use Rattle.resolution_walk.specs.declared.ending.Ending.TheVariants as ends
 use Rattle.resolution_walk.specs.declared.ending.Walk.{Walk}

@@ -9,16 +9,16 @@ use Rattle.definitions.proofs.ZoneNames.{lowered_above}
 use Rattle.denial_laws.specs.Leading.{To}
 use Rattle.messages.specs.Message.{Asked}
 use Rattle.answer_judge_facts.specs.declared.validity.Validity.{Validity}
-use Rattle.resolution_tree.specs.Laws.{AreAlike, TreesSayOne}
-use Rattle.resolution_tree.specs.Orderly.{IsOrderlyTree, IsOrderlyZone}
-use Rattle.resolution_tree.specs.Tree.{Said, Leads, Says, Resolves, Tree, TreeZone, is_bound, is_within, leads_on, refers_to, zone_at}
-use Rattle.resolution_tree.specs.Tree as tree
+use Rattle.tree_laws.specs.Laws.{AreAlike, TreesSayOne}
+use Rattle.tree_laws.specs.Orderly.{IsOrderlyTree, IsOrderlyZone}
+use Rattle.tree_laws.specs.Tree.{Said, Leads, Says, Resolves, Tree, TreeZone, is_bound, is_within, leads_on, refers_to, zone_at}
+use Rattle.tree_laws.specs.Tree as tree
 use Rattle.resolution_step.specs.KnownDs.{knows}
-use Rattle.resolution_evidence.specs.Counts.{Counts}
-use Rattle.resolution_evidence.specs.Given.{Given}
-use Rattle.resolution_evidence.specs.Truth.{IsAnchored, IsOfTree, SignedZone, tree_of, zone_of}
-use Rattle.resolution_evidence.specs.Walking.{Tells, is_asked_of, renamed}
-use Rattle.resolution_evidence.proofs.Truly.{IsDown, down_so, tells_so}
+use Rattle.evidence_laws.specs.Counts.{Counts}
+use Rattle.evidence_laws.specs.Given.{Given}
+use Rattle.evidence_laws.specs.Truth.{IsAnchored, IsOfTree, SignedZone, tree_of, zone_of}
+use Rattle.evidence_laws.specs.Walking.{Tells, is_asked_of, renamed}
+use Rattle.evidence_laws.proofs.Truly.{IsDown, down_so, tells_so}
 use Rattle.resolution_walk.specs.Stopping.{EndsAt, Stops, Here, Below, TooDeep, StopsBehind, AtOnce, Elsewhere, TooMany, Led}
 use Rattle.resolution_walk.specs.Truth.{last_of}
 use Rattle.resolution_walk.specs.declared.ending.Ending.{Ending}

@@ -24,10 +24,10 @@ use Rattle.answer_judge.specs.Judging.{JudgeInput}
 use Rattle.answer_judge_keys.specs.Trusted.{is_usable}
 use Rattle.answer_findings.specs.Seen.{one_name}
 use Rattle.answer_findings.specs.Table.{AgreesWith, Tried, answers_with}
-use Rattle.resolution_tree.specs.Tree.{Said, refers_to}
-use Rattle.resolution_evidence.specs.Given.{Given, IsOf}
-use Rattle.resolution_evidence.specs.Truth.{IsAnchored, SignedZone}
-use Rattle.resolution_evidence.specs.Truth as truth
+use Rattle.tree_laws.specs.Tree.{Said, refers_to}
+use Rattle.evidence_laws.specs.Given.{Given, IsOf}
+use Rattle.evidence_laws.specs.Truth.{IsAnchored, SignedZone}
+use Rattle.evidence_laws.specs.Truth as truth
 use Rattle.resolution_walk.specs.declared.ending.Walk.{Walk}
 use Rattle.resolution_walk.specs.declared.walk.Limits.{Limits}
 use Rattle.walk_laws.specs.Ending.{EndsInTree, IsTreesWalk}

@@ -6,12 +6,12 @@ use Rattle.definitions.specs.Name.{Name}
 use Rattle.messages.specs.Message.{Asked}
 use Rattle.answer_judge.specs.declared.verdict.Refusal.{Refusal}
 use Rattle.answer_findings.specs.Table.{Tried}
-use Rattle.resolution_tree.specs.Laws.{AreAlike}
-use Rattle.resolution_tree.specs.Tree.{Said, Resolves, Tree, TreeZone}
-use Rattle.resolution_evidence.specs.Given.{Given}
-use Rattle.resolution_evidence.specs.KnownDs.{knows}
-use Rattle.resolution_evidence.specs.Truth.{IsAnchored, IsOfTree, SignedZone, tree_of, zone_of}
-use Rattle.resolution_evidence.specs.Walking.{renamed}
+use Rattle.tree_laws.specs.Laws.{AreAlike}
+use Rattle.tree_laws.specs.Tree.{Said, Resolves, Tree, TreeZone}
+use Rattle.evidence_laws.specs.Given.{Given}
+use Rattle.evidence_laws.specs.KnownDs.{knows}
+use Rattle.evidence_laws.specs.Truth.{IsAnchored, IsOfTree, SignedZone, tree_of, zone_of}
+use Rattle.evidence_laws.specs.Walking.{renamed}
 use Rattle.resolution_walk.specs.Ended.{said_of}
 use Rattle.resolution_walk.specs.Judged.{IsUntold}
 use Rattle.resolution_walk.specs.Stopping.{StopsWithin}

@@ -12,8 +12,8 @@ use Rattle.messages.specs.Message.{Asked}
 use Rattle.answer_judge_facts.specs.declared.validity.Validity.{Validity}
 use Rattle.resolution_step.specs.Table.{Checked, Tried, checked, tried}
 use Rattle.resolution_step.specs.Versions.{Version}
-use Rattle.resolution_evidence.specs.Given.{Given, Message}
-use Rattle.resolution_evidence.specs.Truth.{SignedZone}
+use Rattle.evidence_laws.specs.Given.{Given, Message}
+use Rattle.evidence_laws.specs.Truth.{SignedZone}
 
 -- ---- the zone
 

@@ -2,11 +2,11 @@
 use Rattle.std.specs.Prelude.{ℕ, ◌+◌, ◌≤◌, Bool, List, ◌∷◌, length}
 use Rattle.definitions.specs.Name.{Name}
 use Rattle.messages.specs.Message.{Asked}
-use Rattle.resolution_tree.specs.Tree.{Said, Resolves, Tree, TreeZone}
-use Rattle.resolution_evidence.specs.Given.{Given}
-use Rattle.resolution_evidence.specs.KnownDs.{knows}
-use Rattle.resolution_evidence.specs.Staying.{HasOctets}
-use Rattle.resolution_evidence.specs.Truth.{IsOfTree, SignedZone, tree_of, zone_of}
+use Rattle.tree_laws.specs.Tree.{Said, Resolves, Tree, TreeZone}
+use Rattle.evidence_laws.specs.Given.{Given}
+use Rattle.evidence_laws.specs.KnownDs.{knows}
+use Rattle.evidence_laws.specs.Staying.{HasOctets}
+use Rattle.evidence_laws.specs.Truth.{IsOfTree, SignedZone, tree_of, zone_of}
 use Rattle.resolution_walk.specs.declared.walk.Limits.{Limits}
 use Rattle.walk_laws.specs.Loop.{Loops}
 use Rattle.walk_laws.specs.Tree.{most_wanted, zones_down}

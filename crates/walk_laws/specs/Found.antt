@@ -1,7 +1,7 @@
 -- Messages that are there are found.
 use Rattle.std.specs.Prelude.{◌≡◌, ℕ, true, false, List, Some, Contains}
 use Rattle.definitions.specs.Name.{Name}
-use Rattle.resolution_evidence.specs.Given.{Given, Message, message_of}
+use Rattle.evidence_laws.specs.Given.{Given, Message, message_of}
 use Rattle.resolution_walk.specs.Wanted.{lacks}
 use Rattle.walk_laws.specs.Loop.{with_messages}
 

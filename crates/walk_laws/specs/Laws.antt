@@ -1,7 +1,7 @@
 -- Laws of loops.
 use Rattle.std.specs.Prelude.{◌≡◌, ℕ, ◌+◌, ◌-◌, ◌≤◌, length, None}
 use Rattle.messages.specs.Message.{Asked}
-use Rattle.resolution_evidence.specs.Given.{Given}
+use Rattle.evidence_laws.specs.Given.{Given}
 use Rattle.resolution_walk.specs.declared.walk.Limits.{Limits}
 use Rattle.walk_laws.specs.Loop.{Caller, Loops, Reaches, Walks, next}
 

@@ -3,7 +3,7 @@ use Rattle.std.specs.Prelude.{◌≡◌, ℕ, suc, ◌+◌, ◌≤◌, Bool, tru
 use Rattle.std.specs.Global.{Vec}
 use Rattle.messages.specs.Message.{Asked}
 use Rattle.answer_findings.specs.Table.{Checked, Tried, checked}
-use Rattle.resolution_evidence.specs.Given.{Given, Message}
+use Rattle.evidence_laws.specs.Given.{Given, Message}
 use Rattle.resolution_walk.specs.Stopping.{StopsWithin}
 use Rattle.resolution_walk.specs.declared.ending.Ending.{Ending}
 use Rattle.resolution_walk.specs.declared.ending.Ending.TheVariants as ends

@@ -3,7 +3,7 @@ use Rattle.std.specs.Prelude.{◌≡◌, ◌<◌, ◌≤◌, length, Bool, false
 use Rattle.std.specs.Global.{Vec}
 use Rattle.messages.specs.Message.{Asked}
 use Rattle.answer_findings.specs.Table.{Checked, Tried, is_same_try}
-use Rattle.resolution_evidence.specs.Given.{Given, Message, is_answer}
+use Rattle.evidence_laws.specs.Given.{Given, Message, is_answer}
 use Rattle.resolution_walk.specs.Stopping.{StopsWithin}
 use Rattle.resolution_walk.specs.declared.ending.Ending.TheVariants as ends
 use Rattle.resolution_walk.specs.declared.ending.Walk.{Walk}

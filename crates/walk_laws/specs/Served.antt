@@ -10,11 +10,11 @@ use Rattle.answer_judge.specs.Judging.{JudgeInput}
 use Rattle.answer_judge.specs.declared.verdict.Refusal.{Refusal}
 use Rattle.answer_judge.specs.declared.verdict.Refusal.TheVariants as r
 use Rattle.answer_findings.specs.Table.{AgreesWith, Tried, answers_with}
-use Rattle.resolution_tree.specs.Tree.{Said, refers_to}
-use Rattle.resolution_evidence.specs.Counts.{Counts}
-use Rattle.resolution_evidence.specs.Given.{Given, IsOf, message_of}
-use Rattle.resolution_evidence.specs.Truth.{IsAnchored, SignedZone, zone_of}
-use Rattle.resolution_evidence.specs.Walking.{renamed}
+use Rattle.tree_laws.specs.Tree.{Said, refers_to}
+use Rattle.evidence_laws.specs.Counts.{Counts}
+use Rattle.evidence_laws.specs.Given.{Given, IsOf, message_of}
+use Rattle.evidence_laws.specs.Truth.{IsAnchored, SignedZone, zone_of}
+use Rattle.evidence_laws.specs.Walking.{renamed}
 use Rattle.resolution_walk.specs.Between.{IsAnswerUntold, IsUnanswered}
 use Rattle.resolution_walk.specs.Judged.{are_keys_refused}
 use Rattle.resolution_walk.specs.declared.ending.Walk.{Walk}

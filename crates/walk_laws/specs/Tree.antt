@@ -3,8 +3,8 @@ use Rattle.std.specs.Prelude.{ℕ, zero, suc, ◌+◌, ◌*◌, Bool, List, [], 
 use Rattle.std.specs.List.{flat_map, list_any}
 use Rattle.definitions.specs.Name.{Name, strictly_above}
 use Rattle.messages.specs.Message.{Asked}
-use Rattle.resolution_tree.specs.Tree.{Tree, TreeZone, is_bound, refers_to, zone_at}
-use Rattle.resolution_evidence.specs.Walking.{renamed}
+use Rattle.tree_laws.specs.Tree.{Tree, TreeZone, is_bound, refers_to, zone_at}
+use Rattle.evidence_laws.specs.Walking.{renamed}
 use Rattle.resolution_walk.specs.Laws.{tails}
 use Rattle.resolution_walk.specs.Wanted.{wanted_of}
 use Rattle.resolution_walk.specs.declared.ending.Wanted.{Wanted}

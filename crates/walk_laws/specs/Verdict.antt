@@ -4,11 +4,11 @@ use Rattle.std.specs.Global.{Vec}
 use Rattle.definitions.specs.Name.{Name}
 use Rattle.messages.specs.Message.{Asked}
 use Rattle.answer_findings.specs.Table.{Tried}
-use Rattle.resolution_tree.specs.Laws.{AreAlike}
-use Rattle.resolution_tree.specs.Tree.{Said, Resolves, refers_to}
-use Rattle.resolution_evidence.specs.Given.{Given}
-use Rattle.resolution_evidence.specs.KnownDs.{knows}
-use Rattle.resolution_evidence.specs.Truth.{SignedZone, tree_of, zone_of}
+use Rattle.tree_laws.specs.Laws.{AreAlike}
+use Rattle.tree_laws.specs.Tree.{Said, Resolves, refers_to}
+use Rattle.evidence_laws.specs.Given.{Given}
+use Rattle.evidence_laws.specs.KnownDs.{knows}
+use Rattle.evidence_laws.specs.Truth.{SignedZone, tree_of, zone_of}
 use Rattle.resolution_walk.specs.Ended.{said_of}
 use Rattle.resolution_walk.specs.Truth.{WalksTruly}
 use Rattle.resolution_walk.specs.declared.ending.Ending.TheVariants as ends

@@ -1,9 +1,9 @@
 //! Evidence of a tree. Each law is the contract of a function that does nothing.
 ghost use Rattle.std.specs.Prelude.{[], ◌∷◌, Some};
 ghost use Rattle.definitions.specs.Zone.{Records};
-ghost use Rattle.resolution_tree.specs.Tree.{Secure};
-ghost use Rattle.resolution_evidence.specs.Truth.{IsOfTree};
-ghost use Rattle.resolution_evidence.specs.Walking.{Follows};
+ghost use Rattle.tree_laws.specs.Tree.{Secure};
+ghost use Rattle.evidence_laws.specs.Truth.{IsOfTree};
+ghost use Rattle.evidence_laws.specs.Walking.{Follows};
 ghost use Rattle.walk_laws.specs.Evidence.{address, evidence, example, validity};
 ghost use Rattle.walk_laws.specs.Evidence.{question, zone};
 

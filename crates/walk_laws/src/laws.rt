@@ -18,7 +18,7 @@ ghost use Rattle.walk_laws.specs.Verdict.{
   ZonesComeToVerdicts,
 };
 
-use resolution_tree::laws::{trees_resolve_to_one, trees_say_one};
+use tree_laws::laws::{trees_resolve_to_one, trees_say_one};
 
 /// A message that is there is found under its question, unless another one of that question is in
 /// front of it. What is found stays found behind more messages, and where nothing is the first of

@@ -4,7 +4,8 @@ ghost use Rattle.std.specs.Prelude.{◌≡◌, ◌≤◌, ◌+◌, not, IfErr, N
 ghost use Rattle.std.specs.List.{list_any};
 ghost use Rattle.answer_scheme.specs.Answers.{NoneVerified};
 ghost use Rattle.answer_judge.specs.Judging.{RefusesFirst, hash_bound};
-ghost use Rattle.answer_judge.specs.Judged.{are_alike, are_mixed, are_over, judged_facts, judged_proof, said, AnswersAs};
+ghost use Rattle.answer_judge.specs.Judged.{are_alike, are_mixed, are_over, judged_facts};
+ghost use Rattle.answer_judge.specs.Judged.{judged_proof, said, AnswersAs};
 ghost use Rattle.answer_judge.specs.Due.{hashes_of_facts, hashes_of_proof, Counts};
 
 use crate::case::Case;

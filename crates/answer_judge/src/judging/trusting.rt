@@ -1,14 +1,15 @@
 //! The keys of a DNSKEY answer that may sign the zone, and what they verify of an answer (RFC 4035,
 //! 5.2 and 5.3).
-ghost use Rattle.std.specs.Prelude.{◌≡◌, ◌==◌, ◌⊎◌, ◌+◌, ◌<◌, ◌≤◌, ◌^◌, [], IfOk, IfErr, filter, length, map, true, false};
+ghost use Rattle.std.specs.Prelude.{◌≡◌, ◌==◌, ◌⊎◌, ◌+◌, ◌<◌, ◌≤◌, ◌^◌, [], IfOk, IfErr, filter};
+ghost use Rattle.std.specs.Prelude.{length, map, true, false};
 ghost use Rattle.definitions.specs.Limits.{pointer_limit};
 ghost use Rattle.messages.specs.Record.{spelled};
 ghost use Rattle.answer_judge.specs.Stages.{FindsSigned, FindsUnsigned, trusting_named};
 ghost use Rattle.answer_judge_facts.specs.Asked.{Implies, is_tried_among};
-ghost use Rattle.answer_judge_keys.specs.Trusted.{is_signature, is_usable};
+ghost use Rattle.answer_judge_facts.specs.Trusted.{is_signature, is_usable};
 ghost use Rattle.answer_judge.specs.Judged.{trusting};
 ghost use Rattle.answer_judge_facts.specs.Validity.{answer_validity, key_seconds, least_or_max};
-ghost use Rattle.answer_judge_keys.specs.DnskeyAnswer.{keys_in};
+ghost use Rattle.answer_judge_facts.specs.DnskeyAnswer.{keys_in};
 ghost use Rattle.answer_judge_facts.specs.Sought.{answer_sought, keys_sought};
 ghost use Rattle.answer_judge_facts.specs.VerifiedProof.{IsVerifiedProof};
 ghost use Rattle.answer_scheme.specs.Answers.{EachAgreeing, SignatureTest};
@@ -18,10 +19,10 @@ use crate::case::Case;
 use crate::verdict::Refusal;
 use answer_judge_facts::facts::{Proof, read_facts};
 use answer_judge_facts::key_rrset::are_verified;
-use answer_judge_keys::check_run::CheckRun;
-use answer_judge_keys::key_index::KeyIndex;
-use answer_judge_keys::keys::{TaggedKey, read_keys, trusted_keys, usable_keys};
-use answer_judge_keys::trust::Trust;
+use answer_judge_facts::keys::check_run::CheckRun;
+use answer_judge_facts::keys::key_index::KeyIndex;
+use answer_judge_facts::keys::keys::{TaggedKey, read_keys, trusted_keys, usable_keys};
+use answer_judge_facts::keys::trust::Trust;
 use answer_scheme::checks::Checks;
 use messages::ViewRecord;
 use messages::names::ZoneName;

@@ -1,5 +1,6 @@
 //! Publishing zones in which aliases stand.
-ghost use Rattle.std.specs.Prelude.{◌≡◌, ◌||◌, ◌<◌, ◌↔◌, ◌^◌, None, false, true, map, IfErr, IfOk, IsErrOf, OnErr, OnOk};
+ghost use Rattle.std.specs.Prelude.{◌≡◌, ◌||◌, ◌<◌, ◌↔◌, ◌^◌, None, false, true, map, IfErr, IfOk};
+ghost use Rattle.std.specs.Prelude.{IsErrOf, OnErr, OnOk};
 ghost use Rattle.std.specs.List.{AllByRecursion};
 ghost use Rattle.std.specs.Option.{option_map};
 ghost use Rattle.definitions.specs.Name.{IsName};
@@ -13,11 +14,14 @@ ghost use Rattle.denial_laws.specs.Aliases.{is_alias_type};
 ghost use Rattle.answer_zone.specs.Finding.{finds};
 ghost use Rattle.answer_zone.specs.HashedZone.{accepted_zone};
 ghost use Rattle.answer_zone.specs.Questions.{zone_of};
-ghost use Rattle.answer_zone_records.specs.AliasFaults.{IsAcceptedWithAliases, RefusesZoneWithAliases};
-ghost use Rattle.answer_publisher.specs.Aliases.{RefusesReplacementWithAliases, alias_in_place, alias_of, asks_all, asks_beside, for_type, is_answered, may_lead};
+ghost use Rattle.answer_zone.specs.AliasFaults.{IsAcceptedWithAliases, RefusesZoneWithAliases};
+ghost use Rattle.answer_publisher.specs.Aliases.{RefusesReplacementWithAliases, alias_in_place};
+ghost use Rattle.answer_publisher.specs.Aliases.{alias_of, asks_all, asks_beside, for_type};
+ghost use Rattle.answer_publisher.specs.Aliases.{is_answered, may_lead};
 ghost use Rattle.answer_publisher.specs.Inputs.{RefusesInputs, answer_inputs};
 ghost use Rattle.answer_publisher.specs.Replacing.{is_too_soon, noted};
-ghost use Rattle.answer_publisher.specs.World.{AnswersQuestion, HashesNames, RefusesQuestion, SpellsAnswer, world_of, world_with, zone_by};
+ghost use Rattle.answer_publisher.specs.World.{AnswersQuestion, HashesNames, RefusesQuestion};
+ghost use Rattle.answer_publisher.specs.World.{SpellsAnswer, world_of, world_with, zone_by};
 ghost use Rattle.answer_publisher_keys.specs.Bindings.{no_keys};
 
 use crate::fault::{AnswerFault, ReplaceFault, ZoneFault};

@@ -7,7 +7,8 @@ ghost use Rattle.messages.specs.HandedRr.{handed_of};
 ghost use Rattle.answer_terms.specs.Accepting.{sorted_records};
 ghost use Rattle.answer_terms.specs.ModeView.{mode_of};
 ghost use Rattle.answer_zone.specs.Contents.{IsContents};
-ghost use Rattle.answer_zone_records.specs.AliasFaults.{IsAcceptedWithAliases, RefusesZoneWithAliases};
+ghost use Rattle.answer_zone_records.specs.AliasFaults.{IsAcceptedWithAliases};
+ghost use Rattle.answer_zone_records.specs.AliasFaults.{RefusesZoneWithAliases};
 
 use crate::zone::ZoneRecords;
 use crate::zone::contents::{Contents, contents_in_order};

@@ -1,5 +1,6 @@
 //! The RRsets of an answer.
-ghost use Rattle.std.specs.Prelude.{◌≡◌, [], ◌∷◌, ◌++◌, ◌&&◌, None, true, false, map, IfErr, IfOk, OnOk};
+ghost use Rattle.std.specs.Prelude.{◌≡◌, [], ◌∷◌, ◌++◌, ◌&&◌, None, true, false, map, IfErr, IfOk};
+ghost use Rattle.std.specs.Prelude.{OnOk};
 ghost use Rattle.std.specs.List.{AllZip};
 ghost use Rattle.definitions.specs.Name.{at_or_above, low};
 ghost use Rattle.definitions.specs.Zone.{NoName, StarRecords, cut_above, exists, has};
@@ -10,7 +11,8 @@ ghost use Rattle.answer_terms.specs.GroupView.{Adds, Presents};
 ghost use Rattle.answer_terms.specs.HashedLinks.{hashed_said_of};
 ghost use Rattle.answer_terms.specs.Hashing.{hash_in};
 ghost use Rattle.answer_terms.specs.Links.{said_of};
-ghost use Rattle.answer_terms.specs.Served.{chain_ttl, expanded, if_any, proofs_of, rrset, soa, under, unsigned_ns};
+ghost use Rattle.answer_terms.specs.Served.{chain_ttl, expanded, if_any, proofs_of, rrset, soa};
+ghost use Rattle.answer_terms.specs.Served.{under, unsigned_ns};
 ghost use Rattle.answer_zone.specs.Around.{IsAround};
 ghost use Rattle.answer_zone_records.specs.OwnedRecords.{owned_by};
 ghost use Rattle.answer_zone_records.specs.Round.{IsCircle, IsRound};

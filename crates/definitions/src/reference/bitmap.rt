@@ -1,8 +1,10 @@
 //! Sets of types: those of a chain's records, and reading a type bitmap (RFC 4034, 4.1.2).
-ghost use Rattle.std.specs.Prelude.{◌≡◌, ◌<◌, ◌≤◌, true, false, length, vec_len, map, nat_eq, IfOk, IfSome, if◌then◌else◌};
+ghost use Rattle.std.specs.Prelude.{◌≡◌, ◌<◌, ◌≤◌, true, false, length, vec_len, map, nat_eq, IfOk};
+ghost use Rattle.std.specs.Prelude.{IfSome, if◌then◌else◌};
 ghost use Rattle.std.specs.List.{list_any, flat_map};
 ghost use Rattle.std.specs.Option.{option_map};
-ghost use Rattle.definitions.specs.Bitmap.{is_bitmap, bitmap_has, bit_in, below, octet_of, before_last, trimmed, window_octets, window, bitmap};
+ghost use Rattle.definitions.specs.Bitmap.{is_bitmap, bitmap_has, bit_in, below, octet_of};
+ghost use Rattle.definitions.specs.Bitmap.{before_last, trimmed, window_octets, window, bitmap};
 ghost use Rattle.definitions.specs.Windows.{split, first_window, numbered};
 ghost use Rattle.definitions.specs.ZoneChain.{types_among, nsec_types, nsec3_types};
 

@@ -1,7 +1,8 @@
 //! Names: their equality, their order, and which stand above which.
 ghost use Rattle.std.specs.Prelude.{◌≡◌, IfOk};
 ghost use Rattle.std.specs.Str.{str_to_ascii_lowercase};
-ghost use Rattle.definitions.specs.Name.{low, labels_eq, same, at_or_above, strictly_above, label_cmp, name_cmp};
+ghost use Rattle.definitions.specs.Name.{low, labels_eq, same, at_or_above, strictly_above};
+ghost use Rattle.definitions.specs.Name.{label_cmp, name_cmp};
 ghost use Rattle.definitions.specs.Covering.{before, covers, octets_before, hash_covers};
 
 use crate::reference::Octets;

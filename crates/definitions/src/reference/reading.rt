@@ -1,6 +1,7 @@
 //! Names as they stand in a message (RFC 1035, 4.1.4).
 ghost use Rattle.std.specs.Prelude.{◌≡◌, ◌<◌, ◌≤◌, length};
-ghost use Rattle.definitions.specs.Reading.{most_heads, run_at, pointer_at, with_label, labels_at, end_at, name_at};
+ghost use Rattle.definitions.specs.Reading.{most_heads, run_at, pointer_at, with_label, labels_at};
+ghost use Rattle.definitions.specs.Reading.{end_at, name_at};
 ghost use Rattle.definitions.specs.Reference.{IsReading, run_of};
 
 use crate::reference::Octets;

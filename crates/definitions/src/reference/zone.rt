@@ -5,7 +5,9 @@ ghost use Rattle.std.specs.Option.{option_map};
 ghost use Rattle.std.specs.Ordering.{nat_cmp};
 ghost use Rattle.std.specs.Cmp.Lexicographic.{slice_cmp};
 ghost use Rattle.definitions.specs.Name.{low, at_or_above};
-ghost use Rattle.definitions.specs.Zone.{owner_of, apex_of, is_of, has, is_delegation, cut, cut_above, is_live, is_kept, kept_owners, kept, exists, ce, kept_cut_above};
+ghost use Rattle.definitions.specs.Zone.{owner_of, apex_of, is_of, has, is_delegation, cut};
+ghost use Rattle.definitions.specs.Zone.{cut_above, is_live, is_kept, kept_owners, kept, exists};
+ghost use Rattle.definitions.specs.Zone.{ce, kept_cut_above};
 
 use crate::reference::names::{at_or_above, labels_eq, lowered, strictly_above};
 use crate::reference::{DS, NS, Octets};

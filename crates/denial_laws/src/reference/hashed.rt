@@ -5,7 +5,10 @@ ghost use Rattle.std.specs.Option.{option_map};
 ghost use Rattle.definitions.specs.Name.{low};
 ghost use Rattle.definitions.specs.Reference.{verdict_of};
 ghost use Rattle.denial_laws.specs.NsecRules.{first_some};
-ghost use Rattle.denial_laws.specs.Nsec3Rules.{is_at, covers_hash, is_matched, at_hash, encloses, cut_above, star_at, beyond, enclosed, by_closest_encloser, hash_denied, last_labels, hash_expanded_by, hash_expanded};
+ghost use Rattle.denial_laws.specs.Nsec3Rules.{is_at, covers_hash, is_matched, at_hash, encloses};
+ghost use Rattle.denial_laws.specs.Nsec3Rules.{cut_above, star_at, beyond, enclosed};
+ghost use Rattle.denial_laws.specs.Nsec3Rules.{by_closest_encloser, hash_denied, last_labels};
+ghost use Rattle.denial_laws.specs.Nsec3Rules.{hash_expanded_by, hash_expanded};
 
 use crate::reference::facts::{NameHash, PlainHashLink, PlainRrset};
 use crate::reference::linked::{at_name, has_dname, is_cut, star_lacks};

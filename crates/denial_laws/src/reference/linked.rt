@@ -5,7 +5,10 @@ ghost use Rattle.definitions.specs.Bitmap.{bitmap_has};
 ghost use Rattle.definitions.specs.Name.{at_or_above, strictly_above};
 ghost use Rattle.definitions.specs.Zone.{star_under};
 ghost use Rattle.definitions.specs.Reference.{verdict_of};
-ghost use Rattle.denial_laws.specs.NsecRules.{first_some, is_cut, lacks, star_lacks, at_name, at_owner, below_cut, redirects, link_covers, closest, at_star, covered, denied, encloses_at, expanded_by, expanded};
+ghost use Rattle.denial_laws.specs.NsecRules.{first_some, is_cut, lacks, star_lacks, at_name};
+ghost use Rattle.denial_laws.specs.NsecRules.{at_owner, below_cut, redirects, link_covers, closest};
+ghost use Rattle.denial_laws.specs.NsecRules.{at_star, covered, denied, encloses_at, expanded_by};
+ghost use Rattle.denial_laws.specs.NsecRules.{expanded};
 
 use crate::reference::facts::{PlainLink, PlainRrset};
 use crate::reference::names::{star_under, strictly_above};

@@ -13,7 +13,7 @@ use Rattle.answer_judge_facts.specs.Counted.{tries}
 use Rattle.answer_judge.specs.Due.{hashes_beyond, hashes_of_proof}
 use Rattle.answer_judge.specs.Judged.{AnswersAs, ds_authenticates_keys, judged_beyond, judged_proof, said, trusting}
 use Rattle.answer_judge.specs.Judging.{JudgeInput, IsRead, Refuses, RefusesFirst, message_refusal}
-use Rattle.answer_judge_keys.specs.DnskeyAnswer.{keys_in}
+use Rattle.answer_judge_facts.specs.DnskeyAnswer.{keys_in}
 use Rattle.answer_judge_facts.specs.Validity.{answer_validity}
 use Rattle.answer_judge_facts.specs.Sought.{answer_sought}
 use Rattle.answer_judge_facts.specs.Times.{are_unlike, proof_times}

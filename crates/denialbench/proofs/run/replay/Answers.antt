@@ -5,8 +5,8 @@ use Rattle.messages.specs.HandedRr.{handed_of}
 use Rattle.answer.specs.Simulations.{IsSimulation}
 use Rattle.answer_events.specs.declared.event.Event.{Event}
 use Rattle.answer.specs.Outcome.{Outcome}
-use Rattle.denialbench_session.specs.Readings.{zone_view}
-use Rattle.denialbench_print.specs.Printed.{outcome_text}
+use Rattle.session_grammar.specs.Readings.{zone_view}
+use Rattle.printed_outcomes.specs.Printed.{outcome_text}
 use Rattle.denialbench.specs.Responses.{bench}
 use Rattle.denialbench.proofs.RunLemmas.{outcomes_printed}
 use Rattle.denialbench.proofs.run.replay.Goals as goal

@@ -1,7 +1,7 @@
 use Rattle.std.proofs.Common.{◌≡◌, ◌<◌, ◌∙◌, true, arith, ap, subst, sym}
 use Rattle.definitions.specs.Bitmap.{is_bitmap}
 use Rattle.names_rdata.specs.Reading.{data_at}
-use Rattle.denial_nsec_data.specs.Hashed.{nsec3_part}
+use Rattle.denial_data.specs.Hashed.{nsec3_part}
 use Rattle.messages.proofs.Nsec3Read.{nsec3_found, nsec3_unread}
 use Rattle.messages.proofs.rdata.read_hashed_link.Goals as goal
 

@@ -1,7 +1,7 @@
 use Rattle.std.proofs.Common.{◌≡◌, ◌-◌, ◌∙◌, length, length-drop, sym, ap, arith}
 use Rattle.std.specs.Ordering.{nat_cmp, ordering_then}
 use Rattle.std.specs.declared.cmp.Ordering.TheVariants.{Equal}
-use Rattle.definitions.specs.Name.{name_cmp}
+use Rattle.names_wire.specs.Name.{name_cmp}
 use Rattle.names_wire.specs.Label.{octets_of}
 use Rattle.names_labels.proofs.Orders.{tails_then, next_then}
 use Rattle.names_labels.proofs.order.labels_cmp.Goals as goal

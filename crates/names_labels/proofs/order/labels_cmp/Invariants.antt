@@ -1,6 +1,6 @@
 use Rattle.std.proofs.Common.{◌≡◌, length}
 use Rattle.std.specs.Ordering.{nat_cmp, ordering_then}
-use Rattle.definitions.specs.Name.{name_cmp}
+use Rattle.names_wire.specs.Name.{name_cmp}
 use Rattle.names_labels.proofs.order.labels_cmp.Given as goal
 
 abbrev pub invariant-loop-a : goal.invariant-loop-a

@@ -1,5 +1,5 @@
 use Rattle.std.proofs.Common.{◌∙◌}
-use Rattle.definitions.specs.Name.{name_cmp}
+use Rattle.names_wire.specs.Name.{name_cmp}
 use Rattle.names_labels.proofs.Rooted.{name_cmp-rooted}
 use Rattle.names_labels.proofs.order.name_cmp.Goals as goal
 

@@ -2,7 +2,7 @@ use Rattle.std.proofs.Common.{◌≡◌, ◌+◌, ◌++◌, ◌∙◌, ap, sym, 
 use Rattle.std.specs.List.{slice_index}
 use Rattle.std.specs.Str.{IsAscii}
 use Rattle.std.proofs.lemmas.Str.{IsAscii-append}
-use Rattle.definitions.specs.Text.{text_of_label, text_of_octet}
+use Rattle.names_wire.specs.Text.{text_of_label, text_of_octet}
 use Rattle.names_labels.proofs.Texts.{label_short, label_more}
 use Rattle.names_labels.proofs.text.write_octets.Goals as goal
 

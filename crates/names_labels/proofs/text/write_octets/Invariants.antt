@@ -1,6 +1,6 @@
 use Rattle.std.proofs.Common.{◌≡◌, ◌+◌, ◌++◌, take, length}
 use Rattle.std.specs.Str.{IsAscii}
-use Rattle.definitions.specs.Text.{text_of_label}
+use Rattle.names_wire.specs.Text.{text_of_label}
 use Rattle.names_labels.proofs.text.write_octets.Given as goal
 
 abbrev pub invariant-loop-octet : goal.invariant-loop-octet

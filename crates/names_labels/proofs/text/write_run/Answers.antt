@@ -1,7 +1,7 @@
 use Rattle.std.proofs.Common.{◌++◌, ◌∷◌, [], subst, length, length-append, ap, sym, ◌∙◌, arith}
 use Rattle.std.specs.Str.{IsAscii}
 use Rattle.std.proofs.lemmas.Str.{IsAscii-append}
-use Rattle.definitions.specs.Text.{text_of_label}
+use Rattle.names_wire.specs.Text.{text_of_label}
 use Rattle.names_labels.specs.Flat.{spelled, labels_in}
 use Rattle.names_labels.proofs.Runs.{moved}
 use Rattle.names_wire.specs.Label.{octets_of}

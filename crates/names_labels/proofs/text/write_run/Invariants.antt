@@ -1,6 +1,6 @@
 use Rattle.std.proofs.Common.{◌≡◌, ◌≤◌, ◌++◌, take, length}
 use Rattle.std.specs.Str.{IsAscii}
-use Rattle.definitions.specs.Name.{Name}
+use Rattle.names_wire.specs.Name.{Name}
 use Rattle.names_labels.specs.Flat.{labels_in, IsRun}
 use Rattle.names_labels.specs.Dotted.{dotted}
 use Rattle.names_labels.proofs.text.write_run.Given as goal

@@ -1,5 +1,5 @@
 use Rattle.std.proofs.Common.{◌≡◌, take, sum_by}
-use Rattle.resolution_evidence.specs.Counted.{saturated}
+use Rattle.evidence_laws.specs.Counted.{saturated}
 use Rattle.resolution_octets.specs.Working.{entry_calls}
 use Rattle.resolution_octets.proofs.working.entries_calls.Given as goal
 

@@ -1,6 +1,6 @@
 use Rattle.std.proofs.Common.{◌≡◌, drop}
 use Rattle.std.specs.List.{find}
-use Rattle.resolution_evidence.specs.Given.{is_answer}
+use Rattle.evidence_laws.specs.Given.{is_answer}
 use Rattle.resolution_walk.proofs.evidence.first_of.Given as goal
 
 -- the first of what is left is the first of all

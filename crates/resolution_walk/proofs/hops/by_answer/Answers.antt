@@ -1,4 +1,4 @@
-use Rattle.resolution_evidence.specs.Told.{told}
+use Rattle.evidence_laws.specs.Told.{told}
 use Rattle.resolution_walk.proofs.Onward.{turned_own}
 use Rattle.resolution_walk.proofs.Stopping.{own_counted_in, own_stops_in, untold_own}
 use Rattle.resolution_walk.proofs.hops.by_answer.Goals as goal

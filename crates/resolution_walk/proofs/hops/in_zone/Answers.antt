@@ -1,5 +1,5 @@
 use Rattle.std.proofs.Common.{◌≡◌, true, IfOk, subst}
-use Rattle.resolution_evidence.specs.Given.{IsOf}
+use Rattle.evidence_laws.specs.Given.{IsOf}
 use Rattle.resolution_walk.specs.Query.{Query}
 use Rattle.resolution_walk.specs.Stopping.{WantsLacking}
 use Rattle.resolution_walk.specs.Wanted.{is_lacking}

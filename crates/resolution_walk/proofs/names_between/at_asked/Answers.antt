@@ -3,7 +3,7 @@ use Rattle.std.specs.Prelude.{MatchResult}
 use Rattle.messages.specs.Message.{Asked}
 use Rattle.messages.specs.Questions.{asked_of}
 use Rattle.answer_judge.specs.Judging.{JudgeInput}
-use Rattle.resolution_evidence.specs.Given.{IsOf}
+use Rattle.evidence_laws.specs.Given.{IsOf}
 use Rattle.resolution_walk.specs.Between.{IsBetween}
 use Rattle.resolution_walk.specs.Judged.{IsJudgedFor}
 use Rattle.resolution_walk.specs.Query.{Query}

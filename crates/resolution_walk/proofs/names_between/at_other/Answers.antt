@@ -1,6 +1,6 @@
 use Rattle.std.proofs.Common.{ap, ◌∙◌}
 use Rattle.messages.specs.Questions.{asked_of}
-use Rattle.resolution_evidence.specs.Walking.{ds_at}
+use Rattle.evidence_laws.specs.Walking.{ds_at}
 use Rattle.resolution_walk.specs.Query.{Query}
 use Rattle.resolution_walk.proofs.Stopping.{judged_at}
 use Rattle.resolution_walk.proofs.names_between.at_other.Goals as goal

@@ -2,7 +2,7 @@ use Rattle.std.proofs.Common.{◌≡◌, IfOk, Result, ap, subst, ◌∙◌}
 use Rattle.std.specs.Prelude.{MatchResult}
 use Rattle.messages.specs.Questions.{asked_of}
 use Rattle.answer_judge.specs.Judging.{JudgeInput}
-use Rattle.resolution_evidence.specs.Told.{told}
+use Rattle.evidence_laws.specs.Told.{told}
 use Rattle.resolution_walk.specs.Query.{Query}
 use Rattle.resolution_walk.specs.Stopping.{IsHopTo}
 use Rattle.resolution_walk.specs.declared.ending.JudgedHop.{JudgedHop}

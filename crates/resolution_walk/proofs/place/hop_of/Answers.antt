@@ -1,6 +1,6 @@
 use Rattle.std.proofs.Common.{None, refl, subst, sym}
-use Rattle.resolution_evidence.specs.Step.{Step}
-use Rattle.resolution_evidence.specs.Told.{told}
+use Rattle.evidence_laws.specs.Step.{Step}
+use Rattle.evidence_laws.specs.Told.{told}
 use Rattle.resolution_walk.specs.Between.{IsNothing}
 use Rattle.resolution_walk.proofs.Turning.{untold_turned}
 use Rattle.resolution_walk.proofs.place.hop_of.Goals as goal

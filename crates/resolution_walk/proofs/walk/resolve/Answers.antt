@@ -3,8 +3,8 @@ use Rattle.std.specs.Global.{Vec}
 use Rattle.definitions.specs.Name.{Name}
 use Rattle.messages.specs.Message.{Asked}
 use Rattle.messages.specs.Questions.{asked_of}
-use Rattle.resolution_evidence.specs.Counted.{no_counts}
-use Rattle.resolution_evidence.specs.Counts.{Counts}
+use Rattle.evidence_laws.specs.Counted.{no_counts}
+use Rattle.evidence_laws.specs.Counts.{Counts}
 use Rattle.resolution_walk.specs.Ended.{IsWalked, said_of}
 use Rattle.resolution_walk.specs.Stopping.{IsStopped, StopsWithin}
 use Rattle.resolution_walk.specs.declared.walk.Limits.{Limits}

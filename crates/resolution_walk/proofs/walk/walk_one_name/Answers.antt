@@ -1,7 +1,7 @@
 use Rattle.std.proofs.Common.{ap, sym, ◌∙◌, refl}
 use Rattle.messages.specs.Questions.{asked_of}
-use Rattle.resolution_evidence.specs.Given.{Given}
-use Rattle.resolution_evidence.specs.Walking.{is_asked_of}
+use Rattle.evidence_laws.specs.Given.{Given}
+use Rattle.evidence_laws.specs.Walking.{is_asked_of}
 use Rattle.resolution_walk.specs.Stopping.{Elsewhere}
 use Rattle.resolution_walk.proofs.walk.walk_one_name.Goals as goal
 

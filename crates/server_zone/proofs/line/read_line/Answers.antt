@@ -1,6 +1,6 @@
 use Rattle.std.proofs.Common.{Option, ap, subst, sym, ◌∙◌}
-use Rattle.denialbench_session.specs.Readings.{Reads, texts}
-use Rattle.denialbench_session.specs.Sessions.{fields_of}
+use Rattle.session_grammar.specs.Readings.{Reads, texts}
+use Rattle.session_grammar.specs.Sessions.{fields_of}
 use Rattle.server_zone.specs.StateLines.{StateLine, fields_line, line_view}
 use Rattle.server_zone.proofs.ReadLemmas.{no_state_text, a_state_text}
 use Rattle.server_zone.proofs.line.read_line.Goals as goal

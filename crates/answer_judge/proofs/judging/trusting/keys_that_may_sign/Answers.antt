@@ -9,7 +9,7 @@ use Rattle.answer_scheme.specs.Answers.{Answers, SignatureTest, with_test}
 use Rattle.answer_judge.specs.Stages.{are_signed, tries_of_keys, trusting_named}
 use Rattle.answer_judge_facts.specs.Asked.{Implies, is_tried_among}
 use Rattle.answer_judge_facts.specs.Counted.{tries}
-use Rattle.answer_judge_keys.specs.Trusted.{is_trusted}
+use Rattle.answer_judge_facts.specs.Trusted.{is_trusted}
 use Rattle.answer_judge.specs.Judging.{JudgeInput}
 use Rattle.answer_judge_facts.specs.Validity.{key_seconds, least_or_max}
 use Rattle.answer_judge_facts.specs.Sought.{keys_sought}

@@ -1,6 +1,6 @@
 use Rattle.std.proofs.Common.{◌≡◌, map, inr, refl, sym, ap, subst, ◌∙◌}
 use Rattle.messages.specs.Record.{spelled}
-use Rattle.answer_judge_keys.specs.DnskeyAnswer.{keys_in}
+use Rattle.answer_judge_facts.specs.DnskeyAnswer.{keys_in}
 use Rattle.answer_terms.specs.EqualTags.{has_equal_tags}
 use Rattle.answer_judge.proofs.judging.trusting.read_unlike_keys.Goals as goal
 

@@ -6,7 +6,7 @@ use Rattle.messages.specs.Written.{record_octets}
 use Rattle.answer_publisher.specs.Composed.{RefusesRecords}
 use Rattle.answer_publisher.proofs.Refusals.{records_refused}
 use Rattle.answer_publisher.proofs.SignRecords.{records_written}
-use Rattle.answer_zone_records.specs.GroupRecords.{record_under}
+use Rattle.answer_zone.specs.GroupRecords.{record_under}
 use Rattle.answer_terms.specs.Served.{written_rr}
 use Rattle.answer_publisher.proofs.compose.Section.push_records.Goals as goal
 

@@ -1,7 +1,7 @@
 use Rattle.std.proofs.Common.{◌≡◌, ◌+◌, ◌++◌, take}
 use Rattle.std.specs.List.{flat_map}
 use Rattle.messages.specs.Written.{record_octets}
-use Rattle.answer_zone_records.specs.GroupRecords.{record_under}
+use Rattle.answer_zone.specs.GroupRecords.{record_under}
 use Rattle.answer_publisher.specs.Composed.{HasRoom}
 use Rattle.answer_publisher.proofs.compose.Section.push_records.Given as goal
 

@@ -2,7 +2,7 @@ use Rattle.std.proofs.Common.{◌∙◌, ap, subst, sym}
 use Rattle.definitions.specs.Name.{IsName}
 use Rattle.names_rdata.specs.Reading.{data_at}
 use Rattle.names_parsed.specs.Parsed.{parsed_name}
-use Rattle.denial_nsec_data.specs.Nsec.{nsec_part}
+use Rattle.denial_data.specs.Nsec.{nsec_part}
 use Rattle.messages.specs.Record.{spelled}
 use Rattle.messages.proofs.DataRead.{link_found, link_unread}
 use Rattle.messages.proofs.view.ViewRecord.link.Goals as goal

@@ -1,6 +1,6 @@
 use Rattle.std.proofs.Common.{◌≡◌, ◌+◌, ◌-◌, ◌<◌, ◌∙◌, true, sym, ap, subst, arith, drop, length}
 use Rattle.std.specs.Prelude.{IsTrue, ◌↔◌}
-use Rattle.definitions.specs.Name.{same}
+use Rattle.names_wire.specs.Name.{same}
 use Rattle.names_labels.specs.Compare.{begins_with}
 use Rattle.names_labels.specs.Flat.{labels_in}
 use Rattle.names_labels.proofs.Compares.{ends-begins, ends-same, ends_short}

@@ -1,5 +1,5 @@
 use Rattle.std.proofs.Common.{ap, ◌∙◌}
-use Rattle.resolution_evidence.specs.Given.{Given, message_of}
+use Rattle.evidence_laws.specs.Given.{Given, message_of}
 use Rattle.resolution_walk.proofs.evidence.Evidence.message_of.Goals as goal
 
 pub returns : goal.returns

@@ -2,7 +2,7 @@ use Rattle.std.proofs.Common.{ap, map, sym, subst, ◌∙◌}
 use Rattle.std.proofs.lemmas.Result.{IfOk-weaker}
 use Rattle.answer_publisher.proofs.Refusals.{if_err_map}
 use Rattle.messages.specs.HandedRr.{handed_of}
-use Rattle.denialbench_session.specs.Readings.{zone_view}
+use Rattle.session_grammar.specs.Readings.{zone_view}
 use Rattle.server_zone.specs.StateLines.{line_view}
 use Rattle.server_zone.specs.States.{after, state_of}
 use Rattle.server_zone.specs.Journals.{IsOpening, RefusesOwn, ran}

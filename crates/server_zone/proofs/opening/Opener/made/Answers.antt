@@ -1,6 +1,6 @@
 use Rattle.std.proofs.Common.{inl, map, refl}
 use Rattle.messages.specs.HandedRr.{handed_of}
-use Rattle.denialbench_session.specs.Readings.{zone_view}
+use Rattle.session_grammar.specs.Readings.{zone_view}
 use Rattle.server_zone.proofs.OpeningLemmas.{no_plain}
 use Rattle.server_zone.proofs.opening.Opener.made.Goals as goal
 

@@ -1,7 +1,7 @@
 use Rattle.std.proofs.Common.{ap, sym, ◌∙◌, [], map, Some}
-use Rattle.denialbench_session.specs.Grammar.{◌>>=◌}
-use Rattle.denialbench_session.specs.Readings.{texts, zone_view}
-use Rattle.denialbench_session.specs.Sessions.{fields_of}
+use Rattle.session_grammar.specs.Grammar.{◌>>=◌}
+use Rattle.session_grammar.specs.Readings.{texts, zone_view}
+use Rattle.session_grammar.specs.Sessions.{fields_of}
 use Rattle.messages.specs.HandedRr.{handed_of}
 use Rattle.server_zone.specs.Journals.{Beginning}
 use Rattle.server_zone.proofs.ReadLemmas.{no_first_text, a_first_text, zone_fields_line}

@@ -1,5 +1,0 @@
-use Rattle.resolution_tree.proofs.SmallTree.{small_tree_says}
-use Rattle.resolution_tree.proofs.laws.a_small_tree_says.Goals as goal
-
-pub returns : goal.returns
-returns c = small_tree_says
