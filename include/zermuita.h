@@ -269,7 +269,7 @@ enum zermuita_reply {
      *
      * Do: Use another trust anchor, if there is one.
      */
-    ZERMUITA_OUTSIDE = 31, /* the name is not at or below the trust anchor, or DS is asked for at it */
+    ZERMUITA_OUTSIDE = 31, /* the name is not at or below the trust anchor, or the question is for DS at the anchor */
 
     /*
      * # Requests
@@ -938,8 +938,8 @@ static inline size_t zermuita_message_room(const struct zermuita_wanted *wanted,
 
 /*
  * Writes a message to `out`, which has room for zermuita_message_room() bytes: the zone and the name, each prefixed by its length
- * in two bytes, the type in two bytes, and the message prefixed by its length in four. The message may come from a cache: then
- * `wanted` says which question of which zone it answers.
+ * in two bytes, the type in two bytes, and the message prefixed by its length in four. `wanted` holds the zone and the question that
+ * the message answers; the message may also come from a cache.
  */
 static inline void zermuita_put_message(uint8_t *out, const struct zermuita_wanted *wanted, struct zermuita_octets message) {
     const struct zermuita_octets names[2] = {wanted->zone, wanted->name};

@@ -62,7 +62,7 @@ fn text_of_code(code: ReplyCode) -> &'static [u8]
         ReplyCode::NothingTold =>
             b"ZERMUITA_NOTHING_TOLD: a zone's answer tells nothing of the way to the name\0",
         ReplyCode::Outside =>
-            b"ZERMUITA_OUTSIDE: the name is not at or below the trust anchor, or DS is asked for at it\0",
+            b"ZERMUITA_OUTSIDE: the name is not at or below the trust anchor, or the question is for DS at the anchor\0",
         ReplyCode::Ask => b"ZERMUITA_ASK: signatures are to be checked\0",
         ReplyCode::Want => b"ZERMUITA_WANT: messages are wanted\0",
         ReplyCode::BufferTooSmall =>

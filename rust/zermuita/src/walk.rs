@@ -121,7 +121,7 @@ pub enum Outcome {
         /// The answer.
         answer: Wanted,
     },
-    /// The name, or the one that the last alias leads to, is not at or below the trust anchor, or DS is asked for at it.
+    /// The name, or the one that the last alias leads to, is not at or below the trust anchor, or the question is for DS at the anchor.
     Outside,
     /// More delegations, aliases, messages or work than [`Limits`] allow.
     TooMany(Reply),
