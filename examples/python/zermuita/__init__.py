@@ -51,13 +51,16 @@ class Verdict(enum.IntEnum):
 class Refused(Exception):
     """No verdict: docs/use/REPLIES.md has the table of replies, docs/use/CALLING.md which of them are bogus.
 
-    `reply` is the number of the reason, and `ede` the code of an extended error (RFC 8914), or 0 where there is none.
+    `reply` is the number of the reason, and `ede` the code of an extended error (RFC 8914), or 0 where there is none. `verifications`
+    and `hashes` are as in a `Judgement`.
     """
 
-    def __init__(self, reply: int, text: str, ede: int = 0) -> None:
+    def __init__(self, reply: int, text: str, ede: int = 0, verifications: int = 0, hashes: int = 0) -> None:
         super().__init__(text)
         self.reply = reply
         self.ede = ede
+        self.verifications = verifications
+        self.hashes = hashes
 
 
 @dataclasses.dataclass(frozen=True)
@@ -278,7 +281,7 @@ class Library:
         if reply == OUT_OF_MEMORY:
             raise MemoryError(self.strerror(reply))
         if self._is_refusal(reply):
-            raise Refused(reply, self.strerror(reply), report.ede)
+            raise Refused(reply, self.strerror(reply), report.ede, report.verifications, report.hashes)
         if not self._is_verdict(reply):
             raise ValueError(self.strerror(reply))
         verdict = Verdict(reply)
