@@ -89,17 +89,26 @@ def _beside_bench(own: Judged, printed: str) -> list[str]:
 def _beside_library(case: Case, own: Judged, said: Said, *, is_aside: bool = False) -> list[str]:
     """What differs from what the library says."""
     found = []
-    if said.word is None:
-        is_same = own.word == NOT_PROVEN
-    else:
-        is_same = own.word == said.word or (is_aside and own.word == NOT_PROVEN)
-    if not is_same:
+    # What proves nothing for one question may lead elsewhere by another.
+    leads = said.word is None or is_aside
+    if own.word != said.word and not (leads and own.word == NOT_PROVEN):
         found.append(f"found here: {own.word}; the library says: {'; '.join(said.words)}")
     tried = {(it.octets, it.signature.signature) for it in own.seen if it.is_tried and it.signature is not None}
     if not tried <= said.asked:
         found.append(f"{len(tried - said.asked)} signatures are tried here that the library did not ask for")
-    if said.places is not None and said.word is not None and not _places(case, own) <= set(said.places):
-        found.append(f"verified here: the records {sorted(_places(case, own))}; the library vouches for {said.places}")
+    if said.rests_on_one:
+        found += _unlike(case, own, said)
+    return found
+
+
+def _unlike(case: Case, own: Judged, said: Said) -> list[str]:
+    """What differs from a verdict of the library that rests on one judgement: its counts, and the records that it vouches for."""
+    found = []
+    places, counts = _places(case, own), (own.verifications, len(own.hashes))
+    if counts != (said.verifications, said.hashes):
+        found.append(f"found here: verifications {counts[0]} hashes {counts[1]}; the library counts {said.verifications} and {said.hashes}")
+    if said.places is not None and places != set(said.places):
+        found.append(f"verified here: the records {sorted(places)}; the library vouches for {said.places}")
     return found
 
 

@@ -74,7 +74,8 @@ class ErrorReason:
 @dataclasses.dataclass(frozen=True)
 class Said:
     """What the library says of a case: the bench's name for it, None if the answer leads elsewhere; sentences; how long it lasts; the
-    question of the judgement that it rests on besides; the signatures that it asked for, and the records that it vouches for."""
+    question of the judgement that it rests on besides; the signatures that it asked for, and the records that it vouches for;
+    whether it is a verdict, and one that rests on no judgement for another question."""
 
     word: str | None
     words: list[str]
@@ -87,6 +88,7 @@ class Said:
     beside: Case | None = None
     places: list[int] | None = None
     is_proof: bool = True
+    rests_on_one: bool = False
 
 
 def says(case: Case) -> Said:
@@ -134,7 +136,8 @@ def _proved(case: Case, judgement: zermuita.Judgement, asked: set[tuple[bytes, b
     lasts = None if judgement.verdict == Verdict.INSECURE else (judgement.ttl, judgement.until)
     ttl, until = lasts or (None, None)
     counts = judgement.verifications, judgement.hashes
-    return Said(word, words, *counts, asked, ttl=ttl, until=until, beside=beside, places=judgement.places)
+    is_one = word not in (None, "Delegated", "Unsigned") and (word, case.rtype) != ("NoType", rtypes.DS)
+    return Said(word, words, *counts, asked, ttl, until, beside=beside, places=judgement.places, rests_on_one=is_one)
 
 
 def _beside(case: Case, judgement: zermuita.Judgement) -> tuple[str | None, Case | None]:
@@ -177,7 +180,8 @@ def _lead(case: Case, judgement: zermuita.Judgement) -> str:
 def left_open(said: Said, case: Case) -> Said:
     """What is said where opt-out leaves a wildcard's alias open: its own judgement proves nothing, and that for CNAME does."""
     sentence = "insecure by opt-out: a delegation without signatures may be there in place of a wildcard's alias"
-    return dataclasses.replace(said, word=None, words=[sentence], beside=case.asking(case.name, rtypes.CNAME))
+    aside = case.asking(case.name, rtypes.CNAME)
+    return dataclasses.replace(said, word=None, words=[sentence], beside=aside, rests_on_one=False)
 
 
 def _name(wire: bytes | None) -> Name:
