@@ -2,12 +2,15 @@
 
 from __future__ import annotations
 
+from typing import Tuple, Union
+
 from . import rtypes
 from .names import CutOff, Malformed, name_of_wire
 
-# Parts of data: so many octets, a string behind its length, a name that is signed in lower case or as it is spelled, the rest.
+# The parts of data: so many octets, a string behind its length, a name that is signed in lower case or as it is spelled, the rest.
+Form = Tuple[Union[int, str], ...]
 TEXT, LOWERED, KEPT, REST = "text", "lowered", "kept", "rest"
-FORMS: dict[int, tuple[int | str, ...]] = {
+FORMS: dict[int, Form] = {
     **dict.fromkeys((rtypes.NS, 3, 4, rtypes.CNAME, 7, 8, 9, rtypes.PTR, rtypes.DNAME), (LOWERED,)),
     rtypes.SOA: (LOWERED, LOWERED, 20),
     **dict.fromkeys((14, 17), (LOWERED, LOWERED)),
@@ -22,7 +25,7 @@ FORMS: dict[int, tuple[int | str, ...]] = {
 }
 A6 = 38
 # No data are so long.
-NO_FORM = (1 << 16,)
+NO_FORM: Form = (1 << 16,)
 UNLIKE = (
     "its data are not in canonical form (RFC 4034, 6.2), and are signed as they stand: other validators refuse the signatures"
 )
@@ -43,12 +46,12 @@ def is_canonical(rtype: int, data: bytes) -> bool:
     return at == len(data)
 
 
-def _a6(data: bytes) -> tuple[int | str, ...]:
+def _a6(data: bytes) -> Form:
     """The form of A6 data (RFC 2874, 3.1): no name behind a whole address."""
     if not data or data[0] > 128:
         return NO_FORM
-    suffix = 1 + (128 - data[0] + 7) // 8
-    return (suffix, LOWERED) if data[0] else (suffix,)
+    suffix: Form = (1 + (128 - data[0] + 7) // 8,)
+    return (*suffix, LOWERED) if data[0] else suffix
 
 
 def _behind(part: int | str, data: bytes, at: int) -> int:

@@ -104,7 +104,8 @@ def read_key(data: bytes) -> Key | None:
 def read_ds(data: bytes) -> Ds | None:
     if len(data) < 4:
         return None
-    return Ds(*struct.unpack_from(">HBB", data), data[4:])
+    tag, algorithm, digest_type = struct.unpack_from(">HBB", data)
+    return Ds(tag, algorithm, digest_type, data[4:])
 
 
 def read_signature(message: Message, record: Record) -> Signature | None:
@@ -115,8 +116,9 @@ def read_signature(message: Message, record: Record) -> Signature | None:
     signer = _name(message, start, record.end)
     if signer is None:
         return None
-    numbers = struct.unpack_from(">HBBIIIH", message.octets, record.start)
-    return Signature(*numbers, signer[0], message.octets[signer[1] : record.end])
+    covered, algorithm, labels, ttl, *times, tag = struct.unpack_from(">HBBIIIH", message.octets, record.start)
+    octets = message.octets[signer[1] : record.end]
+    return Signature(covered, algorithm, labels, ttl, times[0], times[1], tag, signer[0], octets)
 
 
 def read_nsec(message: Message, record: Record) -> Nsec | None:

@@ -150,10 +150,12 @@ class _Judgement:
             return "Records"
         if verified is not None:
             because.append(f"{asked} is a wildcard's: its signature, which passed, counts {verified.labels} labels")
-        denial = Nsec3Denial(case, links, because) if links else NsecDenial(case, self._links(), because)
-        verdict = denial.denied() if verified is None else denial.expanded(verified.labels)
-        if isinstance(denial, Nsec3Denial):
-            self.judged.hashes = denial.reasons()
+        if not links:
+            by_names = NsecDenial(case, self._links(), because)
+            return by_names.denied() if verified is None else by_names.expanded(verified.labels)
+        by_hashes = Nsec3Denial(case, links, because)
+        verdict = by_hashes.denied() if verified is None else by_hashes.expanded(verified.labels)
+        self.judged.hashes = by_hashes.reasons()
         return verdict
 
     def _links(self) -> list[Link]:

@@ -14,7 +14,7 @@ from .fields import ROLLS
 from .parts import TOP, Missing, library
 
 sys.path.append(str(TOP / "examples/python"))
-import zermuita  # noqa: E402
+import zermuita as zermuita  # noqa: E402
 
 DONE, REFUSED, RESPONSE, SIGN, BUFFER_TOO_SMALL = 64, 66, 67, 69, 71
 # The largest message, over a stream.
@@ -103,16 +103,15 @@ def judge() -> zermuita.Library:
     return zermuita.Library(library(zermuita.SONAME))
 
 
-def _call(name: str, front: list[Any], report: _Sized) -> Reply:
+def _call(name: str, front: list[Any], report: Any) -> Reply:
     """A call, made again if there was too little room."""
     room = 4096
     while True:
         out = ctypes.create_string_buffer(room)
         code = int(getattr(_object(), f"zermuita_zone_{name}")(*front, out, ctypes.c_size_t(room), ctypes.byref(report)))
         if code != BUFFER_TOO_SMALL:
-            length = report.len  # type: ignore[attr-defined]
-            return Reply(code, out.raw[:length], report)
-        room = report.len  # type: ignore[attr-defined]
+            return Reply(code, out.raw[: report.len], report)
+        room = report.len
 
 
 def master_lines(text: bytes, origin: str, chain: str) -> bytes:

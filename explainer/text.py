@@ -67,12 +67,12 @@ def base64_field(octets: bytes) -> str:
 
 def ds_text(data: bytes) -> str | None:
     ds = read_ds(data)
-    return ds and f"{ds.tag} {ds.algorithm} {ds.digest_type}{hex_field(ds.digest)}"
+    return f"{ds.tag} {ds.algorithm} {ds.digest_type}{hex_field(ds.digest)}" if ds else None
 
 
 def key_text(data: bytes) -> str | None:
     key = read_key(data)
-    return key and f"{key.flags} {key.protocol} {key.algorithm}{base64_field(data[4:])}"
+    return f"{key.flags} {key.protocol} {key.algorithm}{base64_field(data[4:])}" if key else None
 
 
 def _known(message: Message, record: Record, octets: bytes) -> str | None:
@@ -100,7 +100,7 @@ def _of_chain(message: Message, record: Record, octets: bytes) -> str | None:
         return _signature(message, record)
     if record.rtype == rtypes.NSEC:
         link = read_nsec(message, record)
-        return link and " ".join([str(link.next), *map(type_text, link.types)])
+        return " ".join([str(link.next), *map(type_text, link.types)]) if link else None
     if record.rtype == rtypes.NSEC3:
         hashed = read_nsec3(octets)
         if hashed is None:
