@@ -13,8 +13,9 @@ BAD_LINE = 1
 
 def printed(session: bytes) -> list[str]:
     """The lines that the bench prints: one for each event, or one for a session or a zone that it refuses."""
+    words, folder = bench()
     try:
-        ran = subprocess.run([bench()], input=session, capture_output=True)
+        ran = subprocess.run(words, input=session, capture_output=True, cwd=folder)
     except OSError as error:
         raise Missing(f"denialbench does not run: {error}") from None
     if ran.returncode not in (0, BAD_LINE):

@@ -32,7 +32,12 @@ class Reasons:
     keys: list[KeyReason]
     signatures: list[SignatureReason]
     hashes: list[HashReason]
-    agrees: bool
+    differences: list[str]
+
+    @property
+    def agrees(self) -> bool:
+        """Whether bench and library say what is found here."""
+        return not self.differences
 
     def lines(self) -> list[str]:
         """The lines of a text."""
@@ -40,11 +45,13 @@ class Reasons:
         told += [] if self.until is None else [f"until {moment_text(self.until)}"]
         told += [] if self.extended_error is None else [self.extended_error]
         told += [*self.because, *self.ds, *self.keys, *self.signatures, *self.hashes]
-        return [*map(str, told), *([] if self.agrees else [DISAGREES])]
+        return [*map(str, told), *([] if self.agrees else [*self.differences, DISAGREES])]
 
     def members(self) -> dict[str, Any]:
         """The members of an object."""
-        return dataclasses.asdict(self)
+        members = dataclasses.asdict(self)
+        members["because"] += members.pop("differences")
+        return {**members, "agrees": self.agrees}
 
 
 @dataclasses.dataclass(frozen=True)
@@ -68,7 +75,7 @@ def explain(case: Case, printed: str) -> Explanation:
         because = [*([] if said.is_proof else because), heading, *other.because]
         hashes = other.hashes if said.is_proof else hashes
         signatures = [_joined(*them) for them in zip(signatures, (it.reason() for it in other.seen))]
-    reasons = Reasons(said.ttl, said.until, said.error, [*because, *differences], own.ds, own.keys, signatures, hashes, not differences)
+    reasons = Reasons(said.ttl, said.until, said.error, because, own.ds, own.keys, signatures, hashes, differences)
     return Explanation(said.words, reasons)
 
 

@@ -43,9 +43,8 @@ BEHIND = (
     "tests/streams",
     "cd examples/sessions && ../../tests/growths/run first_wait opt_out own_zone",
     "tests/refusals --part",
-    "tools/archive && tests/lines/run",
+    "tools/archive && tests/lines/run && tests/explained/run",
     "tests/pictures",
-    "tests/explained/run",
     "tests/signers | cmp - tests/sessions/octets_of_signers",
     "tests/pages/run",
 )

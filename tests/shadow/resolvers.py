@@ -64,11 +64,12 @@ class Shadow:
         raise TimeoutError("no counts")
 
     async def settled(self, answers):
-        """Waits until so many answers were seen, and none waits for messages."""
+        """Waits until so many answers were seen, none waits for messages, and none for an explanation."""
         for _ in range(240):
             counts = self.counts()
             seen = counts["answers to clients"] + counts["answers to own questions"]
-            if not counts["waiting"] and seen >= answers + counts["asked"]:
+            told = counts["explained"] + counts["not explained"] if "explained" in counts else counts["disagree"]
+            if not counts["waiting"] and seen >= answers + counts["asked"] and told >= counts["disagree"]:
                 break
             await asyncio.sleep(0.5)
 
