@@ -1,13 +1,12 @@
 -- Entries of lists in octets stand there once, and take octets.
-use Rattle.std.proofs.Common.{◌≡◌, ℕ, ◌+◌, ◌<◌, Bool, true, false, List, ◌∷◌, ◌++◌, length, get_or, drop, refl, sym, ap, ◌∙◌, append_assoc, length-append, arith}
-use Rattle.std.specs.Int.{w16, w32, to_be_bytes, from_be_bytes}
+use Rattle.std.proofs.Common.{◌≡◌, ℕ, ◌+◌, ◌*◌, ◌<◌, Bool, true, false, List, ◌∷◌, ◌++◌, length, get_or, drop, Some, refl, sym, ap, ◌∙◌, append_assoc, length-append, arith}
+use Rattle.std.specs.Int.{w16, w32, byte_at, to_be_bytes, from_be_bytes}
 use Rattle.std.specs.Option.{unwrap_or}
 use Rattle.std.proofs.lemmas.Nat.{from_be_bytes-to_be_bytes_2, from_be_bytes-to_be_bytes_4}
 use Rattle.names_rdata.specs.Composing.{with_length}
 use Rattle.definitions.specs.Dnskey.{Dnskey, Ds, dnskey_data, dnskey_of_data}
 use Rattle.definitions.proofs.SignedLaws.{pieces}
 use Rattle.denial_keys.specs.Keys.{ds_data}
-use Rattle.answer_terms.proofs.KeyData.{key_read_back}
 use Rattle.answer_findings.specs.Table.{Checked, tried}
 use Rattle.answer_judge_octets.specs.Written.{FitsChecked, FitsDs, IsLong, IsShort, checked_octets, ds_octets, passes_octets, with_long_length}
 
@@ -98,8 +97,15 @@ short_key c fits =
     let n : length (dnskey_data k) ≡ 4 + length k.octets = omega (arith, length-append (to_be_bytes w16 k.flags) (k.protocol ∷ k.algorithm ∷ k.octets)) in
     omega (arith, n, fits.short)
 
+-- a key's data spell it
+read_back : (k : Dnskey) → k.flags < 65536 → dnskey_of_data (dnskey_data k) ≡ Some k
+read_back k small =
+    let back = from_be_bytes-to_be_bytes_2 k.flags small in
+    let value : byte_at 1 k.flags * 256 + byte_at 0 k.flags ≡ k.flags = omega (arith, back) in
+    λ i. Some (record { flags = value i; protocol = k.protocol; algorithm = k.algorithm; octets = k.octets })
+
 pub key_back : (j k : Dnskey) → j.flags < 65536 → k.flags < 65536 → dnskey_data j ≡ dnskey_data k → j ≡ k
-key_back j k fj fk e = ap (λ o. unwrap_or o j) (sym (key_read_back j fj) ∙ ap dnskey_of_data e ∙ key_read_back k fk)
+key_back j k fj fk e = ap (λ o. unwrap_or o j) (sym (read_back j fj) ∙ ap dnskey_of_data e ∙ read_back k fk)
 
 -- the parts of an entry, one in front of the next
 pub parted : (c : Checked) (x : List ℕ) → checked_octets c ++ x
