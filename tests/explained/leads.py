@@ -77,8 +77,14 @@ def no_delegation():
     signers.judged("no DS record at a name that is no delegation", "a.example", DS, signers.nsec("a.example", "example", A))
 
 
+def unknown_flag():
+    link = signers.nsec3("a.example", (A,), signers.hashed("a.example"), flags=2)
+    signers.judged("an NSEC3 record with a flag that is not known (RFC 5155, 8.2)", "a.example", DS, link)
+
+
 if __name__ == "__main__":
     print(HEAD + signers.HEAD.split("\n", 2)[2])
     aliases()
     names_above()
     no_delegation()
+    unknown_flag()
