@@ -10,7 +10,7 @@ from .cases import Case
 from .dates import moment_text
 from .delegation import DsReason, KeyReason
 from .judgements import NOT_PROVEN, Judged, judge
-from .library_says import ErrorReason, Said, left_open, says
+from .library_says import WORDS, ErrorReason, Said, left_open, says
 from .messages import read_message
 from .nsec3 import HashReason
 from .rtypes import type_text
@@ -76,7 +76,9 @@ def explain(case: Case, printed: str) -> Explanation:
         hashes = other.hashes if said.is_proof else hashes
         signatures = [_joined(*them) for them in zip(signatures, (it.reason() for it in other.seen))]
     reasons = Reasons(said.ttl, said.until, said.error, because, own.ds, own.keys, signatures, hashes, differences)
-    return Explanation(said.words, reasons)
+    # Of what the library does not judge the bench alone says something.
+    words = [] if said.is_judged or own.word not in WORDS else [WORDS[own.word]]
+    return Explanation([*words, *said.words], reasons)
 
 
 def _joined(own: SignatureReason, other: SignatureReason) -> SignatureReason:
@@ -95,6 +97,8 @@ def _beside_bench(own: Judged, printed: str) -> list[str]:
 
 def _beside_library(case: Case, own: Judged, said: Said, *, is_aside: bool = False) -> list[str]:
     """What differs from what the library says."""
+    if not said.is_judged:
+        return []
     found = []
     # What proves nothing for one question may lead elsewhere by another.
     leads = said.word is None or is_aside

@@ -13,7 +13,7 @@ from typing import Any
 from .fields import ROLLS
 from .parts import TOP, Missing, library
 
-sys.path.append(str(TOP / "examples/python"))
+sys.path.insert(0, str(TOP / "examples/python"))
 import zermuita as zermuita  # noqa: E402
 
 DONE, REFUSED, RESPONSE, SIGN, BUFFER_TOO_SMALL = 64, 66, 67, 69, 71

@@ -60,6 +60,8 @@ EXTENDED_ERRORS = {
     27: "Unsupported NSEC3 Iterations Value",
 }
 UNLIMITED = (1 << 32) - 1
+# The library judges no message that costs too much work. The bench does.
+TOO_LONG = 28
 
 
 @dataclasses.dataclass(frozen=True)
@@ -75,7 +77,7 @@ class ErrorReason:
 class Said:
     """What the library says of a case: the bench's name for it, None if the answer leads elsewhere; sentences; how long it lasts; the
     question of the judgement that it rests on besides; the signatures that it asked for, and the records that it vouches for;
-    whether it is a verdict, and one that rests on no judgement for another question."""
+    whether it judges at all, whether it is a verdict, and one that rests on no judgement for another question."""
 
     word: str | None
     words: list[str]
@@ -87,6 +89,7 @@ class Said:
     error: ErrorReason | None = None
     beside: Case | None = None
     places: list[int] | None = None
+    is_judged: bool = True
     is_proof: bool = True
     rests_on_one: bool = False
 
@@ -123,11 +126,11 @@ def says(case: Case) -> Said:
 
 
 def _refused(case: Case, refused: zermuita.Refused, asked: set[tuple[bytes, bytes]]) -> Said:
-    word, sentence = REFUSALS.get(refused.reply, (str(refused), f"not judged: {refused}"))
+    word, sentence = REFUSALS.get(refused.reply, (str(refused), f"the library does not judge this: {refused}"))
     error = ErrorReason(refused.ede, EXTENDED_ERRORS.get(refused.ede, "")) if refused.ede else None
     beside = case.suggested() if word == "NotProven" else None
-    counts = refused.verifications, refused.hashes
-    return Said(word, [sentence], *counts, asked, error=error, beside=beside, is_proof=False)
+    counts, is_judged = (refused.verifications, refused.hashes), refused.reply != TOO_LONG
+    return Said(word, [sentence], *counts, asked, error=error, beside=beside, is_judged=is_judged, is_proof=False)
 
 
 def _proved(case: Case, judgement: zermuita.Judgement, asked: set[tuple[bytes, bytes]]) -> Said:

@@ -81,6 +81,9 @@ def main(words: list[str]) -> int:
         sys.stdout.flush()
         print(f"explain: {fault}", file=sys.stderr)
         return 1
+    except MemoryError:
+        print("explain: out of memory", file=sys.stderr)
+        return 1
     except BrokenPipeError:
         sys.stderr.close()
         return 1
