@@ -92,6 +92,7 @@ def published(response: Message, ttl: int) -> bytes:
     for record in records:
         data = response.data(record)
         is_soa = record.rtype == rtypes.SOA or (record.rtype == rtypes.RRSIG and data[:2] == SOA_COVERED)
-        numbers = record.rtype, record.rclass, ttl if is_soa else record.ttl, len(data)
+        is_lowered = is_soa and record.section == SECTIONS[1]
+        numbers = record.rtype, record.rclass, ttl if is_lowered else record.ttl, len(data)
         out += record.owner.wire() + struct.pack(">HHIH", *numbers) + data
     return out
