@@ -15,7 +15,7 @@ static const char USAGE[] = "usage: shadow --anchors=FILE (--socket=PATH | --fil
                             "  --memory=MIB        of messages that are kept, in all: 128\n"
                             "  --iterations=N      the most iterations of NSEC3: 150\n"
                             "  --ask=ADDRESS@PORT  asks this resolver for DS and DNSKEY sets that were not seen\n"
-                            "  --explain=PROGRAM   has it explain disagreements: crates/explain/out/explain\n"
+                            "  --explain=PROGRAM   has it explain disagreements: ./explain\n"
                             "  --explanations=N    the most of these a minute: 6\n";
 
 static const struct option KNOWN[] = {
