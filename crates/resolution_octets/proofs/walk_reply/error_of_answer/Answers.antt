@@ -6,5 +6,5 @@ use Rattle.resolution_octets.proofs.walk_reply.error_of_answer.Goals as goal
 pub returns : goal.returns
 returns c =
     let e = c.args.evidence.now in
-    let answer = c.args.answer in
+    let answer = c.args.answer.now in
     subst (λ (q : Asked). IfOk c.refused.result (IsErrorOf e answer.zone.now answer.ds.now q answer.refusal)) c.in_ok-sought.ensures c.refused.ensures
