@@ -11,16 +11,13 @@ use Rattle.resolution_octets.specs.Replying.{IsWalk, SaysWalked}
 use Rattle.resolution_octets.specs.Saying.{IsSaid}
 use Rattle.resolution_octets.specs.declared.octets.OctetEvidence.{OctetEvidence}
 use Rattle.resolution_octets.specs.declared.octets.ReadEvidence.{ReadEvidence}
-use Rattle.resolution_octets.specs.declared.walk_reply.ReplyLimits.{ReplyLimits}
 
-pub says_in : (case : OctetEvidence) (r : ReadEvidence) (limits : ReplyLimits) (kept : Given) (checked : ℕ) (w : Walk) (said : Result Reply AllocError)
-    → IfOk said (λ x. IsSaid case.moment limits kept (asked_in r) w (reply_seen x)) → limits ≡ reply_limits_of case checked → kept ≡ given_of case r → checked ≡ length r.table.items → IsWalk (given_of case r) (asked_in r) (limits_of case) w
+pub says_in : (case : OctetEvidence) (r : ReadEvidence) (kept : Given) (w : Walk) (said : Result Reply AllocError)
+    → IfOk said (λ x. IsSaid case.moment (reply_limits_of case (length r.table.items)) kept (asked_in r) w (reply_seen x)) → kept ≡ given_of case r → IsWalk (given_of case r) (asked_in r) (limits_of case) w
     → IfOk said (λ x. SaysWalked case (given_of case r) (asked_in r) (reply_seen x))
-says_in case r limits kept checked w (Ok x) replied same given count walk = record {
+says_in case r kept w (Ok x) replied given walk = record {
   walk = w;
   is_walk = walk;
-  is_said = subst (λ (e : Given). IsSaid case.moment (reply_limits_of case (length r.table.items)) e (asked_in r) w (reply_seen x)) given
-      (subst (λ (n : ℕ). IsSaid case.moment (reply_limits_of case n) kept (asked_in r) w (reply_seen x)) count
-      (subst (λ (l : ReplyLimits). IsSaid case.moment l kept (asked_in r) w (reply_seen x)) same replied));
+  is_said = subst (λ (e : Given). IsSaid case.moment (reply_limits_of case (length r.table.items)) e (asked_in r) w (reply_seen x)) given replied;
 }
-says_in case r limits kept checked w (Err e) replied same given count walk = tt
+says_in case r kept w (Err e) replied given walk = tt

@@ -1,8 +1,9 @@
 //! A walk from octets to octets, for callers in other languages.
-ghost use Rattle.std.specs.Prelude.{◌≡◌, ◌⊎◌, IfErr, IfOk, Some, None};
+ghost use Rattle.std.specs.Prelude.{◌≡◌, ◌⊎◌, IfErr, IfOk, Some, None, length};
 ghost use Rattle.messages.specs.NameOctets.{name_of_octets};
 ghost use Rattle.answer_judge_octets.specs.Replying.{reply_seen};
-ghost use Rattle.resolution_octets.specs.Limiting.{limit_of, limits_of, work_in};
+ghost use Rattle.resolution_octets.specs.Limiting.{limit_of, limits_of, reply_limits_of, work_in};
+ghost use Rattle.resolution_octets.specs.Saying.{IsSaid};
 ghost use Rattle.resolution_octets.specs.Replying.{Answers, Replies, Says, SaysWalked};
 ghost use Rattle.resolution_octets.specs.Spelling.{HasDs, IsAnchor, LacksDs, Unread, flag_in};
 ghost use Rattle.resolution_octets.specs.Spelling.{is_known_size};
@@ -21,7 +22,7 @@ use messages::names::Name;
 use messages::question::Question;
 use names_rdata::rtype::Rtype;
 use numbers::class::Class;
-use resolution_walk::{Evidence, Limits, resolve};
+use resolution_walk::{Evidence, Limits, Walk, resolve};
 use std::alloc::{AllocError, Global};
 use std::time::Duration;
 
@@ -195,6 +196,22 @@ fn resolved(
         one_moment: read.one_moment,
     };
     let walk = resolve(alloc, &evidence, &read.question, limits_of(handed_in))?;
+    reply_within(alloc, handed_in, read, &evidence, &walk)
+}
+
+/// The reply to a walk over evidence that was read, within the limits that it was handed in with.
+fn reply_within(
+    alloc: Global,
+    handed_in: &OctetEvidence,
+    read: &ReadEvidence,
+    evidence: &Evidence,
+    walk: &Walk,
+) -> Result<Reply, AllocError>
+    ensures { let case = handed_in.now in let asked = asked_in read.now in
+        let limits = reply_limits_of case (length read.now.table.items) in
+        let said = IsSaid case.moment limits evidence.now asked walk.now in
+        IfOk result (λ r. said (reply_seen r)) }
+{
     let checked = read.table.len();
     let limits = ReplyLimits {
         signatures: handed_in.max_signatures,
@@ -202,7 +219,7 @@ fn resolved(
         work: work_in(handed_in),
     };
     let second = handed_in.moment;
-    reply_of_walk(alloc, second, limits, &evidence, &read.question, &walk)
+    reply_of_walk(alloc, second, limits, evidence, &read.question, walk)
 }
 
 /// The limits of evidence.

@@ -1,4 +1,4 @@
-use Rattle.std.proofs.Common.{◌≡◌, ℕ, [], length, ap, rules}
+use Rattle.std.proofs.Common.{[], rules}
 use Rattle.resolution_walk.specs.Ended.{IsWalked, LastsIfSaid}
 use Rattle.resolution_walk.specs.Stopping.{StopsWithin}
 use Rattle.resolution_walk.specs.Truth.{WalksTruly}
@@ -18,6 +18,4 @@ returns c =
     let stops : StopsWithin e asked (limits_of case) walk = search rules in
     let lasts : LastsIfSaid walk = search rules in
     let honest : WalksTruly e asked walk = search rules in
-    let count : c.len-checked.result ≡ length read.table.items = search rules in
-    let limits = ap (λ (w : ℕ). record { signatures = case.max_signatures; checked = c.len-checked.result; work = w }) c.work_in.ensures in
-    says_in case read _ _ c.len-checked.result walk c.reply_of_walk.result c.reply_of_walk.ensures limits (search rules) count (record { walked = walked; stops = stops; lasts = lasts; honest = honest })
+    says_in case read _ walk c.reply_within.result c.reply_within.ensures (search rules) (record { walked = walked; stops = stops; lasts = lasts; honest = honest })
