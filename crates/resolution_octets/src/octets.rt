@@ -195,11 +195,25 @@ fn resolved(
         limit: handed_in.limit,
         one_moment: read.one_moment,
     };
-    let walk = resolve(alloc, &evidence, &read.question, limits_of(handed_in))?;
-    reply_within(alloc, handed_in, read, &evidence, &walk)
+    walked_reply(alloc, handed_in, read, &evidence)
 }
 
-/// The reply to a walk over evidence that was read, within the limits that it was handed in with.
+/// The reply to a walk over evidence that was read.
+fn walked_reply(
+    alloc: Global,
+    handed_in: &OctetEvidence,
+    read: &ReadEvidence,
+    evidence: &Evidence,
+) -> Result<Reply, AllocError>
+    requires { evidence.now ≡ given_of handed_in.now read.now }
+    ensures { let e = given_of handed_in.now read.now in let asked = asked_in read.now in
+        IfOk result (λ r. SaysWalked handed_in.now e asked (reply_seen r)) }
+{
+    let walk = resolve(alloc, evidence, &read.question, limits_of(handed_in))?;
+    reply_within(alloc, handed_in, read, evidence, &walk)
+}
+
+/// The reply to a walk, within the limits that its evidence was handed in with.
 fn reply_within(
     alloc: Global,
     handed_in: &OctetEvidence,

@@ -1,0 +1,23 @@
+use Rattle.std.proofs.Common.{[], rules, subst}
+use Rattle.evidence_laws.specs.Given.{Given}
+use Rattle.resolution_walk.specs.Ended.{IsWalked, LastsIfSaid}
+use Rattle.resolution_walk.specs.Stopping.{StopsWithin}
+use Rattle.resolution_walk.specs.Truth.{WalksTruly}
+use Rattle.resolution_octets.specs.Limiting.{limits_of}
+use Rattle.resolution_octets.specs.ReadEvidence.{asked_in}
+use Rattle.resolution_octets.specs.Replying.{IsWalk}
+use Rattle.resolution_octets.proofs.Walked.{says_in}
+use Rattle.resolution_octets.proofs.octets.walked_reply.Goals as goal
+
+pub returns : goal.returns
+returns c =
+    let case = c.args.handed_in.now in
+    let read = c.args.read.now in
+    let asked = asked_in read in
+    let walk = c.in_ok-walk.walk in
+    let walked : IsWalked c.args.evidence.now asked [] walk = search rules in
+    let stops : StopsWithin c.args.evidence.now asked (limits_of case) walk = search rules in
+    let lasts : LastsIfSaid walk = search rules in
+    let honest : WalksTruly c.args.evidence.now asked walk = search rules in
+    says_in case read c.args.evidence.now walk c.reply_within.result c.reply_within.ensures c.requires
+    (subst (λ (g : Given). IsWalk g asked (limits_of case) walk) c.requires (record { walked = walked; stops = stops; lasts = lasts; honest = honest }))
