@@ -4,10 +4,11 @@ use Rattle.std.specs.Prelude.{◌==◌}
 use Rattle.std.proofs.lemmas.Bool.{and_parts, and_from}
 use Rattle.definitions.specs.Dnskey.{Ds}
 use Rattle.definitions.specs.Name.{Name, low, same, at_or_above, strictly_above}
-use Rattle.definitions.specs.Zone.{apex_of}
-use Rattle.definitions.proofs.ZoneNames.{lowered_above}
+use Rattle.definitions.specs.Zone.{apex_of, cut}
+use Rattle.definitions.proofs.ZoneNames.{above_itself, low-low, lowered_above}
 use Rattle.denial_laws.specs.Leading.{To}
 use Rattle.denial_laws.proofs.NameFacts.{strictly_at}
+use Rattle.denial_laws.proofs.ZoneCuts.{IsCut, cut_from, cut_is, cut_live, delegation_low}
 use Rattle.messages.specs.Message.{Asked}
 use Rattle.answer_judge.specs.Judging.{JudgeInput}
 use Rattle.answer_judge_facts.specs.declared.validity.Validity.{Validity}
@@ -91,8 +92,10 @@ module _ (e : Given) (class : ℕ) (zones : List SignedZone) (anchor : SignedZon
   down_so asked in_class zone c ds below l s at a x =
       let so = onward_so asked in_class s ds (GoesDown c below) l a (subst (λ n. IsOnward e asked n ds (GoesDown c below) l) (sym at) x) in
       let k : IsReferred (zone_of s).zone asked.name asked.rtype c = referred (zone_of s).zone asked.name asked.rtype c so.0 in
+      let there : IsCut (zone_of s).zone (low asked.name) c = cut_is (zone_of s).zone (low asked.name) c (low-low asked.name) k.cut_is in
+      let own : cut (zone_of s).zone c ≡ Some c = cut_from (zone_of s).zone c c (delegation_low (zone_of s).zone c there.delegation) there.delegation (cut_live (zone_of s).zone (low asked.name) c there) (above_itself c) in
       let child = of.whole s (low asked.name) c a.there k.cut_is so.1.bound in
-      let out : HandsOut e.algorithms zones child.0.apex below = subst (λ n. HandsOut e.algorithms zones n below) (sym child.2) (record { parent = s; there = a.there; bound = so.1.bound; ds_are = so.1.ds_are }) in
+      let out : HandsOut e.algorithms zones child.0.apex below = subst (λ n. HandsOut e.algorithms zones n below) (sym child.2) (record { parent = s; there = a.there; delegates = own; bound = so.1.bound; ds_are = so.1.ds_are }) in
       record {
         child = child.0;
         child_is = child.2;

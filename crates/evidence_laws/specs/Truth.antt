@@ -29,10 +29,12 @@ zone_of s = zone_of_version s.apex s.version
 abbrev pub tree_of : List SignedZone → Tree
 tree_of zones = map zone_of zones
 
--- a zone of the tree hands out this DS set for a name: its DS records of a known kind at a delegation, one at least
+-- a zone of the tree hands out this DS set for a name: its DS records of a known kind at a delegation that is below no other, one at
+-- least
 pub record HandsOut (algorithms : List ℕ) (zones : List SignedZone) (c : Name) (ds : List Ds) : Type 0 where
   pub parent : SignedZone
   pub there : Contains zones parent
+  pub delegates : cut (zone_of parent).zone c ≡ Some c
   pub bound : is_bound (knows algorithms) (zone_of parent).zone c ≡ true
   pub ds_are : ds ≡ known_ds algorithms (data_at (zone_of parent).zone c 43)
 
