@@ -21,7 +21,7 @@ use Rattle.resolution_octets.specs.declared.octets.OctetEvidence.{OctetEvidence}
 -- A walk over evidence: where it leads from the anchor down and how long that lasts; where it stops within limits, which messages it
 -- wants there, and how often was verified and hashed on the way; and that of evidence of a tree it says what the tree says.
 pub record IsWalk (e : Given) (asked : Asked) (limits : Limits) (w : Walk) : Type 0 where
-  pub walked : IsWalked e asked [] w
+  pub walked : IsWalked e asked w
   pub stops : StopsWithin e asked limits w
   pub lasts : LastsIfSaid w
   pub honest : WalksTruly e asked w

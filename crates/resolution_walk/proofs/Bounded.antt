@@ -1,5 +1,5 @@
 -- What a walk wants is new, and of few messages.
-use Rattle.std.proofs.Common.{◌≡◌, ℕ, suc, ◌+◌, ◌<◌, length, Bool, true, false, ◌&&◌, ◌||◌, not, List, [], ◌∷◌, ◌++◌, map, Some, refl, sym, ap, subst, ◌∙◌, inl, inr, ◌⊎◌, arith}
+use Rattle.std.proofs.Common.{◌≡◌, ℕ, suc, ◌+◌, ◌<◌, length, Bool, true, false, ◌&&◌, ◌||◌, not, List, [], ◌∷◌, ◌++◌, map, Option, Some, refl, sym, ap, subst, ◌∙◌, inl, inr, ◌⊎◌, arith}
 use Rattle.std.specs.Prelude.{◌==◌, is_none, nat_lt, Contains, if◌then◌else◌}
 use Rattle.std.specs.Global.{Vec}
 use Rattle.std.specs.List.{AllByRecursion, find}
@@ -11,9 +11,11 @@ use Rattle.definitions.specs.Name.{Name, at_or_above, same, strictly_above}
 use Rattle.definitions.proofs.Members.{In, contained, in_contained}
 use Rattle.denial_laws.proofs.NameFacts.{names_same}
 use Rattle.messages.specs.Message.{Asked}
+use Rattle.answer_judge_facts.specs.declared.validity.Validity.{Validity}
 use Rattle.evidence_laws.specs.Counted.{no_counts}
 use Rattle.evidence_laws.specs.Counts.{Counts}
 use Rattle.evidence_laws.specs.Given.{Given, Message, is_answer}
+use Rattle.evidence_laws.specs.Told.{TellsDown}
 use Rattle.evidence_laws.specs.Staying.{HasOctets}
 use Rattle.evidence_laws.specs.Walking.{is_asked_of, renamed}
 use Rattle.evidence_laws.proofs.Downward.{onward_down}
@@ -25,6 +27,7 @@ use Rattle.resolution_walk.specs.Wanted.{AreWantedOf, IsSought, is_for_keys, lac
 use Rattle.resolution_walk.specs.declared.ending.Ending.{Ending}
 use Rattle.resolution_walk.specs.declared.ending.Ending.TheVariants as ends
 use Rattle.resolution_walk.specs.declared.ending.Wanted.{Wanted}
+use Rattle.resolution_walk.proofs.Walked.{heard_onward}
 
 -- ---- what lacks is answered by no message
 
@@ -121,20 +124,20 @@ module _ (e : Given) (asked : Asked) (zone : Name) (ds : List Ds) where
 -- ---- along the way
 
 module _ (e : Given) (octets : HasOctets e) (ws : Vec Wanted) where
-  wants_few : (asked : Asked) (cuts : ℕ) (zone : Name) (ds : List Ds) (before after : Counts) → Stops e asked (ends.Wants ws) cuts zone ds before after → at_or_above zone asked.name ≡ true → AreFewOf e asked ws.items
-  wants_few asked cuts zone ds before after (Here judged stops) above = few_of e asked zone ds ws.items above stops
-  wants_few asked cuts zone ds before after (Below {cuts = less} {c = c} {below = below} {between = between} validity judged way more) above =
-      wants_few asked less c below between after more (onward_down e octets asked zone ds c below validity way)
-  wants_few asked cuts zone ds before after (TooDeep validity judged way is) above = absurd cc
+  wants_few : (asked : Asked) (cuts : ℕ) (zone : Name) (ds : List Ds) (before after : Counts) (l : Option Validity) → Stops e asked (ends.Wants ws) cuts zone ds before after l → at_or_above zone asked.name ≡ true → AreFewOf e asked ws.items
+  wants_few asked cuts zone ds before after l (Here judged stops) above = few_of e asked zone ds ws.items above stops
+  wants_few asked cuts zone ds before after l (Below {cuts = less} {c = c} {below = below} {between = between} {first = first} {rest = rest} judged way more lasts) above =
+      wants_few asked less c below between after rest more (onward_down e octets asked zone ds c below first (heard_onward e asked zone ds (TellsDown c below) first way))
+  wants_few asked cuts zone ds before after l (TooDeep judged way is) above = absurd cc
 
   asked_above : (asked : Asked) → is_asked_of e.anchor asked ≡ true → at_or_above e.anchor asked.name ≡ true
   asked_above asked w = (and_parts (at_or_above e.anchor asked.name) (not (same e.anchor asked.name && (asked.rtype == 43))) w).0
 
-  behind_few : (cuts aliases : ℕ) (asked : Asked) (ns : List Name) (before after : Counts) → StopsBehind e cuts (ends.Wants ws) aliases asked ns before after → AreFewOf e (renamed asked (last_of asked.name ns)) ws.items
-  behind_few cuts aliases asked ns before after (AtOnce w stops) = wants_few asked cuts e.anchor e.ds before after stops (asked_above asked w)
-  behind_few cuts aliases asked ns before after (Elsewhere w is same) = absurd cc
-  behind_few cuts aliases asked ns before after (TooMany t led is same) = absurd cc
-  behind_few cuts aliases asked ns before after (Led {aliases = less} {ns = more} t led stops) = behind_few cuts less (renamed asked t.name) more t.counts after stops
+  behind_few : (cuts aliases : ℕ) (asked : Asked) (ns : List Name) (before after : Counts) (l : Option Validity) → StopsBehind e cuts (ends.Wants ws) aliases asked ns before after l → AreFewOf e (renamed asked (last_of asked.name ns)) ws.items
+  behind_few cuts aliases asked ns before after l (AtOnce w stops none) = wants_few asked cuts e.anchor e.ds before after l stops (asked_above asked w)
+  behind_few cuts aliases asked ns before after l (Elsewhere w is same) = absurd cc
+  behind_few cuts aliases asked ns before after l (TooMany t led is same) = absurd cc
+  behind_few cuts aliases asked ns before after l (Led {aliases = less} {ns = more} {rest = rest} t led stops lasts) = behind_few cuts less (renamed asked t.name) more t.counts after rest stops
 
 -- a limit of messages that is not reached
 room_is : (e : Given) (most : ℕ) (ws : Vec Wanted) (ending : Ending) → ends.Wants ws ≡ ending_within most e ending → (nat_lt (length e.messages) most ≡ true) × (ending ≡ ends.Wants ws)
@@ -158,9 +161,9 @@ pub walks_want_few : WalksWantFew
 walks_want_few e asked limits w ws octets stops is =
     let room = room_is e limits.messages ws stops.ending (sym is ∙ stops.is) in
     let more : List Name = stops.stops.more in
-    let behind : StopsBehind e limits.cuts (ends.Wants ws) limits.aliases asked more no_counts w.counts =
-    subst (λ (g : Ending). StopsBehind e limits.cuts g limits.aliases asked more no_counts w.counts) room.1 stops.stops.stops in
-    let few = behind_few e octets ws limits.cuts limits.aliases asked more no_counts w.counts behind in (
+    let behind : StopsBehind e limits.cuts (ends.Wants ws) limits.aliases asked more no_counts w.counts stops.validity =
+    subst (λ (g : Ending). StopsBehind e limits.cuts g limits.aliases asked more no_counts w.counts stops.validity) room.1 stops.stops.stops in
+    let few = behind_few e octets ws limits.cuts limits.aliases asked more no_counts w.counts stops.validity behind in (
       ltb-true (length e.messages) limits.messages room.0,
       subst (λ (ns : List Name). AreFewOf e (renamed asked (last_of asked.name ns)) ws.items) (sym stops.stops.through_are) few,
     )

@@ -1,7 +1,8 @@
 pub mod Cuts
 pub mod Turning
 pub mod Stopping
-pub mod Onward
+pub mod Walked
+pub mod Parents
 pub mod Truly
 pub mod Staying
 pub mod Bounded

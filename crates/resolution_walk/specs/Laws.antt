@@ -26,7 +26,7 @@ use Rattle.resolution_walk.specs.declared.walk.Limits.{Limits}
 abbrev pub WalksStayProved : Type 0
 WalksStayProved =
     (e : Given) (asked : Asked) (w : Walk) (said : Said) (l : Validity) (later : ℕ)
-    → HasOctets e → IsWalked e asked [] w → said_of w.ending ≡ Some said → w.validity ≡ Some l → IsWithinValidity e.at later l
+    → HasOctets e → IsWalked e asked w → said_of w.ending ≡ Some said → w.validity ≡ Some l → IsWithinValidity e.at later l
     → ProvesThrough (at_time later e) said asked w.through.items
 
 -- Two walks over evidence of one tree, at whatever moments, say no two things.
@@ -34,7 +34,7 @@ abbrev pub WalksAgree : Type 0
 WalksAgree =
     (e f : Given) (zones : List SignedZone) (anchor : SignedZone) (asked : Asked) (v w : Walk) (said other : Said)
     → IsOfTree e asked.class zones anchor → IsOfTree f asked.class zones anchor → f.algorithms ≡ e.algorithms
-    → IsWalked e asked [] v → IsWalked f asked [] w → said_of v.ending ≡ Some said → said_of w.ending ≡ Some other
+    → IsWalked e asked v → IsWalked f asked w → said_of v.ending ≡ Some said → said_of w.ending ≡ Some other
     → (v.through.items ≡ w.through.items) × AreAlike said other
 
 -- ---- what is wanted

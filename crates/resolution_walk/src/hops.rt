@@ -2,10 +2,9 @@
 ghost use Rattle.std.specs.Prelude.{◌≡◌, IfErr, IfOk, MatchResult};
 ghost use Rattle.evidence_laws.specs.Given.{IsOf};
 ghost use Rattle.evidence_laws.specs.Told.{told};
-ghost use Rattle.resolution_walk.specs.Between.{IsAnswerUntold, IsNothing, IsUnanswered};
-ghost use Rattle.resolution_walk.specs.Ended.{IsHop};
-ghost use Rattle.resolution_walk.specs.Judged.{IsCountedBetween, IsLast, IsToldWay};
-ghost use Rattle.resolution_walk.specs.Judged.{are_keys_refused, is_of_keys};
+ghost use Rattle.resolution_walk.specs.Between.{IsAnswerUntold, IsNothing};
+ghost use Rattle.resolution_walk.specs.Between.{are_keys_refused, is_of_keys};
+ghost use Rattle.resolution_walk.specs.Judged.{IsCountedBehind, IsLast, IsToldWay};
 ghost use Rattle.resolution_walk.specs.Stopping.{IsCounted, IsStop, IsHopUntold};
 
 use crate::ending::{JudgedHop, Uncut};
@@ -34,7 +33,6 @@ pub(crate) fn in_zone(
     query: &ZoneQuery,
     counts: Counts,
 ) -> Result<JudgedHop, AllocError>
-    ensures leads { IfOk result (IsHop evidence.now query.now) }
     ensures stops { IfOk result (IsStop evidence.now query.now) }
     ensures counted { IfOk result (IsCounted evidence.now query.now counts) }
 {
@@ -53,7 +51,6 @@ fn by_answer(
     counts: Counts,
 ) -> Result<JudgedHop, AllocError>
     requires { let q = query.now in IsOf evidence.now q.zone q.ds q.asked case.now }
-    ensures leads { IfOk result (IsHop evidence.now query.now) }
     ensures stops { IfOk result (IsStop evidence.now query.now) }
     ensures counted { IfOk result (IsCounted evidence.now query.now counts) }
 {
@@ -102,12 +99,11 @@ fn search_between(
 ) -> Result<JudgedHop, AllocError>
     requires { let q = query.now in
         IsAnswerUntold evidence.now q.asked q.zone q.ds untold.refusal untold.counts }
-    ensures leads { IfOk result (IsHop evidence.now query.now) }
     ensures stops { IfOk result (IsStop evidence.now query.now) }
     ensures counted { IfOk result (IsCounted evidence.now query.now counts) }
 {
     let sums = counts.plus(untold.counts);
-    let way = down_between(alloc, evidence, query, &untold.refusal, sums)?;
+    let way = down_between(alloc, evidence, query, untold, sums)?;
     match way {
         Ok(judged_hop) => Ok(judged_hop),
         Err(uncut) => {
@@ -141,17 +137,18 @@ fn down_between(
     alloc: Global,
     evidence: &Evidence,
     query: &ZoneQuery,
-    refusal: &Option<Refusal>,
+    untold: Unanswered,
     counts: Counts,
 ) -> Result<Result<JudgedHop, Uncut>, AllocError>
-    requires { let q = query.now in IsUnanswered evidence.now q.asked q.zone q.ds }
-    ensures leads { IfOk result (λ r. IfOk r (IsHop evidence.now query.now)) }
+    requires { let q = query.now in
+        IsAnswerUntold evidence.now q.asked q.zone q.ds untold.refusal untold.counts }
     ensures stops { IfOk result (λ r. IfOk r (IsStop evidence.now query.now)) }
-    ensures counted { IfOk result (IsCountedBetween evidence.now query.now counts) }
+    ensures counted { let refusal = untold.refusal in
+        IfOk result (IsCountedBehind evidence.now query.now refusal counts) }
     ensures last { let q = query.now in let last = IsLast evidence.now q.asked q.zone q.ds in
-        IfOk result (λ r. IfErr r (λ u. last refusal.now)) }
+        IfOk result (λ r. IfErr r (λ u. last untold.refusal)) }
 {
-    if are_keys_refused(refusal) {
+    if are_keys_refused(&untold.refusal) {
         Ok(Err(Uncut::SoFar(counts)))
     } else {
         search_down_to(alloc, evidence, query, &query.question.name, counts)

@@ -6,7 +6,6 @@ ghost use Rattle.evidence_laws.specs.Told.{told};
 ghost use Rattle.evidence_laws.specs.Given.{IsOf};
 ghost use Rattle.evidence_laws.specs.Walking.{ds_at};
 ghost use Rattle.resolution_walk.specs.Between.{IsBetween, IsReached, IsUnanswered, is_itself};
-ghost use Rattle.resolution_walk.specs.Ended.{IsHop};
 ghost use Rattle.resolution_walk.specs.Judged.{IsCountedBetween, IsJudgedAt, IsJudgedFor};
 ghost use Rattle.resolution_walk.specs.Judged.{IsToldCut, IsUncut, IsUncutTold, counts_in};
 ghost use Rattle.resolution_walk.specs.Stopping.{IsStop, IsHopTo, WantsLacking};
@@ -37,9 +36,9 @@ pub(crate) fn search_down_to(
 ) -> Result<Result<JudgedHop, Uncut>, AllocError>
     requires above { at_or_above name.now query.now.asked.name ≡ true }
     requires untold { let q = query.now in IsUnanswered evidence.now q.asked q.zone q.ds }
-    ensures leads { IfOk result (λ r. IfOk r (IsHop evidence.now query.now)) }
     ensures stops { IfOk result (λ r. IfOk r (IsStop evidence.now query.now)) }
-    ensures counted { IfOk result (IsCountedBetween evidence.now query.now counts) }
+    ensures counted { let counted = IsCountedBetween evidence.now query.now counts in
+        IfOk result (λ r. IfOk r counted) }
     ensures uncut { let uncut = IsUncut evidence.now query.now counts name.now in
         IfOk result (λ r. IfErr r uncut) }
 {
@@ -89,7 +88,6 @@ fn at_name(
     counts: Counts,
 ) -> Result<Result<JudgedHop, Uncut>, AllocError>
     requires { let q = query.now in IsReached evidence.now q.asked q.zone q.ds name.now }
-    ensures leads { IfOk result (λ r. IfOk r (IsHop evidence.now query.now)) }
     ensures stops { IfOk result (λ r. IfOk r (IsStop evidence.now query.now)) }
     ensures judged { IfOk result (IsJudgedAt evidence.now query.now name.now counts) }
 {
@@ -117,7 +115,6 @@ fn at_other(
 ) -> Result<Result<JudgedHop, Uncut>, AllocError>
     requires reached { let q = query.now in IsReached evidence.now q.asked q.zone q.ds name.now }
     requires other { is_itself query.now.asked name.now ≡ false }
-    ensures leads { IfOk result (λ r. IfOk r (IsHop evidence.now query.now)) }
     ensures stops { IfOk result (λ r. IfOk r (IsStop evidence.now query.now)) }
     ensures judged { let sought = ds_at query.now.asked name.now in
         IfOk result (IsJudgedFor evidence.now query.now sought counts) }
@@ -153,7 +150,6 @@ fn at_asked(
 ) -> Result<Result<JudgedHop, Uncut>, AllocError>
     requires { let q = query.now in let sought = asked_of asked.now in
         IsBetween evidence.now q.asked q.zone q.ds sought }
-    ensures leads { IfOk result (λ r. IfOk r (IsHop evidence.now query.now)) }
     ensures stops { IfOk result (λ r. IfOk r (IsStop evidence.now query.now)) }
     ensures judged { let sought = asked_of asked.now in
         IfOk result (IsJudgedFor evidence.now query.now sought counts) }
@@ -192,7 +188,6 @@ fn by_cut(
     requires between { let q = query.now in
         IsBetween evidence.now q.asked q.zone q.ds case.now.asked }
     requires of { let q = query.now in IsOf evidence.now q.zone q.ds case.now.asked case.now }
-    ensures leads { IfOk result (λ r. IfOk r (IsHop evidence.now query.now)) }
     ensures stops { IfOk result (λ r. IfOk r (IsStop evidence.now query.now)) }
     ensures judged { IfOk result (IsJudgedFor evidence.now query.now case.now.asked counts) }
 {

@@ -1,8 +1,9 @@
 //! What the messages of a zone on the way tell.
-ghost use Rattle.std.specs.Prelude.{◌≡◌, IfNone, IfOk, IfSome, Some, true};
+ghost use Rattle.std.specs.Prelude.{◌≡◌, IfNone, IfOk, IfSome, Some, false, true};
 ghost use Rattle.messages.specs.Questions.{asked_of};
 ghost use Rattle.evidence_laws.specs.Told.{IsJudgedCut, IsJudgedStep, told};
 ghost use Rattle.evidence_laws.specs.Given.{IsOf, message_of};
+ghost use Rattle.resolution_walk.specs.Between.{is_of_memory, lacked_memory};
 ghost use Rattle.resolution_walk.specs.Stopping.{IsHopUntold, IsHopTo, WantsLacking};
 ghost use Rattle.resolution_walk.specs.Wanted.{is_for_keys, is_lacking, lacking, wanted_of};
 
@@ -22,8 +23,9 @@ pub(crate) fn own_step(
     evidence: &Evidence,
     case: &Case,
 ) -> Result<JudgedStep, AllocError>
-    ensures { let e = evidence.now in
+    ensures told { let e = evidence.now in
         IfOk result (IsJudgedStep e.algorithms e.table case.now) }
+    ensures in_memory { IfOk result (λ t. lacked_memory (told t.step) ≡ false) }
 {
     let judged_step = step(alloc, case, evidence.table, evidence.algorithms)?;
     unless_memory_lacked(judged_step)
@@ -35,8 +37,9 @@ pub(crate) fn name_step(
     evidence: &Evidence,
     case: &Case,
 ) -> Result<JudgedStep, AllocError>
-    ensures { let e = evidence.now in
+    ensures told { let e = evidence.now in
         IfOk result (IsJudgedCut e.algorithms e.table case.now) }
+    ensures in_memory { IfOk result (λ t. lacked_memory (told t.step) ≡ false) }
 {
     let judged_step = cut_step(alloc, case, evidence.table, evidence.algorithms)?;
     unless_memory_lacked(judged_step)
@@ -44,7 +47,8 @@ pub(crate) fn name_step(
 
 /// What is told, unless memory lacked for that: no zone is bogus for this.
 fn unless_memory_lacked(judged_step: JudgedStep) -> Result<JudgedStep, AllocError>
-    ensures { IfOk result (λ t. t ≡ judged_step) }
+    ensures same { IfOk result (λ t. t ≡ judged_step) }
+    ensures in_memory { IfOk result (λ t. lacked_memory (told t.step) ≡ false) }
 {
     if lacked_memory(&judged_step.step) {
         Err(AllocError)
@@ -53,10 +57,21 @@ fn unless_memory_lacked(judged_step: JudgedStep) -> Result<JudgedStep, AllocErro
     }
 }
 
-fn lacked_memory(step: &Step) -> bool {
+fn lacked_memory(step: &Step) -> bool
+    ensures { result ≡ lacked_memory (told step.now) }
+{
     match step {
-        Step::Untold(Some(Refusal::Memory)) => true,
+        Step::Untold(refusal) => is_of_memory(refusal),
         _ => false,
+    }
+}
+
+fn is_of_memory(refusal: &Option<Refusal>) -> bool
+    ensures { result ≡ is_of_memory refusal.now }
+{
+    match refusal {
+        Some(refusal) => *refusal == Refusal::Memory,
+        None => false,
     }
 }
 

@@ -5,8 +5,7 @@ ghost use Rattle.std.specs.Option.{is_some};
 ghost use Rattle.messages.specs.Questions.{asked_of};
 ghost use Rattle.evidence_laws.specs.Lasts.{least_of};
 ghost use Rattle.evidence_laws.specs.Walking.{is_asked_of};
-ghost use Rattle.resolution_walk.specs.Ended.{IsEnding, IsWalked, LastsIfSaid, validity_said};
-ghost use Rattle.resolution_walk.specs.Ended.{said_of};
+ghost use Rattle.resolution_walk.specs.Ended.{IsWalked, LastsIfSaid, said_of, validity_said};
 ghost use Rattle.resolution_walk.specs.Stopping.{EndsHere, IsAliasOf, IsLed, IsNoAlias};
 ghost use Rattle.resolution_walk.specs.Stopping.{StopsBelowIn, StopsIn, StopsWithin, WalkStops};
 ghost use Rattle.resolution_walk.specs.Stopping.{ending_within};
@@ -48,19 +47,20 @@ pub(crate) struct Trail {
 /// From the anchor on, a zone's own answer leads down by the DS records of a referral, or where it
 /// tells nothing of the way, its answers for DS at the names between do, one by one, down to one
 /// that does not exist. An answer to the question that tells nothing is the end only where no
-/// delegation is at any of these, or the zone's keys are refused. Each zone is judged by the DS set
-/// that the zone above has for it, and each name from the anchor on again. The messages that are
-/// wanted are exactly those that lack of the zone that the evidence leads down to: of its keys and
-/// its answer. For one name a message is judged once, so that the judgements grow with the messages
-/// and not with their square.
+/// delegation is at any of these, or the zone's keys are refused; then no other answer is looked
+/// at. A judgement that memory ran out for tells nothing: it is an error, and no walk. Each zone is
+/// judged by the DS set that the zone above has for it, and each name from the anchor on again. The
+/// messages that are wanted are exactly those that lack of the zone that the evidence leads down
+/// to: of its keys and its answer. For one name a message is judged once, so that the judgements
+/// grow with the messages and not with their square.
 ///
 /// A limit is where a walk stops that goes on: at one more delegation for a name, one more alias,
 /// or where a message is wanted beside as many as are allowed.
 ///
-/// What is said lasts as long as each step of the way, through all zones and aliases; what says
-/// neither secure nor insecure lasts no time. The counts are those of all judgements that are made:
-/// in each zone on the way of the answer to the question, and of those for DS at the names between
-/// that are looked at.
+/// What is said lasts as long as each step of the way that is taken, through all zones and aliases,
+/// not as long as another way to the same end; what says neither secure nor insecure lasts no time.
+/// The counts are those of all judgements that are made: in each zone on the way of the answer to
+/// the question, and of those for DS at the names between that are looked at.
 ///
 /// Where nothing in the evidence is forged, zone by zone, beside an anchor of the tree, this is
 /// what the tree says: secure with the verdict of the zone that has the name, insecure below a
@@ -73,7 +73,7 @@ pub fn resolve(
     limits: Limits,
 ) -> Result<Walk, AllocError>
     ensures walked { let asked = asked_of question.now in
-        IfOk result (IsWalked evidence.now asked []) }
+        IfOk result (IsWalked evidence.now asked) }
     ensures stops { let asked = asked_of question.now in
         IfOk result (StopsWithin evidence.now asked limits) }
     ensures lasts { IfOk result LastsIfSaid }
@@ -184,9 +184,7 @@ fn follow(
     trail: Trail,
     left: Limits,
 ) -> Result<Walk, AllocError>
-    ensures walked { let asked = asked_of question in
-        IfOk result (IsWalked evidence.now asked trail.through.items) }
-    ensures stops { let asked = asked_of question in
+    ensures { let asked = asked_of question in
         IfOk result (WalkStops evidence.now asked left trail) }
 {
     let end = walk_one_name(alloc, evidence, &question, left.cuts, trail.counts)?;
@@ -344,8 +342,7 @@ fn descend(
     cuts: u16,
     counts: Counts,
 ) -> Result<End, AllocError>
-    ensures leads { IfOk result (IsEnding evidence.now query.now) }
-    ensures stops { IfOk result (StopsIn evidence.now query.now cuts counts) }
+    ensures { IfOk result (StopsIn evidence.now query.now cuts counts) }
 {
     let judged_hop = in_zone(alloc, evidence, query, counts)?;
     let (validity, sums) = (judged_hop.validity, judged_hop.counts);
@@ -388,8 +385,7 @@ fn descend_below(
     cuts: u16,
     counts: Counts,
 ) -> Result<End, AllocError>
-    ensures leads { IfOk result (IsEnding evidence.now query.now) }
-    ensures stops { IfOk result (StopsBelowIn evidence.now query.now cuts counts) }
+    ensures { IfOk result (StopsBelowIn evidence.now query.now cuts counts) }
 {
     if cuts == 0 {
         Ok(End {

@@ -4,7 +4,7 @@ use Rattle.resolution_walk.specs.Query.{Query}
 use Rattle.resolution_walk.specs.Stopping.{WantsLacking}
 use Rattle.resolution_walk.specs.Wanted.{is_lacking}
 use Rattle.resolution_walk.specs.declared.ending.JudgedHop.{JudgedHop}
-use Rattle.resolution_walk.proofs.Stopping.{not_judged_in, stops_in, wants_own_in}
+use Rattle.resolution_walk.proofs.Stopping.{not_judged_in, wants_own_in}
 use Rattle.resolution_walk.proofs.hops.in_zone.Goals as goal
 
 pub by_answer-requires : goal.by_answer-requires
@@ -17,4 +17,4 @@ returns-in-None c =
     let r = c.wanting.result in
     let lacks = subst (λ (x : Query). is_lacking e x.zone x.asked ≡ true) c.query.view_is c.in-None.ensures.none in
     let wants = subst (λ (x : Query). IfOk r (λ (t : JudgedHop). WantsLacking e x.zone x.asked t.hop)) c.query.view_is c.wanting.ensures.wants in
-    record { leads = stops_in e q r wants; stops = wants_own_in e q r lacks wants; counted = not_judged_in e q c.args.counts r lacks c.wanting.ensures.counted }
+    record { stops = wants_own_in e q r lacks wants; counted = not_judged_in e q c.args.counts r lacks c.wanting.ensures.counted }

@@ -2,12 +2,12 @@ use Rattle.std.proofs.Common.{Option, Result, ap, subst, sym, ◌∙◌}
 use Rattle.std.specs.Prelude.{◌≡◌, [], IfErr, MatchOption}
 use Rattle.definitions.specs.Name.{Name, strictly_above}
 use Rattle.resolution_walk.specs.Between.{AreUncut, AreUncutBelow, LiesBetween}
-use Rattle.resolution_walk.specs.Judged.{IsCountedBetween, IsUncut}
+use Rattle.resolution_walk.specs.Judged.{IsUncut}
 use Rattle.resolution_walk.specs.Query.{Query}
 use Rattle.resolution_walk.specs.Wanted.{IsParent}
 use Rattle.resolution_walk.specs.declared.ending.JudgedHop.{JudgedHop}
 use Rattle.resolution_walk.specs.declared.ending.Uncut.{Uncut}
-use Rattle.resolution_walk.proofs.Stopping.{below_counted, judged_down, judged_in, none_at_root, none_down, reached, uncut_in}
+use Rattle.resolution_walk.proofs.Stopping.{judged_in, none_at_root, none_down, reached, uncut_in}
 use Rattle.resolution_walk.proofs.names_between.+search_down_to.Goals as goal
 
 pub returns-then-not-is_above : goal.returns-then-not-is_above
@@ -16,7 +16,7 @@ returns-then-not-is_above t c =
     let q = c.args.query.now in
     let n = c.args.name.now in
     let down = none_down e q n c.args.counts (ap (λ (x : Query). strictly_above x.zone n) (sym c.query.view_is) ∙ sym c.is_above.ensures ∙ c.if-not-is_above.true) in
-    record { leads = tt; stops = tt; counted = judged_down e q n c.args.counts c.args.counts down; uncut = down }
+    record { stops = tt; counted = tt; uncut = down }
 
 pub returns-in-None : goal.returns-in-None
 returns-in-None t c =
@@ -25,13 +25,7 @@ returns-in-None t c =
     let n = c.args.name.now in
     let root = subst (λ (o : Option Name). MatchOption o (n ≡ []) (IsParent n)) c.in-None.is c.in_ok-above.ensures in
     let down = none_at_root e q n c.args.counts root in
-    record { leads = tt; stops = tt; counted = judged_down e q n c.args.counts c.args.counts down; uncut = down }
-
-pub returns-in-Ok-clause-counted : goal.returns-in-Ok-clause-counted
-returns-in-Ok-clause-counted t c =
-    let e = c.args.evidence.now in
-    let q = c.args.query.now in
-    subst (λ (x : Result JudgedHop Uncut). IsCountedBetween e q c.args.counts x) c.in-Ok.is c.in_ok-way.ensures.counted
+    record { stops = tt; counted = tt; uncut = down }
 
 pub returns-in-Throughout : goal.returns-in-Throughout
 returns-in-Throughout t c =
@@ -43,7 +37,7 @@ returns-in-Throughout t c =
     let sums = c.in-Throughout.sums in
     let above : IsUncut e q before parent c.in-Err.uncut = subst (λ (x : Result JudgedHop Uncut). IfErr x (IsUncut e q before parent)) c.in-Err.is c.in_ok-way.ensures.uncut in
     let down : AreUncutBelow e q.asked q.zone q.ds before sums = subst (λ (x : Uncut). IsUncut e q before parent x) c.in-Throughout.is above in
-    record { leads = tt; stops = tt; counted = below_counted e q before sums down; uncut = down }
+    record { stops = tt; counted = tt; uncut = down }
 
 pub at_name-requires : goal.at_name-requires
 at_name-requires t c =
@@ -73,7 +67,6 @@ returns t c =
     let down : AreUncut e q.asked q.zone q.ds before parent sums = subst (λ (x : Uncut). IsUncut e q before parent x) c.in-SoFar.is above in
     let lies : LiesBetween q.zone q.asked n = (ap (λ (x : Query). strictly_above x.zone n) (sym c.query.view_is) ∙ sym c.is_above.ensures ∙ c.if-not-is_above.false, c.requires.above) in
     record {
-      leads = c.at_name.ensures.leads;
       stops = c.at_name.ensures.stops;
       counted = judged_in e q n parent before sums lies of.is down r c.at_name.ensures.judged;
       uncut = uncut_in e q n parent before sums lies of.is down r c.at_name.ensures.judged;

@@ -11,7 +11,7 @@ use Rattle.resolution_walk.specs.Stopping.{WantsLacking}
 use Rattle.resolution_walk.specs.Wanted.{is_lacking}
 use Rattle.resolution_walk.specs.declared.ending.JudgedHop.{JudgedHop}
 use Rattle.resolution_walk.specs.declared.ending.Uncut.{Uncut}
-use Rattle.resolution_walk.proofs.Stopping.{lacking_there, stops_there, wants_there}
+use Rattle.resolution_walk.proofs.Stopping.{lacking_there, wants_there}
 use Rattle.resolution_walk.proofs.names_between.at_asked.Goals as goal
 
 pub by_cut-requires : goal.by_cut-requires
@@ -37,8 +37,4 @@ returns-in-None c =
     let r = c.wanting_there.result in
     let lacks = subst (λ (x : Query). is_lacking e x.zone sought ≡ true) c.query.view_is c.in-None.ensures.none in
     let wants = subst (λ (x : Query). IfOk r (λ (y : Result JudgedHop Uncut). MatchResult y (λ t. WantsLacking e x.zone sought t.hop) (λ n. ⊥))) c.query.view_is c.wanting_there.ensures.wants in
-    record {
-      leads = stops_there e q sought r wants;
-      stops = wants_there e q sought r c.requires lacks wants;
-      judged = lacking_there e q sought c.args.counts r wants c.wanting_there.ensures.counted;
-    }
+    record { stops = wants_there e q sought r c.requires lacks wants; judged = lacking_there e q sought c.args.counts r lacks wants c.wanting_there.ensures.counted }

@@ -14,4 +14,6 @@ returns-then-is_itself-clause-judged c =
     itself_at c.args.evidence.now c.args.query.now c.args.name.now c.args.counts itself
 
 pub returns-else-is_itself-clause-judged : goal.returns-else-is_itself-clause-judged
-returns-else-is_itself-clause-judged c = other_at c.args.evidence.now c.args.query.now c.args.name.now c.args.counts c.at_other.result c.at_other.ensures.judged
+returns-else-is_itself-clause-judged c =
+    let other = ap (λ (x : Query). is_itself x.asked c.args.name.now) (sym c.query.view_is) ∙ sym c.is_itself.ensures ∙ c.if-is_itself.false in
+    other_at c.args.evidence.now c.args.query.now c.args.name.now c.args.counts c.at_other.result other c.at_other.ensures.judged

@@ -7,8 +7,7 @@ use Rattle.resolution_walk.specs.Query.{Query}
 use Rattle.resolution_walk.specs.Stopping.{IsHopTo}
 use Rattle.resolution_walk.specs.declared.ending.JudgedHop.{JudgedHop}
 use Rattle.resolution_walk.specs.declared.ending.Uncut.{Uncut}
-use Rattle.resolution_walk.proofs.Onward.{turned_at}
-use Rattle.resolution_walk.proofs.Stopping.{cut_at, name_judged_in, name_stops_in, uncut_judged}
+use Rattle.resolution_walk.proofs.Stopping.{name_judged_in, name_stops_in, uncut_judged}
 use Rattle.resolution_walk.proofs.Turning.{asking}
 use Rattle.resolution_walk.proofs.names_between.by_cut.Goals as goal
 
@@ -19,15 +18,15 @@ returns-in-Ok c =
     let h = c.args.case.now in
     let sought = h.asked in
     let t = c.in_ok-judged_step.judged_step in
+    let kept = c.in_ok-judged_step.ensures in
     let now = told c.in-Ok.step in
     let r = c.judged_hop_there.result in
-    let cut = cut_at e q sought h t now c.requires.of c.in_ok-judged_step.ensures c.in-Ok.ensures in
+    let hop = c.judged_hop_there.ensures in
     let is = ap (λ (x : Query). asking x (asked_of c.case.inside.question.now)) c.query.view_is ∙ ap (λ (j : JudgeInput). asking q j.asked) c.case.view_is in
-    let hops = subst (λ (x : Query). IfOk r (λ (y : Result JudgedHop Uncut). MatchResult y (λ z. IsHopTo x now z.hop) (λ n. ⊥))) is c.judged_hop_there.ensures.hops in
+    let hops = subst (λ (x : Query). IfOk r (λ (y : Result JudgedHop Uncut). MatchResult y (λ z. IsHopTo x now z.hop) (λ n. ⊥))) is hop.hops in
     record {
-      leads = turned_at e q sought h t now r c.requires.between c.requires.of c.in_ok-judged_step.ensures c.in-Ok.ensures.0 cut hops c.judged_hop_there.ensures.lasts;
-      stops = name_stops_in e q sought h t now r c.requires.between c.requires.of c.in_ok-judged_step.ensures c.in-Ok.ensures.0 cut hops;
-      judged = name_judged_in e q sought h t now c.args.counts c.plus-sums.result r c.requires.of c.in_ok-judged_step.ensures c.plus-sums.ensures hops c.judged_hop_there.ensures.counted;
+      stops = name_stops_in e q sought h t now r c.requires.between c.requires.of kept.told kept.in_memory c.in-Ok.ensures hops hop.lasts;
+      judged = name_judged_in e q sought h t now c.args.counts c.plus-sums.result r c.requires.of kept.told kept.in_memory c.in-Ok.ensures c.plus-sums.ensures hops hop.counted;
     }
 
 pub returns-in-Err : goal.returns-in-Err
@@ -35,5 +34,6 @@ returns-in-Err c =
     let e = c.args.evidence.now in
     let q = c.args.query.now in
     let h = c.args.case.now in
-    let judged = uncut_judged e q h.asked h c.in_ok-judged_step.judged_step c.args.counts c.plus-sums.result c.in-Err.uncut c.requires.of c.in_ok-judged_step.ensures c.plus-sums.ensures c.in-Err.ensures in
-    record { leads = tt; stops = tt; judged = judged }
+    let kept = c.in_ok-judged_step.ensures in
+    let judged = uncut_judged e q h.asked h c.in_ok-judged_step.judged_step c.args.counts c.plus-sums.result c.in-Err.uncut c.requires.of kept.told kept.in_memory c.plus-sums.ensures c.in-Err.ensures in
+    record { stops = tt; judged = judged }

@@ -1,4 +1,4 @@
-use Rattle.resolution_walk.proofs.Onward.{parent_in}
+use Rattle.resolution_walk.proofs.Parents.{parent_in}
 use Rattle.resolution_walk.proofs.names_between.parent_of.Goals as goal
 
 pub returns-in-Some : goal.returns-in-Some

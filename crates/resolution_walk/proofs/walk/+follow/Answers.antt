@@ -6,7 +6,6 @@ use Rattle.messages.specs.Questions.{asked_of}
 use Rattle.resolution_walk.specs.Stopping.{EndsHere, IsLed}
 use Rattle.resolution_walk.specs.declared.ending.End.{End}
 use Rattle.resolution_walk.specs.declared.ending.Target.{Target}
-use Rattle.resolution_walk.proofs.Onward.{walk_ends, walk_led, walk_many}
 use Rattle.resolution_walk.proofs.Stopping.{walk_stops, walk_stops_led, walk_stops_many}
 use Rattle.resolution_walk.proofs.walk.+follow.Goals as goal
 
@@ -19,15 +18,11 @@ returns-in-Err t c =
     let cuts = c.args.left.cuts in
     let aliases = c.args.left.aliases in
     let end = c.in-Err.end in
-    let w = c.walk_with.result in
     let kept = c.walk_with.ensures in
     let through = ap (λ (v : Vec Name). v.items) kept.through in
     let here : EndsHere e asked cuts before end =
     subst (λ (r : Result Target End). MatchResult r (IsLed e asked cuts before) (EndsHere e asked cuts before)) c.in-Err.is c.in_ok-end.ensures in
-    record {
-      walked = walk_ends e asked names end w here.says kept.ending through kept.lasts;
-      stops = walk_stops e asked cuts aliases names before end w (here.stops aliases) kept.ending through kept.counts;
-    }
+    walk_stops e asked cuts aliases names before end c.walk_with.result (here aliases) kept.ending through kept.counts kept.lasts
 
 pub returns-then-left-eq0 : goal.returns-then-left-eq0
 returns-then-left-eq0 t c =
@@ -38,15 +33,11 @@ returns-then-left-eq0 t c =
     let cuts = c.args.left.cuts in
     let aliases = c.args.left.aliases in
     let target = c.in-Ok.target in
-    let w = c.too_many_aliases.result in
     let kept = c.too_many_aliases.ensures in
     let through = ap (λ (v : Vec Name). v.items) kept.through in
     let led : IsLed e asked cuts before target =
     subst (λ (r : Result Target End). MatchResult r (IsLed e asked cuts before) (EndsHere e asked cuts before)) c.in-Ok.is c.in_ok-end.ensures in
-    record {
-      walked = walk_many e asked names w kept.ending;
-      stops = walk_stops_many e asked cuts aliases names before target w c.if-left-eq0.true led kept.ending through kept.counts;
-    }
+    walk_stops_many e asked cuts aliases names before target c.too_many_aliases.result c.if-left-eq0.true led kept.ending through kept.counts
 
 pub returns : goal.returns
 returns t c =
@@ -59,12 +50,8 @@ returns t c =
     let target = c.in-Ok.target in
     let longer = c.in_ok-with_name.field-0.items in
     let walk = c.in_ok-walk.walk in
-    let w = c.walk_after_alias.result in
     let kept = c.walk_after_alias.ensures in
     let through = ap (λ (v : Vec Name). v.items) kept.through in
     let led : IsLed e asked cuts before target =
     subst (λ (r : Result Target End). MatchResult r (IsLed e asked cuts before) (EndsHere e asked cuts before)) c.in-Ok.is c.in_ok-end.ensures in
-    record {
-      walked = walk_led e asked cuts before target led names longer c.in_ok-with_name.ensures walk w c.in_ok-walk.ensures.walked kept.ending through kept.lasts;
-      stops = walk_stops_led e asked cuts aliases names before target longer walk w (omega (arith, c.if-left-eq0.false)) led c.in_ok-with_name.ensures c.in_ok-walk.ensures.stops kept.ending through kept.counts;
-    }
+    walk_stops_led e asked cuts aliases names before target longer walk c.walk_after_alias.result (omega (arith, c.if-left-eq0.false)) led c.in_ok-with_name.ensures c.in_ok-walk.ensures kept.ending through kept.counts kept.lasts

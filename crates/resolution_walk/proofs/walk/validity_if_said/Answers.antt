@@ -1,6 +1,6 @@
 use Rattle.std.proofs.Common.{sym, ◌∙◌}
 use Rattle.resolution_walk.specs.Ended.{said_of}
-use Rattle.resolution_walk.proofs.Onward.{kept_said, kept_unsaid}
+use Rattle.resolution_walk.proofs.Walked.{kept_said, kept_unsaid}
 use Rattle.resolution_walk.proofs.walk.validity_if_said.Goals as goal
 
 pub returns-then-says-clause-lasts : goal.returns-then-says-clause-lasts

@@ -12,4 +12,4 @@ from_anchor-requires c =
 pub returns-else-is_asked_of : goal.returns-else-is_asked_of
 returns-else-is_asked_of c =
     let outside = ap (λ (g : Given). is_asked_of g.anchor (asked_of c.args.question.now)) (sym c.evidence.view_is) ∙ sym c.is_asked_of.ensures ∙ c.if-is_asked_of.false in
-    record { says = tt; stops = λ aliases. Elsewhere outside refl refl }
+    λ aliases. Elsewhere outside refl refl
