@@ -19,6 +19,8 @@ use Rattle.evidence_laws.specs.Redirection.{lead_seen}
 use Rattle.evidence_laws.specs.Truth.{IsAnchored, IsOfTree, SignedZone, tree_of, zone_of}
 use Rattle.evidence_laws.specs.Walking.{renamed}
 use Rattle.evidence_laws.proofs.Truly.{IsDown, down_so}
+use Rattle.answer_judge_facts.specs.declared.validity.Validity.{Validity}
+use Rattle.evidence_laws.specs.Told.{TellsDown}
 use Rattle.resolution_walk.specs.Ended.{said_of}
 use Rattle.resolution_walk.specs.Stopping.{EndsAt, Stops, Here, Below, TooDeep, StopsBehind, StopsWithin, ending_within}
 use Rattle.resolution_walk.specs.Truth.{WalksTruly, last_of}
@@ -27,6 +29,7 @@ use Rattle.resolution_walk.specs.declared.ending.Ending.TheVariants as ends
 use Rattle.resolution_walk.specs.declared.ending.Walk.{Walk}
 use Rattle.resolution_walk.specs.declared.ending.Wanted.{Wanted}
 use Rattle.resolution_walk.specs.declared.walk.Limits.{Limits}
+use Rattle.resolution_walk.proofs.Walked.{heard_onward}
 use Rattle.walk_laws.specs.Ending.{EndsInTree, SaysSo, WantsMore, AsksMore, IsFull, IsStuck, IsUntoldOf, LeaveRoom, TreesAreWalked, is_near}
 use Rattle.walk_laws.specs.Tree.{handed_down, zones_down}
 use Rattle.walk_laws.proofs.Way.{IsBehind, IsThere, Reaches, There, NoneLeft, anchored, handed, in_order, reached, there_on_way}
@@ -39,17 +42,17 @@ module _ (one : TreesSayOne) (e : Given) (class : ℕ) (zones : List SignedZone)
   whole = tree_of zones
 
   -- no way goes deeper than the tree's
-  not_deep : (asked : Asked) → asked.class ≡ class → (cuts : ℕ) (zone : Name) (ds : List Ds) (before after : Counts) (s : SignedZone) → s.apex ≡ zone → IsAnchored e zones anchor s ds
-      → is_near known whole asked.name asked.rtype cuts (zone_of s) ≡ true → Stops e asked ends.TooManyCuts cuts zone ds before after → ⊥
-  not_deep asked in_class cuts zone ds before after s at a near (Here judged stops) = stops
-  not_deep asked in_class cuts zone ds before after s at a near (Below {cuts = less} {c = c} {below = below} {between = between} validity judged way more) =
-      let d : IsDown e zones anchor asked s c below = down_so e class zones anchor of asked in_class zone c ds below validity s at a way in
+  not_deep : (asked : Asked) → asked.class ≡ class → (cuts : ℕ) (zone : Name) (ds : List Ds) (before after : Counts) (l : Option Validity) (s : SignedZone) → s.apex ≡ zone → IsAnchored e zones anchor s ds
+      → is_near known whole asked.name asked.rtype cuts (zone_of s) ≡ true → Stops e asked ends.TooManyCuts cuts zone ds before after l → ⊥
+  not_deep asked in_class cuts zone ds before after l s at a near (Here judged stops) = stops
+  not_deep asked in_class cuts zone ds before after l s at a near (Below {cuts = less} {c = c} {below = below} {between = between} {first = first} {rest = rest} judged way more lasts) =
+      let d : IsDown e zones anchor asked s c below = down_so e class zones anchor of asked in_class zone c ds below first s at a (heard_onward e asked zone ds (TellsDown c below) first way) in
       let hands : handed_down known whole asked.name asked.rtype (zone_of s) ≡ Some (zone_of d.child) = handed known whole asked.name asked.rtype (zone_of s) (zone_of d.child) c d.refers d.bound d.found in
       let near_below : is_near known whole asked.name asked.rtype less (zone_of d.child) ≡ true =
       subst (λ (o : Option TreeZone). elim o [ None ↦ true | Some y ↦ is_near known whole asked.name asked.rtype less y ] ≡ true) hands near in
-      not_deep asked in_class less c below between after d.child d.child_is d.anchored near_below more
-  not_deep asked in_class cuts zone ds before after s at a near (TooDeep {c = c} {below = below} validity judged way is) =
-      let d : IsDown e zones anchor asked s c below = down_so e class zones anchor of asked in_class zone c ds below validity s at a way in
+      not_deep asked in_class less c below between after rest d.child d.child_is d.anchored near_below more
+  not_deep asked in_class cuts zone ds before after l s at a near (TooDeep {c = c} {below = below} {first = first} judged way is) =
+      let d : IsDown e zones anchor asked s c below = down_so e class zones anchor of asked in_class zone c ds below first s at a (heard_onward e asked zone ds (TellsDown c below) first way) in
       let hands : handed_down known whole asked.name asked.rtype (zone_of s) ≡ Some (zone_of d.child) = handed known whole asked.name asked.rtype (zone_of s) (zone_of d.child) c d.refers d.bound d.found in
       false≢true (sym (ap is_none hands) ∙ near)
 
@@ -77,9 +80,9 @@ module _ (one : TreesSayOne) (resolve_one : TreesResolveToOne) (e : Given) (aske
 
   there : (ending : Ending) → stops.ending ≡ ending → StopsThere ending
   there ending is =
-      let behind : StopsBehind e limits.cuts ending limits.aliases asked through no_counts w.counts =
-      subst (λ (g : Ending). StopsBehind e limits.cuts g limits.aliases asked through no_counts w.counts) is stops.stops.stops in
-      go (reached one e asked.class zones anchor of ending said limits.cuts limits.aliases asked refl names through no_counts w.counts says behind)
+      let behind : StopsBehind e limits.cuts ending limits.aliases asked through no_counts w.counts stops.validity =
+      subst (λ (g : Ending). StopsBehind e limits.cuts g limits.aliases asked through no_counts w.counts stops.validity) is stops.stops.stops in
+      go (reached one e asked.class zones anchor of ending said limits.cuts limits.aliases asked refl names through no_counts w.counts stops.validity says behind)
     where
       go : Reaches one e asked.class zones anchor of ending asked limits.cuts limits.aliases names through → StopsThere ending
       go (There k) = k
@@ -99,6 +102,7 @@ module _ (one : TreesSayOne) (resolve_one : TreesResolveToOne) (e : Given) (aske
         zone = k.on_way.zone;
         ds = k.on_way.ds;
         anchored = k.on_way.anchored;
+        above = k.on_way.above;
         down = contained (zones_down (knows e.algorithms) (tree_of zones) last asked.rtype limits.cuts (zone_of anchor)) k.on_way.zone.apex k.on_way.down;
         of = zone;
         by = by;
@@ -113,14 +117,14 @@ module _ (one : TreesSayOne) (resolve_one : TreesResolveToOne) (e : Given) (aske
   too_deep is =
       let k : StopsThere ends.TooManyCuts = there ends.TooManyCuts is in
       let last : Name = last_of asked.name through in
-      not_deep one e asked.class zones anchor of (renamed asked last) refl limits.cuts e.anchor e.ds k.before k.after anchor of.anchor_is (anchored one e asked.class zones anchor of)
+      not_deep one e asked.class zones anchor of (renamed asked last) refl limits.cuts e.anchor e.ds k.before k.after k.validity anchor of.anchor_is (anchored one e asked.class zones anchor of)
       (room.cuts last (contained (asked.name ∷ names) last k.named)) k.stops
 
   -- other limits are ends of no zone
-  no_end : (ending : Ending) → (ending ≡ ends.TooManyCuts → ⊥) → ((q : Asked) (zone : Name) (ds : List Ds) → EndsAt e q zone ds ending → ⊥) → stops.ending ≡ ending → ⊥
+  no_end : (ending : Ending) → (ending ≡ ends.TooManyCuts → ⊥) → ((q : Asked) (zone : Name) (ds : List Ds) (l : Option Validity) → EndsAt e q zone ds ending l → ⊥) → stops.ending ≡ ending → ⊥
   no_end ending no_cuts none is =
       let k : IsBehind one e asked.class zones anchor of ending asked limits.cuts names through = on_way ending no_cuts is in
-      none (renamed asked (last_of asked.name through)) k.on_way.zone.apex k.on_way.ds k.on_way.ends
+      none (renamed asked (last_of asked.name through)) k.on_way.zone.apex k.on_way.ds k.on_way.validity k.on_way.ends
 
   full : (ws : Vec Wanted) (b : Bool) → nat_lt (length e.messages) limits.messages ≡ b → w.ending ≡ (if b then ends.Wants ws else ends.TooManyMessages) → Ends
   full ws true k is = WantsMore ws is
@@ -135,9 +139,9 @@ module _ (one : TreesSayOne) (resolve_one : TreesResolveToOne) (e : Given) (aske
   by_inner (ends.Asks asks) same is = AsksMore asks is
   by_inner (ends.Wants ws) same is = full ws (nat_lt (length e.messages) limits.messages) refl is
   by_inner ends.TooManyCuts same is = absurd (too_deep same)
-  by_inner ends.TooManyAliases same is = absurd (no_end ends.TooManyAliases (λ x. cc) (λ q zone ds at. at) same)
-  by_inner ends.TooManyMessages same is = absurd (no_end ends.TooManyMessages (λ x. cc) (λ q zone ds at. at) same)
-  by_inner ends.Outside same is = absurd (no_end ends.Outside (λ x. cc) (λ q zone ds at. at) same)
+  by_inner ends.TooManyAliases same is = absurd (no_end ends.TooManyAliases (λ x. cc) (λ q zone ds l at. at) same)
+  by_inner ends.TooManyMessages same is = absurd (no_end ends.TooManyMessages (λ x. cc) (λ q zone ds l at. at) same)
+  by_inner ends.Outside same is = absurd (no_end ends.Outside (λ x. cc) (λ q zone ds l at. at) same)
 
 pub trees_are_walked : TreesSayOne → TreesResolveToOne → TreesAreWalked
 trees_are_walked one resolve_one e asked limits zones anchor said names w k =

@@ -1,11 +1,12 @@
 -- An end that wants messages or asks for signatures is in some zone.
-use Rattle.std.proofs.Common.{◌≡◌, ℕ, Bool, true, false, List, refl, sym, ap, subst, ◌∙◌}
+use Rattle.std.proofs.Common.{◌≡◌, ℕ, Bool, true, false, List, Option, refl, sym, ap, subst, ◌∙◌}
 use Rattle.std.specs.Prelude.{length, nat_lt, if◌then◌else◌}
 use Rattle.std.specs.Global.{Vec}
 use Rattle.std.proofs.lemmas.Bool.{false≢true}
 use Rattle.definitions.specs.Dnskey.{Ds}
 use Rattle.definitions.specs.Name.{Name}
 use Rattle.messages.specs.Message.{Asked}
+use Rattle.answer_judge_facts.specs.declared.validity.Validity.{Validity}
 use Rattle.evidence_laws.specs.Counted.{no_counts}
 use Rattle.evidence_laws.specs.Counts.{Counts}
 use Rattle.evidence_laws.specs.Given.{Given}
@@ -27,22 +28,23 @@ pub record EndsSomewhere (e : Given) (ending : Ending) : Type 0 where
   pub asked : Asked
   pub zone : Name
   pub ds : List Ds
-  pub ends : EndsAt e asked zone ds ending
+  pub validity : Option Validity
+  pub ends : EndsAt e asked zone ds ending validity
 
 module _ (e : Given) (ending : Ending) (more : wants_more ending ≡ true) where
   no_limit : (limit : Ending) → ending ≡ limit → wants_more limit ≡ false → ⊥
   no_limit limit is none = false≢true (sym none ∙ ap wants_more (sym is) ∙ more)
 
-  in_zone : (asked : Asked) (cuts : ℕ) (zone : Name) (ds : List Ds) (before after : Counts) → Stops e asked ending cuts zone ds before after → EndsSomewhere e ending
-  in_zone asked cuts zone ds before after (Here judged stops) = record { asked = asked; zone = zone; ds = ds; ends = stops }
-  in_zone asked cuts zone ds before after (Below {cuts = less} {c = c} {below = below} {between = between} validity judged way rest) = in_zone asked less c below between after rest
-  in_zone asked cuts zone ds before after (TooDeep validity judged way is) = absurd (no_limit ends.TooManyCuts is refl)
+  in_zone : (asked : Asked) (cuts : ℕ) (zone : Name) (ds : List Ds) (before after : Counts) (l : Option Validity) → Stops e asked ending cuts zone ds before after l → EndsSomewhere e ending
+  in_zone asked cuts zone ds before after l (Here judged stops) = record { asked = asked; zone = zone; ds = ds; validity = l; ends = stops }
+  in_zone asked cuts zone ds before after l (Below {cuts = less} {c = c} {below = below} {between = between} {rest = rest} judged way more lasts) = in_zone asked less c below between after rest more
+  in_zone asked cuts zone ds before after l (TooDeep judged way is) = absurd (no_limit ends.TooManyCuts is refl)
 
-  behind : (cuts aliases : ℕ) (asked : Asked) (ns : List Name) (before after : Counts) → StopsBehind e cuts ending aliases asked ns before after → EndsSomewhere e ending
-  behind cuts aliases asked ns before after (AtOnce w stops) = in_zone asked cuts e.anchor e.ds before after stops
-  behind cuts aliases asked ns before after (Elsewhere w is same) = absurd (no_limit ends.Outside is refl)
-  behind cuts aliases asked ns before after (TooMany t led is same) = absurd (no_limit ends.TooManyAliases is refl)
-  behind cuts aliases asked ns before after (Led {aliases = less} {ns = rest} t led stops) = behind cuts less (renamed asked t.name) rest t.counts after stops
+  behind : (cuts aliases : ℕ) (asked : Asked) (ns : List Name) (before after : Counts) (l : Option Validity) → StopsBehind e cuts ending aliases asked ns before after l → EndsSomewhere e ending
+  behind cuts aliases asked ns before after l (AtOnce w stops none) = in_zone asked cuts e.anchor e.ds before after l stops
+  behind cuts aliases asked ns before after l (Elsewhere w is same) = absurd (no_limit ends.Outside is refl)
+  behind cuts aliases asked ns before after l (TooMany t led is same) = absurd (no_limit ends.TooManyAliases is refl)
+  behind cuts aliases asked ns before after l (Led {aliases = less} {ns = later} {rest = rest} t led stops lasts) = behind cuts less (renamed asked t.name) later t.counts after rest stops
 
 -- a limit of messages that is not reached
 pub record IsWithin (e : Given) (most : ℕ) (ending : Ending) (inner : Ending) : Type 0 where
@@ -70,4 +72,4 @@ pub ends_somewhere : (e : Given) (asked : Asked) (limits : Limits) (w : Walk) �
 ends_somewhere e asked limits w stops more =
     let k : IsWithin e limits.messages w.ending stops.ending = within e limits.messages stops.ending w.ending stops.is more in
     let inner : wants_more stops.ending ≡ true = ap wants_more k.same ∙ more in
-    subst (EndsSomewhere e) k.same (behind e stops.ending inner limits.cuts limits.aliases asked stops.stops.more no_counts w.counts stops.stops.stops)
+    subst (EndsSomewhere e) k.same (behind e stops.ending inner limits.cuts limits.aliases asked stops.stops.more no_counts w.counts stops.validity stops.stops.stops)

@@ -149,9 +149,9 @@ module _ (one : TreesSayOne) (e : Given) (asked : Asked) (limits : Limits) (zone
 
   on_way : IsBehind one e asked.class zones anchor of (ends.Wants ws) asked limits.cuts names more
   on_way =
-      let stops : StopsBehind e limits.cuts (ends.Wants ws) limits.aliases asked more no_counts k.walk.counts =
-      subst (λ (g : Ending). StopsBehind e limits.cuts g limits.aliases asked more no_counts k.walk.counts) wants k.stops.stops.stops in
-      behind_on_way one e asked.class zones anchor of (ends.Wants ws) (λ x. cc) (λ x. cc) said limits.cuts limits.aliases asked refl names more no_counts k.walk.counts says stops
+      let stops : StopsBehind e limits.cuts (ends.Wants ws) limits.aliases asked more no_counts k.walk.counts k.stops.validity =
+      subst (λ (g : Ending). StopsBehind e limits.cuts g limits.aliases asked more no_counts k.walk.counts k.stops.validity) wants k.stops.stops.stops in
+      behind_on_way one e asked.class zones anchor of (ends.Wants ws) (λ x. cc) (λ x. cc) said limits.cuts limits.aliases asked refl names more no_counts k.walk.counts k.stops.validity says stops
 
   abbrev last : Asked
   last = renamed asked (last_of asked.name more)

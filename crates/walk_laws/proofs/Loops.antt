@@ -9,10 +9,11 @@ use Rattle.answer_findings.specs.Table.{Checked, Tried}
 use Rattle.evidence_laws.specs.Given.{Given, Message}
 use Rattle.resolution_walk.specs.declared.ending.Ending.{Ending}
 use Rattle.resolution_walk.specs.declared.ending.Ending.TheVariants as ends
+use Rattle.resolution_walk.specs.declared.ending.Walk.{Walk}
 use Rattle.resolution_walk.specs.declared.ending.Wanted.{Wanted}
 use Rattle.resolution_walk.specs.declared.walk.Limits.{Limits}
 use Rattle.walk_laws.specs.Laws.{Ends, LoopsAreShort, LoopsEnd}
-use Rattle.walk_laws.specs.Loop.{Caller, Reaches, AtOnce, ByCall, Loops, Begins, Wants, Asks, Walks, entry_for, message_for, next, with_entries, with_messages}
+use Rattle.walk_laws.specs.Loop.{AreWalks, Caller, Reaches, AtOnce, ByCall, Loops, Begins, Wants, Asks, Walks, entry_for, message_for, next, with_entries, with_messages}
 use Rattle.walk_laws.proofs.Ends.{IsWithin, within, wants_more}
 use Rattle.walk_laws.proofs.New.{asks_new, nothing_is_wanted_twice}
 
@@ -63,40 +64,49 @@ loops_are_short asked limits most m n from e loop = (few_want (λ f. Unit {0}) a
 
 -- ---- and end
 
-module _ (c : Caller) (asked : Asked) (limits : Limits) (most : ℕ) (walks : (e : Given) → Walks asked limits e) where
+module _ (c : Caller) (asked : Asked) (limits : Limits) (most : ℕ) (walks : Given → Walk) where
   abbrev Soon : Given → Type 0
   Soon e = Ends c asked limits most walks e
 
   -- one call, and those behind it
-  behind : (e f : Given) → next c asked most e (walks e).walk.ending ≡ Some f → (calls : ℕ) (last : Given) → Reaches c asked limits most walks f calls last → Reaches c asked limits most walks e (suc calls) last
+  behind : (e f : Given) → next c asked most e (walks e).ending ≡ Some f → (calls : ℕ) (last : Given) → Reaches c asked most walks f calls last → Reaches c asked most walks e (suc calls) last
   behind e f is calls last AtOnce = ByCall AtOnce is
   behind e f is calls last (ByCall {calls = less} {e = before} reached more) = ByCall (behind e f is less before reached) more
+
+  abbrev Are : Given → Type 0
+  Are e = AreWalks c asked limits most walks e
+
+  are_behind : (e f : Given) → next c asked most e (walks e).ending ≡ Some f → Are e → Are f
+  are_behind e f is are calls last reached = are (suc calls) last (behind e f is calls last reached)
 
   -- what the limits leave room for
   abbrev left : Given → ℕ
   left e = (limits.messages - length e.messages) + (most - length e.table)
 
-  module _ (e : Given) (rest : (f : Given) → left f < left e → Soon f) where
-    now : next c asked most e (walks e).walk.ending ≡ None → Soon e
+  module _ (e : Given) (are : Are e) (rest : (f : Given) → Are f → left f < left e → Soon f) where
+    abbrev walk : Walks asked limits e
+    walk = record { walk = walks e; stops = are 0 e AtOnce }
+
+    now : next c asked most e (walks e).ending ≡ None → Soon e
     now none = record { calls = 0; last = e; reached = AtOnce; ends = none; few = omega arith }
 
-    call : (f : Given) → next c asked most e (walks e).walk.ending ≡ Some f → left f < left e → Soon e
+    call : (f : Given) → next c asked most e (walks e).ending ≡ Some f → left f < left e → Soon e
     call f is less =
-        let more : Soon f = rest f less in
+        let more : Soon f = rest f (are_behind e f is are) less in
         record { calls = suc more.calls; last = more.last; reached = behind e f is more.calls more.last more.reached; ends = more.ends; few = omega (arith, more.few, less) }
 
-    by_end : (ending : Ending) → (walks e).walk.ending ≡ ending → Soon e
+    by_end : (ending : Ending) → (walks e).ending ≡ ending → Soon e
     by_end (ends.Wants ws) is =
         let ms : List Message = map (message_for c asked) ws.items in
         call (with_messages e ms) (ap (next c asked most e) is)
-        (omega (arith, length-append e.messages ms, length-map ws.items (message_for c asked), some_wanted e asked limits (walks e) ws is, room_left e asked limits (walks e) ws is))
+        (omega (arith, length-append e.messages ms, length-map ws.items (message_for c asked), some_wanted e asked limits walk ws is, room_left e asked limits walk ws is))
     by_end (ends.Asks asks) is = by_room (nat_le (length e.table + length asks.items) most) refl
       where
         by_room : (b : Bool) → nat_le (length e.table + length asks.items) most ≡ b → Soon e
         by_room true fits =
             let cs : List Checked = map (entry_for c) asks.items in
             call (with_entries e cs) (ap (next c asked most e) is ∙ ap (λ (b : Bool). if b then Some (with_entries e cs) else None) fits)
-            (omega (arith, length-append e.table cs, length-map asks.items (entry_for c), some_asked e asked limits (walks e) asks is, leb-true (length e.table + length asks.items) most fits))
+            (omega (arith, length-append e.table cs, length-map asks.items (entry_for c), some_asked e asked limits walk asks is, leb-true (length e.table + length asks.items) most fits))
         by_room false over = now (ap (next c asked most e) is ∙ ap (λ (b : Bool). if b then Some (with_entries e (map (entry_for c) asks.items)) else None) over)
     by_end (ends.Secure of v) is = now (ap (next c asked most e) is)
     by_end (ends.Leads lead) is = now (ap (next c asked most e) is)
@@ -108,9 +118,9 @@ module _ (c : Caller) (asked : Asked) (limits : Limits) (most : ℕ) (walks : (e
     by_end ends.TooManyMessages is = now (ap (next c asked most e) is)
     by_end ends.Outside is = now (ap (next c asked most e) is)
 
-  loop : (fuel : ℕ) (e : Given) → left e ≤ fuel → Soon e
-  loop zero e enough = by_end e (λ f less. absurd (omega (arith, enough, less))) (walks e).walk.ending refl
-  loop (suc fuel) e enough = by_end e (λ f less. loop fuel f (omega (arith, enough, less))) (walks e).walk.ending refl
+  loop : (fuel : ℕ) (e : Given) → Are e → left e ≤ fuel → Soon e
+  loop zero e are enough = by_end e are (λ f on less. absurd (omega (arith, enough, less))) (walks e).ending refl
+  loop (suc fuel) e are enough = by_end e are (λ f on less. loop fuel f on (omega (arith, enough, less))) (walks e).ending refl
 
 pub loops_end : LoopsEnd
-loops_end c asked limits most walks from = loop c asked limits most walks (left c asked limits most walks from) from (omega arith)
+loops_end c asked limits most walks from are = loop c asked limits most walks (left c asked limits most walks from) from are (omega arith)

@@ -24,6 +24,7 @@ use Rattle.evidence_laws.specs.Given.{Given, Message}
 use Rattle.resolution_walk.specs.Judged.{IsHeard, OfAnswer, OfName, IsHeardThere}
 use Rattle.resolution_walk.specs.Stopping.{EndsAt, StopsWithin}
 use Rattle.resolution_walk.specs.Wanted.{AreWantedOf, is_for_keys, lacks, lacks_besides, wanted_if, wanted_of}
+use Rattle.resolution_walk.specs.declared.ending.Ending.{Ending}
 use Rattle.resolution_walk.specs.declared.ending.Ending.TheVariants as ends
 use Rattle.resolution_walk.specs.declared.ending.Walk.{Walk}
 use Rattle.resolution_walk.specs.declared.ending.Wanted.{Wanted}
@@ -226,9 +227,9 @@ module _ (table : List Checked) where
           let same : other ≡ asks = (let both : AsksFor asks ≡ AsksFor other = is.0 in cc) in
           subst (AreSomeNew table) same (searched_new h other k.found_validity k.found_counts s)
 
-heard_new : (e : Given) (asked sought : Asked) (zone : Name) (ds : List Ds) (asks : List Tried) → IsHeard e asked zone ds sought (AsksFor asks) → AreSomeNew e.table asks
-heard_new e asked sought zone ds asks (OfAnswer l n same step) = told_new e.table e.algorithms step.judged asks l n step.told_is
-heard_new e asked sought zone ds asks (OfName l n between step cut) = cut_new e.table e.algorithms step.judged asks l n step.told_is
+heard_new : (e : Given) (asked sought : Asked) (zone : Name) (ds : List Ds) (asks : List Tried) (l : Option Validity) → IsHeard e asked zone ds sought (AsksFor asks) l → AreSomeNew e.table asks
+heard_new e asked sought zone ds asks l (OfAnswer n same memory step) = told_new e.table e.algorithms step.judged asks l n step.told_is
+heard_new e asked sought zone ds asks l (OfName n between memory step cut) = cut_new e.table e.algorithms step.judged asks l n step.told_is
 
 unasked : (table : List Checked) (asks : List Tried) (t : Tried) (c : Checked) → are_new table asks ≡ true → In t asks → In c table → is_same_try t c.tried ≡ false
 unasked table [] t c new asked there = absurd asked
@@ -242,14 +243,14 @@ unasked table (a ∷ asks) t c new asked there =
 pub asks_new : (e : Given) (asked : Asked) (limits : Limits) (w : Walk) (asks : Vec Tried) → StopsWithin e asked limits w → w.ending ≡ ends.Asks asks → AreSomeNew e.table asks.items
 asks_new e asked limits w asks stops is =
     let k : EndsSomewhere e w.ending = ends_somewhere e asked limits w stops (ap wants_more is) in
-    let heard : IsHeardThere e k.asked k.zone k.ds (AsksFor asks.items) = subst (EndsAt e k.asked k.zone k.ds) is k.ends in
-    heard_new e k.asked heard.sought k.zone k.ds asks.items heard.heard
+    let heard : IsHeardThere e k.asked k.zone k.ds (AsksFor asks.items) k.validity = subst (λ (g : Ending). EndsAt e k.asked k.zone k.ds g k.validity) is k.ends in
+    heard_new e k.asked heard.sought k.zone k.ds asks.items k.validity heard.heard
 
 pub nothing_is_wanted_twice : NothingIsWantedTwice
 nothing_is_wanted_twice = record {
   messages = λ e asked limits w ws stops is.
       let k : EndsSomewhere e w.ending = ends_somewhere e asked limits w stops (ap wants_more is) in
-      unanswered e k.asked k.zone k.ds ws.items (subst (EndsAt e k.asked k.zone k.ds) is k.ends);
+      unanswered e k.asked k.zone k.ds ws.items (subst (λ (g : Ending). EndsAt e k.asked k.zone k.ds g k.validity) is k.ends);
   signatures = λ e asked limits w asks stops is.
       let k : AreSomeNew e.table asks.items = asks_new e asked limits w asks stops is in
       record { some = k.some; new = λ t c asked_for there. unasked e.table asks.items t c k.new (in_list asks.items t asked_for) (in_list e.table c there) };

@@ -30,11 +30,11 @@ use Rattle.resolution_walk.specs.Judged.{IsHeard, OfAnswer, OfName, are_keys_ref
 use Rattle.resolution_walk.specs.declared.ending.Walk.{Walk}
 use Rattle.walk_laws.specs.Ending.{IsUntoldOf}
 use Rattle.walk_laws.specs.Keys.{KeysWereGiven}
-use Rattle.walk_laws.specs.Served.{AreServed, IsLeftUntold, OfMemory, OfKeys, LacksMemory, KeyedTreesAreWalked, RanOutOfMemory, ServedTreesAreWalked, ServedZonesAreWalked, ZonesKeys, asking}
+use Rattle.walk_laws.specs.Served.{AnswersItself, AreServed, KeysAreRefused, KeyedTreesAreWalked, ServedTreesAreWalked, ServedZonesAreWalked, ZonesKeys, asking}
 use Rattle.walk_laws.proofs.Ending.{trees_are_walked}
 use Rattle.walk_laws.proofs.KeysTold.{cut_told_trusting, nothing_trusting, told_trusting}
 use Rattle.walk_laws.proofs.Saying.{cut_nothing, proper, told_nothing}
-use Rattle.walk_laws.proofs.Stuck.{OnlyForMemory, left_untold, of_memory, only_one, stuck_for}
+use Rattle.walk_laws.proofs.Stuck.{OnlyForMemory, keys_refused, never_at_end, only_one, stuck_for}
 use Rattle.walk_laws.proofs.Whether.{TellsDs}
 use Rattle.walk_laws.proofs.WhetherFound.{whether_found}
 
@@ -42,7 +42,7 @@ use Rattle.walk_laws.proofs.WhetherFound.{whether_found}
 
 module _ (passes : Tried → Bool) (e : Given) (asked : Asked) (zones : List SignedZone) (anchor : SignedZone) (served : AreServed passes e asked zones anchor) where
   -- what the judge says of an answer that a zone has given
-  module _ (s : SignedZone) (ds : List Ds) (n : Name) (t : ℕ) (h : JudgeInput) (kind : (t ≡ asked.rtype) ⊎ (t ≡ 43)) (anchored : IsAnchored e zones anchor s ds) (none : refers_to (zone_of s).zone n t ≡ None) (is : IsOf e s.apex ds (asking asked n t) h) where
+  module _ (s : SignedZone) (ds : List Ds) (n : Name) (t : ℕ) (h : JudgeInput) (kind : (t ≡ asked.rtype) ⊎ (t ≡ 43)) (anchored : IsAnchored e zones anchor s ds) (none : AnswersItself s n t) (is : IsOf e s.apex ds (asking asked n t) h) where
     abbrev input : JudgeInput
     input = judge_input e s.apex ds (asking asked n t) is.keys is.answer
 
@@ -50,7 +50,7 @@ module _ (passes : Tried → Bool) (e : Given) (asked : Asked) (zones : List Sig
     verdict_is = verdict (zone_of s).zone (zone_of s).optout n t
 
     properly : (is_delegated verdict_is ≡ false) × ((refusal : Option Refusal) → IsNothing (verdict_told verdict_is) refusal → ⊥)
-    properly = proper (zone_of s).zone (zone_of s).optout n t none verdict_is refl
+    properly = proper (zone_of s).zone (zone_of s).optout n t none.1 verdict_is refl
 
     was_given : WasGiven (answers_with passes) pointer_limit input s.version.mode s.version.records
     was_given = subst (λ (x : JudgeInput). WasGiven (answers_with passes) pointer_limit x s.version.mode s.version.records) is.is (served.given s ds n t h kind anchored none is)
@@ -59,7 +59,7 @@ module _ (passes : Tried → Bool) (e : Given) (asked : Asked) (zones : List Sig
     judged_so js judged = (judged.by_table passes served.checked).given s.version.mode s.version.records was_given
 
   module _ (s : SignedZone) (ds : List Ds) (n : Name) (anchored : IsAnchored e zones anchor s ds) (said : StepSeen) (l : Option Validity) (counts : Counts) (refusal : Option Refusal) where
-    own_nothing : refers_to (zone_of s).zone n asked.rtype ≡ None → IsOwnStep e s.apex ds (asking asked n asked.rtype) said l counts → IsNothing said refusal → refusal ≡ Some r.Memory
+    own_nothing : AnswersItself s n asked.rtype → IsOwnStep e s.apex ds (asking asked n asked.rtype) said l counts → IsNothing said refusal → refusal ≡ Some r.Memory
     own_nothing none step nothing =
         let h : JudgeInput = input s ds n asked.rtype step.judged (inl refl) anchored none step.of in
         let told : IsTold e.algorithms e.table h said l counts = subst (λ (x : JudgeInput). IsTold e.algorithms e.table x said l counts) step.of.is step.told_is in
@@ -67,7 +67,7 @@ module _ (passes : Tried → Bool) (e : Given) (asked : Asked) (zones : List Sig
         told_nothing e.algorithms e.table h (verdict_is s ds n asked.rtype step.judged (inl refl) anchored none step.of) proper_one.0 proper_one.1
         (judged_so s ds n asked.rtype step.judged (inl refl) anchored none step.of) said l counts refusal told nothing
 
-    name_nothing : refers_to (zone_of s).zone n 43 ≡ None → strictly_above s.apex n ≡ true → IsNameStep e s.apex ds (asking asked n 43) said l counts → said ≡ at_cut said → IsNothing said refusal → refusal ≡ Some r.Memory
+    name_nothing : AnswersItself s n 43 → strictly_above s.apex n ≡ true → IsNameStep e s.apex ds (asking asked n 43) said l counts → said ≡ at_cut said → IsNothing said refusal → refusal ≡ Some r.Memory
     name_nothing none below step cut nothing =
         let h : JudgeInput = input s ds n 43 step.judged (inr refl) anchored none step.of in
         let told : IsCutTold e.algorithms e.table h said l counts = subst (λ (x : JudgeInput). IsCutTold e.algorithms e.table x said l counts) step.of.is step.told_is in
@@ -93,7 +93,7 @@ module _ (passes : Tried → Bool) (e : Given) (asked : Asked) (zones : List Sig
 
 pub served_trees_are_walked : TreesSayOne → TreesResolveToOne → ServedTreesAreWalked
 served_trees_are_walked one resolve_one passes e asked limits zones anchor said names w k served =
-    stuck_for e limits said names w (left_untold e asked limits.cuts zones anchor names k.of (only_for_memory passes e asked zones anchor served) w) (trees_are_walked one resolve_one e asked limits zones anchor said names w k)
+    stuck_for e limits said names w (keys_refused e asked limits.cuts zones anchor names k.of (only_for_memory passes e asked zones anchor served) w) (trees_are_walked one resolve_one e asked limits zones anchor said names w k)
 
 -- ---- where keys were given
 
@@ -105,19 +105,18 @@ module _ (passes : Tried → Bool) (e : Given) (asked : Asked) (cuts : ℕ) (zon
   keys_unrefused : (w : Walk) (u : IsUntoldOf asked cuts zones anchor names e w) → are_keys_refused u.refusal ≡ false
   keys_unrefused w u = go u.untold.said u.untold.heard u.untold.nothing
     where
-      go : (said : StepSeen) → IsHeard e (renamed asked u.name) u.zone.apex u.ds u.untold.sought said → IsNothing said u.refusal → are_keys_refused u.refusal ≡ false
-      go said (OfAnswer l n same step) nothing =
-          nothing_trusting said u.refusal (told_trusting passes e.table checked e.algorithms step.judged (keys_there u.zone u.ds (renamed asked u.name) step.judged u.anchored step.of) said l n step.told_is) nothing
-      go said (OfName l n between step cut) nothing =
-          nothing_trusting said u.refusal (cut_told_trusting passes e.table checked e.algorithms step.judged (keys_there u.zone u.ds u.untold.sought step.judged u.anchored step.of) said l n step.told_is) nothing
+      go : (said : StepSeen) → IsHeard e (renamed asked u.name) u.zone.apex u.ds u.untold.sought said u.untold.validity → IsNothing said u.refusal → are_keys_refused u.refusal ≡ false
+      go said (OfAnswer n same memory step) nothing =
+          nothing_trusting said u.refusal (told_trusting passes e.table checked e.algorithms step.judged (keys_there u.zone u.ds (renamed asked u.name) step.judged u.anchored step.of) said u.untold.validity n step.told_is) nothing
+      go said (OfName n between memory step cut) nothing =
+          nothing_trusting said u.refusal (cut_told_trusting passes e.table checked e.algorithms step.judged (keys_there u.zone u.ds u.untold.sought step.judged u.anchored step.of) said u.untold.validity n step.told_is) nothing
 
-  pub lacks_memory : (w : Walk) → IsLeftUntold asked cuts zones anchor names e w → LacksMemory asked cuts zones anchor names e w
-  lacks_memory w (OfMemory memory) = memory
-  lacks_memory w (OfKeys u c refers refused) = absurd (false≢true (sym (keys_unrefused w u) ∙ refused))
+  pub never_refused : (w : Walk) → KeysAreRefused asked cuts zones anchor names e w → ⊥
+  never_refused w k = false≢true (sym (keys_unrefused w k.untold) ∙ k.refused)
 
 pub keyed_trees_are_walked : TreesSayOne → TreesResolveToOne → KeyedTreesAreWalked
 keyed_trees_are_walked one resolve_one passes e asked limits zones anchor said names w k served =
-    stuck_for e limits said names w (lacks_memory passes e asked limits.cuts zones anchor names served.served.checked served.keys w)
+    stuck_for e limits said names w (never_refused passes e asked limits.cuts zones anchor names served.served.checked served.keys w)
     (served_trees_are_walked one resolve_one passes e asked limits zones anchor said names w k served.served)
 
 -- ---- one zone
@@ -126,9 +125,9 @@ pub served_zones_are_walked : TreesSayOne → TreesResolveToOne → ServedZonesA
 served_zones_are_walked one resolve_one passes e asked limits zone said w none k served =
     stuck_for e limits said [] w why (trees_are_walked one resolve_one e asked limits (zone ∷ []) zone said [] w k)
   where
-    why : IsUntoldOf asked limits.cuts (zone ∷ []) zone [] e w → RanOutOfMemory asked limits.cuts (zone ∷ []) zone [] e w
+    why : IsUntoldOf asked limits.cuts (zone ∷ []) zone [] e w → ⊥
     why u =
         let zone_is : u.zone ≡ zone = only_one zone u.zone u.anchored.there in
         let name_is : u.name ≡ asked.name = only_one asked.name u.name u.named in
         let own : refers_to (zone_of u.zone).zone u.name asked.rtype ≡ None = (λ i. refers_to (zone_of (zone_is i)).zone (name_is i) asked.rtype) ∙ none in
-        of_memory e asked limits.cuts (zone ∷ []) zone [] k.of (only_for_memory passes e asked (zone ∷ []) zone served) w u own
+        never_at_end e asked limits.cuts (zone ∷ []) zone [] k.of (only_for_memory passes e asked (zone ∷ []) zone served) w u own

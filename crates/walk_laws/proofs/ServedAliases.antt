@@ -37,14 +37,14 @@ use Rattle.evidence_laws.specs.Truth.{IsAnchored, IsOfTree, SignedZone, zone_of}
 use Rattle.evidence_laws.specs.Walking.{IsNameStep, IsOwnStep}
 use Rattle.resolution_walk.specs.Between.{IsNothing}
 use Rattle.walk_laws.specs.Aliased.{AliasedTreesAreWalked, AreServedWithAliases, WasGivenWithAliases, in_place}
-use Rattle.walk_laws.specs.Served.{asking}
+use Rattle.walk_laws.specs.Served.{AnswersItself, asking}
 use Rattle.walk_laws.proofs.Aliased.{alias_cut, alias_told}
 use Rattle.walk_laws.proofs.Ending.{trees_are_walked}
 use Rattle.walk_laws.proofs.Gave.{Place, Own, ByCname, ByDname, own_says, place, zone_servable}
 use Rattle.walk_laws.proofs.Leads.{IsLed, led_by_cname, led_by_dname}
 use Rattle.walk_laws.proofs.Saying.{cut_nothing, proper, told_nothing}
-use Rattle.walk_laws.proofs.Served.{lacks_memory}
-use Rattle.walk_laws.proofs.Stuck.{OnlyForMemory, left_untold, only_one, stuck_for}
+use Rattle.walk_laws.proofs.Served.{never_refused}
+use Rattle.walk_laws.proofs.Stuck.{OnlyForMemory, keys_refused, only_one, stuck_for}
 use Rattle.walk_laws.proofs.Whether.{TellsDs}
 use Rattle.walk_laws.proofs.WhetherFound.{whether_found}
 
@@ -62,7 +62,7 @@ left_open z optout n t led none = go (is_open z optout (low n)) refl
 
 module _ (passes : Tried → Bool) (e : Given) (asked : Asked) (zones : List SignedZone) (anchor : SignedZone) (of : IsOfTree e asked.class zones anchor) (served : AreServedWithAliases passes e asked zones anchor) where
   -- an answer that a zone has given
-  module _ (s : SignedZone) (ds : List Ds) (n : Name) (t : ℕ) (h : JudgeInput) (kind : (t ≡ asked.rtype) ⊎ (t ≡ 43)) (anchored : IsAnchored e zones anchor s ds) (none : refers_to (zone_of s).zone n t ≡ None) (is : IsOf e s.apex ds (asking asked n t) h) where
+  module _ (s : SignedZone) (ds : List Ds) (n : Name) (t : ℕ) (h : JudgeInput) (kind : (t ≡ asked.rtype) ⊎ (t ≡ 43)) (anchored : IsAnchored e zones anchor s ds) (none : AnswersItself s n t) (is : IsOf e s.apex ds (asking asked n t) h) where
     abbrev input : JudgeInput
     input = judge_input e s.apex ds (asking asked n t) is.keys is.answer
 
@@ -102,7 +102,7 @@ module _ (passes : Tried → Bool) (e : Given) (asked : Asked) (zones : List Sig
         go (inr exact) = inr (exact ∙ own_says (answers_with passes) pointer_limit input s.version.mode s.version.records given same)
 
     properly : (is_delegated verdict_is ≡ false) × ((refusal : Option Refusal) → IsNothing (verdict_told verdict_is) refusal → ⊥)
-    properly = proper z (zone_of s).optout n t none verdict_is refl
+    properly = proper z (zone_of s).optout n t none.1 verdict_is refl
 
     -- whichever answers in its place
     abbrev Either : Type 0
@@ -118,7 +118,7 @@ module _ (passes : Tried → Bool) (e : Given) (asked : Asked) (zones : List Sig
             inr (led_by_dname (answers_with passes) pointer_limit input s.version.mode s.version.records given d x y same, (λ i. not (x i) && (finds z n 5 || is_some (y i))) ∙ or_true (finds z n 5))
 
   module _ (s : SignedZone) (ds : List Ds) (n : Name) (anchored : IsAnchored e zones anchor s ds) (said : StepSeen) (l : Option Validity) (counts : Counts) (refusal : Option Refusal) where
-    own_nothing : refers_to (zone_of s).zone n asked.rtype ≡ None → IsOwnStep e s.apex ds (asking asked n asked.rtype) said l counts → IsNothing said refusal → refusal ≡ Some r.Memory
+    own_nothing : AnswersItself s n asked.rtype → IsOwnStep e s.apex ds (asking asked n asked.rtype) said l counts → IsNothing said refusal → refusal ≡ Some r.Memory
     own_nothing none step nothing = go (either s ds n asked.rtype step.judged (inl refl) anchored none step.of)
       where
         told : IsTold e.algorithms e.table (input s ds n asked.rtype step.judged (inl refl) anchored none step.of) said l counts
@@ -133,7 +133,7 @@ module _ (passes : Tried → Bool) (e : Given) (asked : Asked) (zones : List Sig
             alias_told passes e.table served.checked (input s ds n asked.rtype step.judged (inl refl) anchored none step.of) s.version.mode s.version.records (given s ds n asked.rtype step.judged (inl refl) anchored none step.of) led.0
             (honestly s ds n asked.rtype step.judged (inl refl) anchored none step.of led.1) e.algorithms said l counts refusal told nothing
 
-    name_nothing : refers_to (zone_of s).zone n 43 ≡ None → strictly_above s.apex n ≡ true → IsNameStep e s.apex ds (asking asked n 43) said l counts → said ≡ at_cut said → IsNothing said refusal → refusal ≡ Some r.Memory
+    name_nothing : AnswersItself s n 43 → strictly_above s.apex n ≡ true → IsNameStep e s.apex ds (asking asked n 43) said l counts → said ≡ at_cut said → IsNothing said refusal → refusal ≡ Some r.Memory
     name_nothing none below step cut nothing = go (either s ds n 43 step.judged (inr refl) anchored none step.of)
       where
         told : IsCutTold e.algorithms e.table (input s ds n 43 step.judged (inr refl) anchored none step.of) said l counts
@@ -173,5 +173,5 @@ module _ (passes : Tried → Bool) (e : Given) (asked : Asked) (zones : List Sig
 pub aliased_trees_are_walked : TreesSayOne → TreesResolveToOne → AliasedTreesAreWalked
 aliased_trees_are_walked one resolve_one passes e asked limits zones anchor said names w k served =
     stuck_for e limits said names w
-    (λ u. lacks_memory passes e asked limits.cuts zones anchor names served.checked served.keys w (left_untold e asked limits.cuts zones anchor names k.of (only_for_memory passes e asked zones anchor k.of served) w u))
+    (λ u. never_refused passes e asked limits.cuts zones anchor names served.checked served.keys w (keys_refused e asked limits.cuts zones anchor names k.of (only_for_memory passes e asked zones anchor k.of served) w u))
     (trees_are_walked one resolve_one e asked limits zones anchor said names w k)

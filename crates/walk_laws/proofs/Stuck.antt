@@ -1,9 +1,11 @@
--- Where a walk over evidence of a tree ends, if what its zones tell nothing of is refused for want of memory.
-use Rattle.std.proofs.Common.{◌≡◌, ℕ, true, List, [], ◌∷◌, Option, Some, None, refl, ap, subst, ◌∙◌, inl, inr}
+-- A walk over evidence of a tree is not stuck where its zones tell nothing only for want of memory, but where keys are refused.
+use Rattle.std.proofs.Common.{◌≡◌, ℕ, true, false, List, [], ◌∷◌, Option, Some, None, refl, sym, ap, subst, ◌∙◌, inl, inr}
+use Rattle.std.proofs.lemmas.Bool.{false≢true}
 use Rattle.std.specs.Prelude.{Contains}
 use Rattle.definitions.specs.Dnskey.{Ds}
 use Rattle.definitions.specs.Name.{Name, strictly_above}
 use Rattle.definitions.proofs.Members.{In}
+use Rattle.denial_laws.proofs.NameFacts.{strictly_at}
 use Rattle.messages.specs.Message.{Asked}
 use Rattle.answer_judge_facts.specs.declared.validity.Validity.{Validity}
 use Rattle.answer_judge.specs.declared.verdict.Refusal.{Refusal}
@@ -11,32 +13,36 @@ use Rattle.answer_judge.specs.declared.verdict.Refusal.TheVariants as r
 use Rattle.tree_laws.specs.Tree.{Said, refers_to}
 use Rattle.evidence_laws.specs.Counts.{Counts}
 use Rattle.evidence_laws.specs.Given.{Given}
-use Rattle.evidence_laws.specs.Told.{StepSeen, at_cut}
+use Rattle.evidence_laws.specs.Told.{StepSeen, TellsVerdict, TellsLead, TellsDown, TellsUnsigned, TellsOpen, TellsNoCut, TellsNoneBelow, TellsNothing, AsksFor, at_cut}
 use Rattle.evidence_laws.specs.Truth.{IsAnchored, IsOfTree, SignedZone, zone_of}
 use Rattle.evidence_laws.specs.Walking.{IsNameStep, IsOwnStep, renamed}
-use Rattle.resolution_walk.specs.Between.{IsAnswerUntold, IsBetween, IsNothing, IsUnanswered}
-use Rattle.resolution_walk.specs.Judged.{IsHeard, OfAnswer, OfName, IsLast, IsUntold}
+use Rattle.resolution_walk.specs.Between.{IsBetween, IsNothing, are_keys_refused, lacked_memory}
+use Rattle.resolution_walk.specs.Judged.{IsHeard, OfAnswer, OfName, IsLast}
 use Rattle.resolution_walk.specs.declared.ending.Walk.{Walk}
 use Rattle.resolution_walk.specs.declared.walk.Limits.{Limits}
 use Rattle.walk_laws.specs.Ending.{EndsInTree, SaysSo, WantsMore, AsksMore, IsFull, IsStuck, IsUntoldOf}
-use Rattle.walk_laws.specs.Served.{IsLeftUntold, OfMemory, OfKeys, AtEnd, ForDs, RanOutOfMemory, asking}
+use Rattle.walk_laws.specs.Served.{AnswersItself, KeysAreRefused, asking}
 use Rattle.walk_laws.proofs.Found.{in_list}
 use Rattle.walk_laws.proofs.Uncut.{all_uncut, ds_unreferred}
 
--- an answer that tells nothing is the question's own, or one behind it
-unanswered : (e : Given) (asked : Asked) (zone : Name) (ds : List Ds) (of : Name) (by : List Ds) (name : Name) (t : ℕ) (refusal : Option Refusal) → IsUntold e asked zone ds of by name t refusal → IsUnanswered e asked zone ds
-unanswered e asked zone ds of by name t refusal u = go u.said u.heard u.nothing
-  where
-    go : (said : StepSeen) → IsHeard e asked zone ds u.sought said → IsNothing said refusal → IsUnanswered e asked zone ds
-    go said (OfAnswer l n same step) nothing = record { refusal = refusal; counts = n; untold = record { said = said; nothing = nothing; validity = l; step = step } }
-    go said (OfName l n between step cut) nothing = between.reached.untold
+-- memory enough is no want of it
+in_memory : (said : StepSeen) (refusal : Option Refusal) → lacked_memory said ≡ false → IsNothing said refusal → refusal ≡ Some r.Memory → ⊥
+in_memory (TellsNothing x) refusal memory nothing is = false≢true (sym memory ∙ ap (λ (o : Option Refusal). lacked_memory (TellsNothing o)) (sym nothing ∙ is))
+in_memory TellsNoCut refusal memory nothing is = absurd (let both : None ≡ Some r.Memory = sym nothing ∙ is in cc)
+in_memory TellsNoneBelow refusal memory nothing is = absurd (let both : None ≡ Some r.Memory = sym nothing ∙ is in cc)
+in_memory (TellsVerdict v) refusal memory nothing is = nothing
+in_memory (TellsLead lead) refusal memory nothing is = nothing
+in_memory (TellsDown c ds) refusal memory nothing is = nothing
+in_memory (TellsUnsigned c datas) refusal memory nothing is = nothing
+in_memory TellsOpen refusal memory nothing is = nothing
+in_memory (AsksFor asks) refusal memory nothing is = nothing
 
 -- What a zone's answer tells, to the question where it refers that nowhere, or for DS at a name below it: if that is nothing, memory ran
 -- out.
 pub record OnlyForMemory (e : Given) (asked : Asked) (zones : List SignedZone) (anchor : SignedZone) : Type 0 where
-  pub own : (s : SignedZone) (ds : List Ds) (n : Name) → IsAnchored e zones anchor s ds → refers_to (zone_of s).zone n asked.rtype ≡ None
+  pub own : (s : SignedZone) (ds : List Ds) (n : Name) → IsAnchored e zones anchor s ds → AnswersItself s n asked.rtype
       → (said : StepSeen) (l : Option Validity) (counts : Counts) (refusal : Option Refusal) → IsOwnStep e s.apex ds (asking asked n asked.rtype) said l counts → IsNothing said refusal → refusal ≡ Some r.Memory
-  pub name : (s : SignedZone) (ds : List Ds) (n : Name) → IsAnchored e zones anchor s ds → refers_to (zone_of s).zone n 43 ≡ None → strictly_above s.apex n ≡ true
+  pub name : (s : SignedZone) (ds : List Ds) (n : Name) → IsAnchored e zones anchor s ds → AnswersItself s n 43 → strictly_above s.apex n ≡ true
       → (said : StepSeen) (l : Option Validity) (counts : Counts) (refusal : Option Refusal) → IsNameStep e s.apex ds (asking asked n 43) said l counts → said ≡ at_cut said → IsNothing said refusal
       → refusal ≡ Some r.Memory
 
@@ -45,51 +51,41 @@ module _ (e : Given) (asked : Asked) (cuts : ℕ) (zones : List SignedZone) (anc
   abbrev last : Asked
   last = renamed asked u.name
 
-  -- of an answer for DS at a name between
-  by_name : (said : StepSeen) (l : Option Validity) (n : Counts) → IsNothing said u.refusal → IsBetween e last u.zone.apex u.ds u.untold.sought → IsNameStep e u.zone.apex u.ds u.untold.sought said l n → said ≡ at_cut said
-      → (u.rtype ≡ 43) × (u.refusal ≡ Some r.Memory)
-  by_name said l n nothing between step cut = (
-    u.untold.type_is ∙ ap (λ (q : Asked). q.rtype) between.is,
-    only.name u.zone u.ds between.name u.anchored (ds_unreferred e asked.class zones anchor of last refl u.zone u.ds u.anchored between.name between.reached) between.reached.lies.0 said l n u.refusal
-        (subst (λ (q : Asked). IsNameStep e u.zone.apex u.ds q said l n) between.is step) cut nothing,
-  )
+  answered : (between : IsBetween e last u.zone.apex u.ds u.untold.sought) → AnswersItself u.zone between.name 43
+  answered between = (strictly_at u.zone.apex between.name between.reached.lies.0, ds_unreferred e asked.class zones anchor of last refl u.zone u.ds u.anchored between.name between.reached)
 
-  -- of a zone that refers the question nowhere
-  module _ (none : refers_to (zone_of u.zone).zone u.name asked.rtype ≡ None) where
-    only_memory : (refusal : Option Refusal) (counts : Counts) → IsAnswerUntold e last u.zone.apex u.ds refusal counts → refusal ≡ Some r.Memory
-    only_memory refusal counts k = only.own u.zone u.ds u.name u.anchored none k.said k.validity counts refusal k.step k.nothing
+  -- an answer for DS at a name between tells something
+  by_name : (said : StepSeen) (n : Counts) → IsNothing said u.refusal → IsBetween e last u.zone.apex u.ds u.untold.sought → lacked_memory said ≡ false → IsNameStep e u.zone.apex u.ds u.untold.sought said u.untold.validity n → said ≡ at_cut said → ⊥
+  by_name said n nothing between memory step cut =
+      in_memory said u.refusal memory nothing (only.name u.zone u.ds between.name u.anchored (answered between) between.reached.lies.0 said u.untold.validity n u.refusal
+      (subst (λ (q : Asked). IsNameStep e u.zone.apex u.ds q said u.untold.validity n) between.is step) cut nothing)
 
-    memory_ends : (said : StepSeen) → IsHeard e last u.zone.apex u.ds u.untold.sought said → IsNothing said u.refusal → u.refusal ≡ Some r.Memory
-    memory_ends said (OfAnswer l n same step) nothing = only_memory u.refusal n (record { said = said; nothing = nothing; validity = l; step = step })
-    memory_ends said (OfName l n between step cut) nothing = (by_name said l n nothing between step cut).1
-
-    pub of_memory : RanOutOfMemory asked cuts zones anchor names e w
-    of_memory = record {
-      untold = u;
-      unreferred = none;
-      answer = unanswered e last u.zone.apex u.ds u.of u.by.items u.sought u.rtype u.refusal u.untold;
-      memory = only_memory;
-      ends = memory_ends u.untold.said u.untold.heard u.untold.nothing;
-    }
+  -- so does the own one of a zone that refers the question nowhere
+  pub never_at_end : refers_to (zone_of u.zone).zone u.name asked.rtype ≡ None → ⊥
+  never_at_end none = go u.untold.said u.untold.heard u.untold.nothing
+    where
+      go : (said : StepSeen) → IsHeard e last u.zone.apex u.ds u.untold.sought said u.untold.validity → IsNothing said u.refusal → ⊥
+      go said (OfAnswer n same memory step) nothing = in_memory said u.refusal memory nothing (only.own u.zone u.ds u.name u.anchored (u.above, none) said u.untold.validity n u.refusal step nothing)
+      go said (OfName n between memory step cut) nothing = by_name said n nothing between memory step cut
 
   -- of a zone that refers the name on
-  module _ (c : Name) (refers : refers_to (zone_of u.zone).zone u.name asked.rtype ≡ Some c) where
-    by_heard : (said : StepSeen) → IsHeard e last u.zone.apex u.ds u.untold.sought said → IsNothing said u.refusal → IsLeftUntold asked cuts zones anchor names e w
-    by_heard said (OfAnswer l n same step) nothing = by_last (u.untold.last same)
-      where
-        by_last : IsLast e last u.zone.apex u.ds u.refusal → IsLeftUntold asked cuts zones anchor names e w
-        by_last (inl keys) = OfKeys u c refers keys
-        by_last (inr all) = absurd (all_uncut e asked.class zones anchor of last refl u.zone u.ds u.anchored c refers all)
-    by_heard said (OfName l n between step cut) nothing =
-        let ran_out = by_name said l n nothing between step cut in
-        OfMemory (ForDs u c refers ran_out.0 ran_out.1)
-
-  pub left_untold : IsLeftUntold asked cuts zones anchor names e w
-  left_untold = go (refers_to (zone_of u.zone).zone u.name asked.rtype) refl
+  refused : (c : Name) → refers_to (zone_of u.zone).zone u.name asked.rtype ≡ Some c → are_keys_refused u.refusal ≡ true
+  refused c refers = go u.untold.said u.untold.heard u.untold.nothing
     where
-      go : (o : Option Name) → refers_to (zone_of u.zone).zone u.name asked.rtype ≡ o → IsLeftUntold asked cuts zones anchor names e w
-      go (Some c) is = by_heard c is u.untold.said u.untold.heard u.untold.nothing
-      go None is = OfMemory (AtEnd (of_memory is))
+      by_last : IsLast e last u.zone.apex u.ds u.refusal → are_keys_refused u.refusal ≡ true
+      by_last (inl keys) = keys
+      by_last (inr (before, after, all)) = absurd (all_uncut e asked.class zones anchor of last refl u.zone u.ds u.anchored before after c refers all)
+
+      go : (said : StepSeen) → IsHeard e last u.zone.apex u.ds u.untold.sought said u.untold.validity → IsNothing said u.refusal → are_keys_refused u.refusal ≡ true
+      go said (OfAnswer n same memory step) nothing = by_last (u.untold.last same)
+      go said (OfName n between memory step cut) nothing = absurd (by_name said n nothing between memory step cut)
+
+  pub keys_refused : KeysAreRefused asked cuts zones anchor names e w
+  keys_refused = go (refers_to (zone_of u.zone).zone u.name asked.rtype) refl
+    where
+      go : (o : Option Name) → refers_to (zone_of u.zone).zone u.name asked.rtype ≡ o → KeysAreRefused asked cuts zones anchor names e w
+      go (Some c) is = record { untold = u; cut = c; refers = is; refused = refused c is }
+      go None is = absurd (never_at_end is)
 
 -- why a walk is stuck
 pub stuck_for : {A B : Given → Walk → Type 0} (e : Given) (limits : Limits) (said : Said) (names : List Name) (w : Walk) (why : A e w → B e w) → EndsInTree A e limits said names w → EndsInTree B e limits said names w

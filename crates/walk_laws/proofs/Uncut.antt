@@ -52,7 +52,7 @@ module _ (e : Given) (class : ℕ) (zones : List SignedZone) (anchor : SignedZon
   above_uncut before after p c short deleg above (Itself is rest) =
       let long : length p ≡ length asked.name = same-length p asked.name (and_parts (same p asked.name) (asked.rtype == 43) is).0 in
       omega (arith, short, long)
-  above_uncut before after p c short deleg above (Next lies rest told) =
+  above_uncut before after p c short deleg above (Next lies other rest told) =
       uncut z (low p) (low-low p) (name_so p TellsNoCut told.validity told.counts told.step) c deleg (above_lowered c p ∙ above)
 
   parent_uncut : (before after : Counts) (n c : Name) → at_or_above n asked.name ≡ true → is_delegation z c ≡ true → strictly_above c n ≡ true → AreUncut e asked s.apex ds before (drop 1 n) after → ⊥
@@ -72,20 +72,20 @@ module _ (e : Given) (class : ℕ) (zones : List SignedZone) (anchor : SignedZon
       go (inr above) = sym (strictly_lowered c n) ∙ above
 
   -- where no delegation is at any name between, none refers the question on
-  pub all_uncut : (c : Name) → refers_to z asked.name asked.rtype ≡ Some c → AreAllUncut e asked s.apex ds → ⊥
-  all_uncut c refers all = go (referred z asked.name asked.rtype c refers) all
+  pub all_uncut : (before after : Counts) (c : Name) → refers_to z asked.name asked.rtype ≡ Some c → AreAllUncut e asked s.apex ds before after → ⊥
+  all_uncut before after c refers all = go (referred z asked.name asked.rtype c refers) all
     where
-      at_name : (before after : Counts) → IsReferred z asked.name asked.rtype c → IsCut z (low asked.name) c → AreUncut e asked s.apex ds before asked.name after → ⊥
-      at_name before after r k (AtZone none is) =
+      at_name : IsReferred z asked.name asked.rtype c → IsCut z (low asked.name) c → AreUncut e asked s.apex ds before asked.name after → ⊥
+      at_name r k (AtZone none is) =
           false≢true (sym none ∙ sym (strictly_lowered s.apex asked.name) ∙ inside c (low asked.name) k.delegation k.above)
-      at_name before after r k (Itself is rest) =
+      at_name r k (Itself is rest) =
           let ds_is : (asked.rtype == 43) ≡ true = (and_parts (same asked.name asked.name) (asked.rtype == 43) is).1 in
           parent_uncut before after asked.name c (above_itself asked.name) k.delegation (above_name asked.name c asked.rtype ds_is r k) rest
-      at_name before after r k (Next lies rest told) =
+      at_name r k (Next lies other rest told) =
           absurd (let both : None ≡ Some c = sym (name_so asked.name TellsNoCut told.validity told.counts told.step) ∙ r.cut_is in cc)
 
-      go : IsReferred z asked.name asked.rtype c → AreAllUncut e asked s.apex ds → ⊥
-      go r (DownToName {before = before} {after = after} u) = at_name before after r (cut_is z (low asked.name) c (low-low asked.name) r.cut_is) u
+      go : IsReferred z asked.name asked.rtype c → AreAllUncut e asked s.apex ds before after → ⊥
+      go r (DownToName u) = at_name r (cut_is z (low asked.name) c (low-low asked.name) r.cut_is) u
       go r (DownToMissing m) =
           let so = name_so m.name TellsNoneBelow m.told.validity m.told.counts m.told.step in
           let up : at_or_above (apex_of z) m.name ≡ true = lowered_above s.apex m.name ∙ strictly_at s.apex m.name m.lies.0 in

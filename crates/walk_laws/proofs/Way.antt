@@ -1,28 +1,32 @@
 -- What a walk over evidence of a tree wants is of the zones that the tree hands the question down through.
 use Rattle.std.proofs.Common.{◌≡◌, ℕ, zero, suc, ◌<◌, Bool, true, false, ◌&&◌, not, List, [], ◌∷◌, Option, Some, None, refl, sym, ap, subst, ◌∙◌, inl, inr, arith}
 use Rattle.std.specs.Prelude.{◌==◌, length, if◌then◌else◌}
-use Rattle.std.proofs.lemmas.Bool.{false≢true}
+use Rattle.std.proofs.lemmas.Bool.{and_parts, false≢true}
 use Rattle.definitions.specs.Dnskey.{Ds}
-use Rattle.definitions.specs.Name.{Name, at_or_above, same, strictly_above}
+use Rattle.definitions.specs.Name.{Name, at_or_above, low, same, strictly_above}
 use Rattle.definitions.proofs.Members.{In, contained}
-use Rattle.definitions.proofs.ZoneNames.{lowered_above}
+use Rattle.definitions.proofs.ZoneNames.{above_lowered, low-low, lowered_above}
 use Rattle.denial_laws.specs.Leading.{To}
+use Rattle.denial_laws.proofs.ZoneCuts.{IsCut, cut_is}
 use Rattle.messages.specs.Message.{Asked}
 use Rattle.answer_judge_facts.specs.declared.validity.Validity.{Validity}
 use Rattle.tree_laws.specs.Laws.{AreAlike, TreesSayOne}
 use Rattle.tree_laws.specs.Orderly.{IsOrderlyTree, IsOrderlyZone}
 use Rattle.tree_laws.specs.Tree.{Said, Leads, Says, Resolves, Tree, TreeZone, is_bound, is_within, leads_on, refers_to, zone_at}
 use Rattle.tree_laws.specs.Tree as tree
+use Rattle.tree_laws.proofs.Trees.{referred}
 use Rattle.resolution_step.specs.KnownDs.{knows}
 use Rattle.evidence_laws.specs.Counts.{Counts}
 use Rattle.evidence_laws.specs.Given.{Given}
 use Rattle.evidence_laws.specs.Truth.{IsAnchored, IsOfTree, SignedZone, tree_of, zone_of}
 use Rattle.evidence_laws.specs.Walking.{Tells, is_asked_of, renamed}
 use Rattle.evidence_laws.proofs.Truly.{IsDown, down_so, tells_so}
+use Rattle.evidence_laws.specs.Told.{TellsDown}
 use Rattle.resolution_walk.specs.Stopping.{EndsAt, Stops, Here, Below, TooDeep, StopsBehind, AtOnce, Elsewhere, TooMany, Led}
 use Rattle.resolution_walk.specs.Truth.{last_of}
 use Rattle.resolution_walk.specs.declared.ending.Ending.{Ending}
 use Rattle.resolution_walk.specs.declared.ending.Ending.TheVariants as ends
+use Rattle.resolution_walk.proofs.Walked.{heard_onward, led_tells}
 use Rattle.walk_laws.specs.Tree.{handed_down, last_above, zones_down}
 use Rattle.walk_laws.proofs.Deep.{first_deepest, further_deepest}
 
@@ -91,28 +95,38 @@ module _ (one : TreesSayOne) (e : Given) (class : ℕ) (zones : List SignedZone)
     pub zone : SignedZone
     pub ds : List Ds
     pub anchored : IsAnchored e zones anchor zone ds
+    pub above : at_or_above zone.apex asked.name ≡ true
     pub down : In zone.apex (zones_down known whole asked.name asked.rtype cuts (zone_of s))
     pub deepest : (n : Name) → strictly_above zone.apex n ≡ true → refers_to (zone_of zone).zone n 43 ≡ None → last_above n (zones_down known whole asked.name asked.rtype cuts (zone_of s)) ≡ zone.apex
-    pub ends : EndsAt e asked zone.apex ds ending
+    pub validity : Option Validity
+    pub ends : EndsAt e asked zone.apex ds ending validity
+
+  -- a delegation that a question is referred to stands at its name or above it
+  cut_above : (q : Name) (t : ℕ) (s : SignedZone) (c : Name) → refers_to (zone_of s).zone q t ≡ Some c → at_or_above c q ≡ true
+  cut_above q t s c refers =
+      let there : IsCut (zone_of s).zone (low q) c = cut_is (zone_of s).zone (low q) c (low-low q) (referred (zone_of s).zone q t c refers).cut_is in
+      sym (above_lowered c q) ∙ there.above
 
   module _ (ending : Ending) (no_cuts : ending ≡ ends.TooManyCuts → ⊥) where
-    pub stops_on_way : (asked : Asked) → asked.class ≡ class → (cuts : ℕ) (zone : Name) (ds : List Ds) (before after : Counts) (s : SignedZone) → s.apex ≡ zone → IsAnchored e zones anchor s ds
-        → Stops e asked ending cuts zone ds before after → IsOnWay ending asked cuts s
-    stops_on_way asked in_class cuts zone ds before after s at a (Here judged stops) =
-        record { zone = s; ds = ds; anchored = a; down = first_zone known whole asked.name asked.rtype cuts (zone_of s); deepest = λ n above none. first_deepest known whole asked.name asked.rtype cuts (zone_of s) n none; ends = subst (λ (n : Name). EndsAt e asked n ds ending) (sym at) stops }
-    stops_on_way asked in_class cuts zone ds before after s at a (Below {cuts = less} {c = c} {below = below} {between = between} validity judged way more) =
-        let d : IsDown e zones anchor asked s c below = down_so e class zones anchor of asked in_class zone c ds below validity s at a way in
-        let rest : IsOnWay ending asked less d.child = stops_on_way asked in_class less c below between after d.child d.child_is d.anchored more in
+    pub stops_on_way : (asked : Asked) → asked.class ≡ class → (cuts : ℕ) (zone : Name) (ds : List Ds) (before after : Counts) (l : Option Validity) (s : SignedZone) → s.apex ≡ zone → at_or_above zone asked.name ≡ true → IsAnchored e zones anchor s ds
+        → Stops e asked ending cuts zone ds before after l → IsOnWay ending asked cuts s
+    stops_on_way asked in_class cuts zone ds before after l s at above a (Here judged stops) =
+        record { zone = s; ds = ds; anchored = a; above = subst (λ (n : Name). at_or_above n asked.name ≡ true) (sym at) above; down = first_zone known whole asked.name asked.rtype cuts (zone_of s); deepest = λ n above none. first_deepest known whole asked.name asked.rtype cuts (zone_of s) n none; validity = l; ends = subst (λ (n : Name). EndsAt e asked n ds ending l) (sym at) stops }
+    stops_on_way asked in_class cuts zone ds before after l s at above a (Below {cuts = less} {c = c} {below = below} {between = between} {first = first} {rest = behind} judged way more lasts) =
+        let d : IsDown e zones anchor asked s c below = down_so e class zones anchor of asked in_class zone c ds below first s at a (heard_onward e asked zone ds (TellsDown c below) first way) in
+        let rest : IsOnWay ending asked less d.child = stops_on_way asked in_class less c below between after behind d.child d.child_is (cut_above asked.name asked.rtype s c d.refers) d.anchored more in
         let hands : handed_down known whole asked.name asked.rtype (zone_of s) ≡ Some (zone_of d.child) = handed known whole asked.name asked.rtype (zone_of s) (zone_of d.child) c d.refers d.bound d.found in
         record {
           zone = rest.zone;
           ds = rest.ds;
           anchored = rest.anchored;
+          above = rest.above;
           down = further known whole asked.name asked.rtype less (zone_of s) (zone_of d.child) rest.zone.apex hands rest.down;
           deepest = λ n above none. further_deepest known whole asked.name asked.rtype less (zone_of s) (zone_of d.child) n rest.zone.apex hands rest.down above (rest.deepest n above none);
+          validity = rest.validity;
           ends = rest.ends;
         }
-    stops_on_way asked in_class cuts zone ds before after s at a (TooDeep validity judged way is) = absurd (no_cuts is)
+    stops_on_way asked in_class cuts zone ds before after l s at above a (TooDeep judged way is) = absurd (no_cuts is)
 
   -- ---- behind aliases
 
@@ -121,7 +135,9 @@ module _ (one : TreesSayOne) (e : Given) (class : ℕ) (zones : List SignedZone)
     pub named : In (last_of asked.name through) (asked.name ∷ names)
     pub before : Counts
     pub after : Counts
-    pub stops : Stops e (renamed asked (last_of asked.name through)) ending cuts e.anchor e.ds before after
+    pub validity : Option Validity
+    pub inside : is_asked_of e.anchor (renamed asked (last_of asked.name through)) ≡ true
+    pub stops : Stops e (renamed asked (last_of asked.name through)) ending cuts e.anchor e.ds before after validity
 
   -- or the tree has more aliases than are left
   pub data Reaches (ending : Ending) (asked : Asked) (cuts aliases : ℕ) (names through : List Name) : Type 0 where
@@ -137,22 +153,25 @@ module _ (one : TreesSayOne) (e : Given) (class : ℕ) (zones : List SignedZone)
   not_elsewhere asked inside outside = false≢true (sym outside ∙ sym (within_is asked) ∙ inside)
 
   module _ (ending : Ending) (said : Said) where
-    pub reached : (cuts aliases : ℕ) (asked : Asked) → asked.class ≡ class → (names through : List Name) (before after : Counts) → Resolves known whole from asked.rtype said asked.name names
-        → StopsBehind e cuts ending aliases asked through before after → Reaches ending asked cuts aliases names through
-    reached cuts aliases asked in_class names through before after says (AtOnce w stops) = There (record { named = inl refl; before = before; after = after; stops = stops })
-    reached cuts aliases asked in_class names through before after (tree.Ends w x end) (Elsewhere outside is same) = absurd (not_elsewhere asked w outside)
-    reached cuts aliases asked in_class names through before after (tree.Led w x more) (Elsewhere outside is same) = absurd (not_elsewhere asked w outside)
-    reached cuts aliases asked in_class names through before after (tree.Ends w x end) (TooMany t led is same) = absurd (not_led asked in_class said t.name t.validity x end led.tells)
-    reached cuts aliases asked in_class names through before after (tree.Led {ns = ms} w x more) (TooMany t led is same) = NoneLeft is (omega arith)
-    reached cuts aliases asked in_class names through before after (tree.Ends w x end) (Led t led stops) = absurd (not_led asked in_class said t.name t.validity x end led.tells)
-    reached cuts aliases asked in_class names through before after (tree.Led {n = m} {ns = ms} w x more) (Led {aliases = less} {ns = rest} t led stops) =
-        let same : m ≡ t.name = same_lead asked in_class m t.name t.validity x led.tells in
+    pub reached : (cuts aliases : ℕ) (asked : Asked) → asked.class ≡ class → (names through : List Name) (before after : Counts) (l : Option Validity) → Resolves known whole from asked.rtype said asked.name names
+        → StopsBehind e cuts ending aliases asked through before after l → Reaches ending asked cuts aliases names through
+    reached cuts aliases asked in_class names through before after l says (AtOnce w stops none) = There (record { named = inl refl; before = before; after = after; validity = l; inside = w; stops = stops })
+    reached cuts aliases asked in_class names through before after l (tree.Ends w x end) (Elsewhere outside is same) = absurd (not_elsewhere asked w outside)
+    reached cuts aliases asked in_class names through before after l (tree.Led w x more) (Elsewhere outside is same) = absurd (not_elsewhere asked w outside)
+    reached cuts aliases asked in_class names through before after l (tree.Ends w x end) (TooMany t led is same) = absurd (not_led asked in_class said t.name t.validity x end (led_tells e asked cuts before t led))
+    reached cuts aliases asked in_class names through before after l (tree.Led {ns = ms} w x more) (TooMany t led is same) = NoneLeft is (omega arith)
+    reached cuts aliases asked in_class names through before after l (tree.Ends w x end) (Led t led stops lasts) = absurd (not_led asked in_class said t.name t.validity x end (led_tells e asked cuts before t led))
+    reached cuts aliases asked in_class names through before after l (tree.Led {n = m} {ns = ms} w x more) (Led {aliases = less} {ns = rest} {rest = behind} t led stops lasts) =
+        let same : m ≡ t.name = same_lead asked in_class m t.name t.validity x (led_tells e asked cuts before t led) in
         let later : Resolves known whole from asked.rtype said t.name ms = subst (λ (n : Name). Resolves known whole from asked.rtype said n ms) same more in
-        go same (reached cuts less (renamed asked t.name) in_class ms rest t.counts after later stops)
+        go same (reached cuts less (renamed asked t.name) in_class ms rest t.counts after behind later stops)
       where
         go : m ≡ t.name → Reaches ending (renamed asked t.name) cuts less ms rest → Reaches ending asked cuts (suc less) (m ∷ ms) (t.name ∷ rest)
-        go same (There k) = There (record { named = inr (subst (λ (n : Name). In (last_of t.name rest) (n ∷ ms)) (sym same) k.named); before = k.before; after = k.after; stops = k.stops })
+        go same (There k) = There (record { named = inr (subst (λ (n : Name). In (last_of t.name rest) (n ∷ ms)) (sym same) k.named); before = k.before; after = k.after; validity = k.validity; inside = k.inside; stops = k.stops })
         go same (NoneLeft is few) = NoneLeft is (omega (arith, few))
+
+  asked_above : (asked : Asked) → is_asked_of e.anchor asked ≡ true → at_or_above e.anchor asked.name ≡ true
+  asked_above asked inside = (and_parts (at_or_above e.anchor asked.name) (not (same e.anchor asked.name && (asked.rtype == 43))) inside).0
 
   -- in a zone on the way of that name
   pub record IsBehind (ending : Ending) (asked : Asked) (cuts : ℕ) (names through : List Name) : Type 0 where
@@ -162,12 +181,12 @@ module _ (one : TreesSayOne) (e : Given) (class : ℕ) (zones : List SignedZone)
   pub there_on_way : (ending : Ending) (no_cuts : ending ≡ ends.TooManyCuts → ⊥) (asked : Asked) → asked.class ≡ class → (cuts : ℕ) (names through : List Name) → IsThere ending asked cuts names through → IsBehind ending asked cuts names through
   there_on_way ending no_cuts asked in_class cuts names through k = record {
     named = k.named;
-    on_way = stops_on_way ending no_cuts (renamed asked (last_of asked.name through)) in_class cuts e.anchor e.ds k.before k.after anchor of.anchor_is anchored k.stops;
+    on_way = stops_on_way ending no_cuts (renamed asked (last_of asked.name through)) in_class cuts e.anchor e.ds k.before k.after k.validity anchor of.anchor_is (asked_above (renamed asked (last_of asked.name through)) k.inside) anchored k.stops;
   }
 
-  pub behind_on_way : (ending : Ending) (no_cuts : ending ≡ ends.TooManyCuts → ⊥) (no_aliases : ending ≡ ends.TooManyAliases → ⊥) (said : Said) (cuts aliases : ℕ) (asked : Asked) → asked.class ≡ class → (names through : List Name) (before after : Counts)
-      → Resolves known whole from asked.rtype said asked.name names → StopsBehind e cuts ending aliases asked through before after → IsBehind ending asked cuts names through
-  behind_on_way ending no_cuts no_aliases said cuts aliases asked in_class names through before after says stops = go (reached ending said cuts aliases asked in_class names through before after says stops)
+  pub behind_on_way : (ending : Ending) (no_cuts : ending ≡ ends.TooManyCuts → ⊥) (no_aliases : ending ≡ ends.TooManyAliases → ⊥) (said : Said) (cuts aliases : ℕ) (asked : Asked) → asked.class ≡ class → (names through : List Name) (before after : Counts) (l : Option Validity)
+      → Resolves known whole from asked.rtype said asked.name names → StopsBehind e cuts ending aliases asked through before after l → IsBehind ending asked cuts names through
+  behind_on_way ending no_cuts no_aliases said cuts aliases asked in_class names through before after l says stops = go (reached ending said cuts aliases asked in_class names through before after l says stops)
     where
       go : Reaches ending asked cuts aliases names through → IsBehind ending asked cuts names through
       go (There k) = there_on_way ending no_cuts asked in_class cuts names through k

@@ -24,15 +24,14 @@ use Rattle.answer_judge.specs.Judging.{JudgeInput}
 use Rattle.answer_judge_keys.specs.Trusted.{is_usable}
 use Rattle.answer_findings.specs.Seen.{one_name}
 use Rattle.answer_findings.specs.Table.{AgreesWith, Tried, answers_with}
-use Rattle.tree_laws.specs.Tree.{Said, refers_to}
+use Rattle.tree_laws.specs.Tree.{Said}
 use Rattle.evidence_laws.specs.Given.{Given, IsOf}
 use Rattle.evidence_laws.specs.Truth.{IsAnchored, SignedZone}
-use Rattle.evidence_laws.specs.Truth as truth
 use Rattle.resolution_walk.specs.declared.ending.Walk.{Walk}
 use Rattle.resolution_walk.specs.declared.walk.Limits.{Limits}
-use Rattle.walk_laws.specs.Ending.{EndsInTree, IsTreesWalk}
+use Rattle.walk_laws.specs.Ending.{EndsInTree, IsTreesWalk, Never}
 use Rattle.walk_laws.specs.Keys.{KeysWereGiven}
-use Rattle.walk_laws.specs.Served.{LacksMemory, ZonesKeys, asking}
+use Rattle.walk_laws.specs.Served.{AnswersItself, ZonesKeys, asking}
 
 -- The question that a zone answers where it is asked one that is allowed: that; or, where it has no such RRset, the one for the CNAME that
 -- answers for the name, or for the DNAME of the nearest name above at which one stands (RFC 1034, 4.3.2; RFC 6672, 3.2).
@@ -79,16 +78,16 @@ pub record WasGivenWithAliases (a : Answers) (k : ℕ) (h : JudgeInput) (mode : 
   pub hold : holds at life h.now ≡ true
 
 -- The table says of each signature that it has whether it passes, and the keys of each zone are those that it has given. Where a zone
--- refers a question nowhere, for the type that is asked for or for DS, its answer, if it is there, is what it has given, by an alias or not.
+-- answers a question itself, for the type that is asked for or for DS, its answer, if it is there, is what it has given, by an alias or not.
 pub record AreServedWithAliases (passes : Tried → Bool) (e : Given) (asked : Asked) (zones : List SignedZone) (anchor : SignedZone) : Type 0 where
   pub checked : AgreesWith e.table passes
   pub keys : ZonesKeys passes e zones anchor
   pub given : (s : SignedZone) (ds : List Ds) (n : Name) (t : ℕ) (h : JudgeInput) → (t ≡ asked.rtype) ⊎ (t ≡ 43) → IsAnchored e zones anchor s ds
-      → refers_to (truth.zone_of s).zone n t ≡ None → IsOf e s.apex ds (asking asked n t) h → WasGivenWithAliases (answers_with passes) pointer_limit h s.version.mode s.version.records
+      → AnswersItself s n t → IsOf e s.apex ds (asking asked n t) h → WasGivenWithAliases (answers_with passes) pointer_limit h s.version.mode s.version.records
 
--- Then too only memory stops a walk.
+-- Then too no walk is stuck.
 abbrev pub AliasedTreesAreWalked : Type 0
 AliasedTreesAreWalked =
     (passes : Tried → Bool) (e : Given) (asked : Asked) (limits : Limits) (zones : List SignedZone) (anchor : SignedZone) (said : Said) (names : List Name) (w : Walk)
     → IsTreesWalk e asked limits zones anchor said names w → AreServedWithAliases passes e asked zones anchor
-    → EndsInTree (LacksMemory asked limits.cuts zones anchor names) e limits said names w
+    → EndsInTree Never e limits said names w

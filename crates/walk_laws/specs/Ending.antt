@@ -2,7 +2,7 @@
 use Rattle.std.specs.Prelude.{◌≡◌, ℕ, zero, suc, ◌≤◌, Bool, true, List, ◌∷◌, length, Option, Some, None, is_none, Contains}
 use Rattle.std.specs.Global.{Vec}
 use Rattle.definitions.specs.Dnskey.{Ds}
-use Rattle.definitions.specs.Name.{Name}
+use Rattle.definitions.specs.Name.{Name, at_or_above}
 use Rattle.messages.specs.Message.{Asked}
 use Rattle.answer_judge.specs.declared.verdict.Refusal.{Refusal}
 use Rattle.answer_findings.specs.Table.{Tried}
@@ -45,6 +45,7 @@ pub record IsUntoldOf (asked : Asked) (cuts : ℕ) (zones : List SignedZone) (an
   pub zone : SignedZone
   pub ds : List Ds
   pub anchored : IsAnchored e zones anchor zone ds
+  pub above : at_or_above zone.apex name ≡ true
   pub down : Contains (zones_down (knows e.algorithms) (tree_of zones) name asked.rtype cuts (zone_of anchor)) zone.apex
   pub of : Name
   pub by : Vec Ds
@@ -62,6 +63,10 @@ pub data EndsInTree (Stuck : Given → Walk → Type 0) (e : Given) (limits : Li
   AsksMore : (asks : Vec Tried) → w.ending ≡ ends.Asks asks → EndsInTree Stuck e limits said names w
   IsFull : w.ending ≡ ends.TooManyMessages → limits.messages ≤ length e.messages → EndsInTree Stuck e limits said names w
   IsStuck : Stuck e w → EndsInTree Stuck e limits said names w
+
+-- none is stuck
+abbrev pub Never : Given → Walk → Type 0
+Never e w = ⊥
 
 -- A walk over evidence of a tree, within limits that leave room for the way that the tree leads the question.
 pub record IsTreesWalk (e : Given) (asked : Asked) (limits : Limits) (zones : List SignedZone) (anchor : SignedZone) (said : Said) (names : List Name) (w : Walk) : Type 0 where

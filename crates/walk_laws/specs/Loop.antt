@@ -69,6 +69,10 @@ next c asked most e (ends.Asks asks) = if nat_le (length e.table + length asks.i
 next c asked most e _ = None
 
 -- what it comes to from some evidence on, by so many calls
-pub data Reaches (c : Caller) (asked : Asked) (limits : Limits) (most : ℕ) (walks : (e : Given) → Walks asked limits e) (from : Given) : ℕ → Given → Type 0 where
-  AtOnce : Reaches c asked limits most walks from 0 from
-  ByCall : {calls : ℕ} {e f : Given} → Reaches c asked limits most walks from calls e → next c asked most e (walks e).walk.ending ≡ Some f → Reaches c asked limits most walks from (suc calls) f
+pub data Reaches (c : Caller) (asked : Asked) (most : ℕ) (walks : Given → Walk) (from : Given) : ℕ → Given → Type 0 where
+  AtOnce : Reaches c asked most walks from 0 from
+  ByCall : {calls : ℕ} {e f : Given} → Reaches c asked most walks from calls e → next c asked most e (walks e).ending ≡ Some f → Reaches c asked most walks from (suc calls) f
+
+-- its calls are walks: over evidence that it comes to, and not over all that there may be
+abbrev pub AreWalks : Caller → Asked → Limits → ℕ → (Given → Walk) → Given → Type 0
+AreWalks c asked limits most walks from = (calls : ℕ) (e : Given) → Reaches c asked most walks from calls e → StopsWithin e asked limits (walks e)

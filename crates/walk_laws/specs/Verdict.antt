@@ -15,10 +15,10 @@ use Rattle.resolution_walk.specs.declared.ending.Ending.TheVariants as ends
 use Rattle.resolution_walk.specs.declared.ending.Walk.{Walk}
 use Rattle.resolution_walk.specs.declared.walk.Limits.{Limits}
 use Rattle.walk_laws.specs.Aliased.{AreServedWithAliases}
-use Rattle.walk_laws.specs.Ending.{IsUntoldOf, LeaveRoom}
+use Rattle.walk_laws.specs.Ending.{IsUntoldOf, LeaveRoom, Never}
 use Rattle.walk_laws.specs.Few.{IsReadOfTree}
-use Rattle.walk_laws.specs.Loop.{Caller, Reaches, Walks}
-use Rattle.walk_laws.specs.Served.{AreServed, AreServedWithKeys, LacksMemory, RanOutOfMemory}
+use Rattle.walk_laws.specs.Loop.{AreWalks, Caller, Reaches}
+use Rattle.walk_laws.specs.Served.{AreServed, AreServedWithKeys}
 use Rattle.walk_laws.specs.Tree.{most_wanted}
 
 -- A walk says what the tree says, through its aliases; or it asks for more signatures than are allowed; or it is stuck.
@@ -33,49 +33,50 @@ wanted_on_way asked limits from zones anchor names = most_wanted (knows from.alg
 
 -- The loop of a caller over evidence of a tree, within limits that leave room for the tree's way and for all messages that may be
 -- wanted.
-pub record IsTreesLoop (c : Caller) (asked : Asked) (limits : Limits) (most : ℕ) (walks : (e : Given) → Walks asked limits e) (from : Given) (zones : List SignedZone) (anchor : SignedZone) (said : Said) (names : List Name) : Type 0 where
+pub record IsTreesLoop (c : Caller) (asked : Asked) (limits : Limits) (most : ℕ) (walks : Given → Walk) (from : Given) (zones : List SignedZone) (anchor : SignedZone) (said : Said) (names : List Name) : Type 0 where
   pub says : Resolves (knows from.algorithms) (tree_of zones) (zone_of anchor) asked.rtype said asked.name names
   pub room : LeaveRoom limits (knows from.algorithms) (tree_of zones) (zone_of anchor) asked names
   pub messages : length from.messages + 2 * wanted_on_way asked limits from zones anchor names < limits.messages
-  pub of : (calls : ℕ) (e : Given) → Reaches c asked limits most walks from calls e → IsReadOfTree asked.class zones anchor e
-  pub truly : (e : Given) → WalksTruly e asked (walks e).walk
+  pub of : (calls : ℕ) (e : Given) → Reaches c asked most walks from calls e → IsReadOfTree asked.class zones anchor e
+  pub are : AreWalks c asked limits most walks from
+  pub truly : (calls : ℕ) (e : Given) → Reaches c asked most walks from calls e → WalksTruly e asked (walks e)
 
 -- The loop ends so, behind so many calls that want messages, and those that ask for signatures, which are few by their limit.
-pub record Comes (Stuck : Given → Walk → Type 0) (wants : ℕ) (c : Caller) (asked : Asked) (limits : Limits) (most : ℕ) (walks : (e : Given) → Walks asked limits e) (from : Given) (said : Said) (names : List Name) : Type 0 where
+pub record Comes (Stuck : Given → Walk → Type 0) (wants : ℕ) (c : Caller) (asked : Asked) (limits : Limits) (most : ℕ) (walks : Given → Walk) (from : Given) (said : Said) (names : List Name) : Type 0 where
   pub calls : ℕ
   pub last : Given
-  pub reached : Reaches c asked limits most walks from calls last
-  pub end : EndsLoop Stuck most last said names (walks last).walk
+  pub reached : Reaches c asked most walks from calls last
+  pub end : EndsLoop Stuck most last said names (walks last)
   pub few : calls ≤ wants + (most - length from.table)
 
 -- So ends each loop over evidence of a tree.
 abbrev pub LoopsComeToVerdicts : Type 0
 LoopsComeToVerdicts =
-    (c : Caller) (asked : Asked) (limits : Limits) (most : ℕ) (walks : (e : Given) → Walks asked limits e) (from : Given) (zones : List SignedZone) (anchor : SignedZone) (said : Said) (names : List Name)
+    (c : Caller) (asked : Asked) (limits : Limits) (most : ℕ) (walks : Given → Walk) (from : Given) (zones : List SignedZone) (anchor : SignedZone) (said : Said) (names : List Name)
     → IsTreesLoop c asked limits most walks from zones anchor said names → Comes (IsUntoldOf asked limits.cuts zones anchor names) (wanted_on_way asked limits from zones anchor names) c asked limits most walks from said names
 
 -- Of one zone without any alias, that refers the question nowhere and answers as it is published, for an allowed question: of class IN,
 -- and for none of the types 0, 5, 39, 41, 46, 47, 48, 50, 51, and 128 to 255.
 abbrev pub ZonesComeToVerdicts : Type 0
 ZonesComeToVerdicts =
-    (c : Caller) (asked : Asked) (limits : Limits) (most : ℕ) (walks : (e : Given) → Walks asked limits e) (from : Given) (zone : SignedZone) (said : Said)
+    (c : Caller) (asked : Asked) (limits : Limits) (most : ℕ) (walks : Given → Walk) (from : Given) (zone : SignedZone) (said : Said)
     → refers_to (zone_of zone).zone asked.name asked.rtype ≡ None → IsTreesLoop c asked limits most walks from (zone ∷ []) zone said []
-    → ((calls : ℕ) (e : Given) → Reaches c asked limits most walks from calls e → AreServed c.passes e asked (zone ∷ []) zone)
-    → Comes (RanOutOfMemory asked limits.cuts (zone ∷ []) zone []) (wanted_on_way asked limits from (zone ∷ []) zone []) c asked limits most walks from said []
+    → ((calls : ℕ) (e : Given) → Reaches c asked most walks from calls e → AreServed c.passes e asked (zone ∷ []) zone)
+    → Comes Never (wanted_on_way asked limits from (zone ∷ []) zone []) c asked limits most walks from said []
 
 -- Of a tree whose zones answer as they are published, and have given their keys, for a question that is allowed in each zone that refers it
 -- nowhere: zones without aliases.
 abbrev pub TreesComeToVerdicts : Type 0
 TreesComeToVerdicts =
-    (c : Caller) (asked : Asked) (limits : Limits) (most : ℕ) (walks : (e : Given) → Walks asked limits e) (from : Given) (zones : List SignedZone) (anchor : SignedZone) (said : Said) (names : List Name)
+    (c : Caller) (asked : Asked) (limits : Limits) (most : ℕ) (walks : Given → Walk) (from : Given) (zones : List SignedZone) (anchor : SignedZone) (said : Said) (names : List Name)
     → IsTreesLoop c asked limits most walks from zones anchor said names
-    → ((calls : ℕ) (e : Given) → Reaches c asked limits most walks from calls e → AreServedWithKeys c.passes e asked zones anchor)
-    → Comes (LacksMemory asked limits.cuts zones anchor names) (wanted_on_way asked limits from zones anchor names) c asked limits most walks from said names
+    → ((calls : ℕ) (e : Given) → Reaches c asked most walks from calls e → AreServedWithKeys c.passes e asked zones anchor)
+    → Comes Never (wanted_on_way asked limits from zones anchor names) c asked limits most walks from said names
 
 -- Of a tree whose zones, aliases among their records or not, answer as they are published, by an alias in place of what is asked for too.
 abbrev pub AliasedTreesComeToVerdicts : Type 0
 AliasedTreesComeToVerdicts =
-    (c : Caller) (asked : Asked) (limits : Limits) (most : ℕ) (walks : (e : Given) → Walks asked limits e) (from : Given) (zones : List SignedZone) (anchor : SignedZone) (said : Said) (names : List Name)
+    (c : Caller) (asked : Asked) (limits : Limits) (most : ℕ) (walks : Given → Walk) (from : Given) (zones : List SignedZone) (anchor : SignedZone) (said : Said) (names : List Name)
     → IsTreesLoop c asked limits most walks from zones anchor said names
-    → ((calls : ℕ) (e : Given) → Reaches c asked limits most walks from calls e → AreServedWithAliases c.passes e asked zones anchor)
-    → Comes (LacksMemory asked limits.cuts zones anchor names) (wanted_on_way asked limits from zones anchor names) c asked limits most walks from said names
+    → ((calls : ℕ) (e : Given) → Reaches c asked most walks from calls e → AreServedWithAliases c.passes e asked zones anchor)
+    → Comes Never (wanted_on_way asked limits from zones anchor names) c asked limits most walks from said names

@@ -78,11 +78,9 @@ pub fn given_keys_are_trusted()
 
 /// Where zones without any alias answer allowed questions as they are published, what they refer
 /// nowhere and DS at the names between too, and signatures are checked truly, a walk is stuck only
-/// in the refusal of an answer for want of memory; or of the keys of a zone that refers the name
-/// on. Of a zone that refers the question nowhere, its own answer is refused for want of memory
-/// wherever it tells nothing. So no answer for DS leaves open whether a name is delegated. Allowed
-/// are questions of class IN, and for none of the types 0, 5, 39, 41, 46, 47, 48, 50, 51, and 128 to
-/// 255. Zones that lead on by aliases are not covered.
+/// where the keys of a zone that refers the name on are refused. So no answer for DS leaves open
+/// whether a name is delegated. Allowed are questions of class IN, and for none of the types 0, 5,
+/// 39, 41, 46, 47, 48, 50, 51, and 128 to 255. Zones that lead on by aliases are not covered.
 pub fn served_trees_are_walked()
     ensures { ServedTreesAreWalked }
 {
@@ -91,7 +89,7 @@ pub fn served_trees_are_walked()
 }
 
 /// Where the DNSKEY answers of these zones, if they are there, are of keys that the zones have
-/// given, also where they refer the name on, a walk is stuck only for want of memory.
+/// given, also where they refer the name on, no walk is stuck.
 pub fn keyed_trees_are_walked()
     ensures { KeyedTreesAreWalked }
 {
@@ -100,7 +98,7 @@ pub fn keyed_trees_are_walked()
 }
 
 /// Where zones, aliases among their records or not, answer allowed questions so, and the keys of
-/// each are those that it has given, a walk is stuck only for want of memory. Where a zone has not
+/// each are those that it has given, no walk is stuck. Where a zone has not
 /// what is asked for, its answer is that for the CNAME of the name, or of the wildcard that stands
 /// for it, or else for the DNAME of the nearest name above; each such alias leads to one name.
 pub fn aliased_trees_are_walked()
@@ -111,10 +109,8 @@ pub fn aliased_trees_are_walked()
 }
 
 /// So a walk over the messages of one zone without any alias, for an allowed question that it
-/// refers nowhere, ends in the zone's verdict, or more is wanted, or memory ran out: whichever
-/// judgement of its answer tells nothing, it is refused for want of memory. The walk ends in that
-/// refusal, or behind it in one for DS at a name between. The zone is the whole tree, so it has no
-/// delegation with DS records of a known algorithm and digest: of zones with such delegations
+/// refers nowhere, ends in the zone's verdict, or more is wanted. The zone is the whole tree, so it
+/// has no delegation with DS records of a known algorithm and digest: of zones with such delegations
 /// `keyed_trees_are_walked` speaks.
 pub fn served_zones_are_walked()
     ensures { ServedZonesAreWalked }
@@ -137,8 +133,8 @@ pub fn loops_come_to_verdicts()
 
 /// The loop of a caller over one zone without any alias, which answers as it is published, ends in
 /// the zone's verdict for an allowed question that the zone refers nowhere, unless more signatures
-/// are asked for than are allowed, or memory runs out as it does for `served_zones_are_walked`. As
-/// there, the zone has no delegation with DS records of a known algorithm and digest.
+/// are asked for than are allowed. As for `served_zones_are_walked`, the zone has no delegation with
+/// DS records of a known algorithm and digest.
 pub fn zones_come_to_verdicts()
     ensures { ZonesComeToVerdicts }
 {
@@ -148,7 +144,7 @@ pub fn zones_come_to_verdicts()
 
 /// The loop of a caller over a tree whose zones, without any alias, answer allowed questions as they
 /// are published, and have given their keys, ends in what the tree says, unless more signatures are
-/// asked for than are allowed, or memory runs out.
+/// asked for than are allowed.
 pub fn trees_come_to_verdicts()
     ensures { TreesComeToVerdicts }
 {
@@ -157,8 +153,8 @@ pub fn trees_come_to_verdicts()
 }
 
 /// The loop of a caller over a tree whose zones may have aliases ends in what the tree says, through
-/// these aliases, unless more signatures are asked for than are allowed, or memory runs out, where
-/// the zones answer as for `aliased_trees_are_walked`.
+/// these aliases, unless more signatures are asked for than are allowed, where the zones answer as
+/// for `aliased_trees_are_walked`.
 pub fn aliased_trees_come_to_verdicts()
     ensures { AliasedTreesComeToVerdicts }
 {
