@@ -1,0 +1,4 @@
+pub mod MoreLinks
+pub mod MoreHashes
+pub mod MoreFacts
+pub mod DueFacts

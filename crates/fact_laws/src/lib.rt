@@ -1,0 +1,4 @@
+//! Laws of facts, whichever records they were verified in.
+#![tactic(auto)]
+
+pub mod laws;
