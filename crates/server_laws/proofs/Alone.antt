@@ -17,7 +17,7 @@ use Rattle.messages.proofs.MessageWritten.{StandsAt, data_behind, end_of}
 use Rattle.answer_terms.specs.Alike.{IsLike}
 use Rattle.answer_terms.specs.GroupView.{GroupView, IsRrsigData, fields_of, view_of}
 use Rattle.answer_terms.specs.Served.{ServedRrset}
-use Rattle.server_laws.specs.SeenAlike.{is_covering}
+use Rattle.message_laws.specs.SeenAlike.{is_covering}
 use Rattle.server_answers.specs.Composed.{IsWritten, joined, rrsig_of}
 use Rattle.server_answers.proofs.WritesData.{reads_plain}
 use Rattle.server_answers.proofs.WritesGroups.{IsFormed}

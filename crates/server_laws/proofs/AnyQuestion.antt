@@ -22,9 +22,9 @@ use Rattle.answer_judge.specs.declared.verdict.Refusal.TheVariants as r
 use Rattle.answer_judge.specs.Judged.{are_mixed, are_over, by_facts, ds_authenticates_keys, facts_in, is_unhashed, judged, judged_answer, judged_bytes, judged_facts, judged_messages, keys_of, trusting}
 use Rattle.answer_judge_facts.specs.Times.{are_unlike, proof_times}
 use Rattle.answer_judge_facts.specs.Verified.{Trusting, verified_facts}
-use Rattle.server_laws.specs.SeenAlike.{is_covering, is_used}
-use Rattle.server_laws.proofs.FactsAlike.{all_bare_times, all_times, bare_facts, facts_alike}
-use Rattle.server_laws.proofs.JudgedAlike.{asked_for_keys, judged_of, refused_by, refused_of, said_of}
+use Rattle.message_laws.specs.SeenAlike.{is_covering, is_used}
+use Rattle.message_laws.proofs.FactsAlike.{all_bare_times, all_times, bare_facts, facts_alike}
+use Rattle.message_laws.proofs.JudgedAlike.{asked_for_keys, judged_of, refused_by, refused_of, said_of}
 
 -- ---- facts, in whose links the case of names means nothing
 

@@ -1,6 +1,6 @@
 -- A judge says of a whole response what it says of the message that it is made of.
 use Rattle.std.proofs.Common.{◌≡◌, ◌⊎◌, ℕ, ◌/◌, ◌%◌, ◌≤◌, ◌<◌, Bool, true, false, not, ◌&&◌, ◌||◌, List, [], ◌∷◌, ◌++◌, length, map, nat_eq, nat_le, Option, Some, None, Result, Ok, cond, eqb, inl, inr, refl, sym, subst, ap, ◌∙◌, ⊎_elim, arith, length-append, lit<}
-use Rattle.std.specs.Prelude.{if◌then◌else◌}
+use Rattle.std.specs.Prelude.{◌==◌, if◌then◌else◌}
 use Rattle.std.specs.List.{AllByRecursion, AllZip, flat_map, list_any}
 use Rattle.std.proofs.lemmas.Bool.{and_parts, eqb-true, or_cases, or_parts}
 use Rattle.std.proofs.lemmas.List.Concat.{flat_map-append}
@@ -33,8 +33,10 @@ use Rattle.answer_judge.specs.declared.verdict.Refusal.{Refusal}
 use Rattle.answer_judge.specs.declared.verdict.Refusal.TheVariants as r
 use Rattle.answer_judge.specs.Judged.{AnswersAs, judged, judged_bytes}
 use Rattle.answer_judge.proofs.GivenAnswers.{answers_given}
-use Rattle.server_laws.specs.SeenAlike.{SeenAlike, is_covering, is_used_type}
-use Rattle.server_laws.proofs.JudgedAlike.{answers_alike, keys_alike, uncovered_alike}
+use Rattle.message_laws.specs.SeenAlike.{ProvesAlike, SeenAlike, is_covering, is_used_type}
+use Rattle.message_laws.proofs.GivenShown.{answered, given_is_shown}
+use Rattle.message_laws.proofs.JudgedAlike.{bare_prove, keys_alike, proven_judged, seen_prove}
+use Rattle.message_laws.proofs.ShownAlike.{alike_shows_alike}
 use Rattle.server_answers.specs.Composed.{IsAnswer, IsWritten, joined}
 use Rattle.server_answers.specs.World.{AnswersKeysQuestion, AnswersQuestion, World, present_keys, served_in}
 use Rattle.server_answers.proofs.WritesAnswer.{all_behind, all_presented}
@@ -52,7 +54,7 @@ use Rattle.server_answers.specs.Table.{sign_by, verify_by}
 use Rattle.server_answers.proofs.Signing.{own_entries}
 use Rattle.server_answers.specs.Glued.{AnswersGlued}
 use Rattle.server_answers.specs.Responding.{IsMessage, Serving, is_for_keys}
-use Rattle.server_laws.specs.Heard.{ClientsAreTold, IsJudgedAs, IsWhole, IsZone, ParametersJudgedAlike, ResponsesJudgedAlike, is_truncated}
+use Rattle.server_laws.specs.Heard.{ClientsAreShown, ClientsAreTold, IsJudgedAs, IsWhole, IsZone, ParametersJudgedAlike, ResponsesJudgedAlike, is_truncated}
 use Rattle.server_laws.proofs.Alone.{IsOther, NoSignature, SignsOther, StandsAlone, groups_alone, groups_other}
 use Rattle.server_laws.proofs.Replied.{IsUnused}
 use Rattle.server_laws.proofs.Shown.{IsAlone, all_seen, all_where_clear, flags_told, in_message, message_read, none_covers, spelled_all, unasked, whole_all}
@@ -165,19 +167,19 @@ judged_by asked none later answer = elim (if not asked then Some r.QuestionNotAl
 pub unjudged : (a : Answers) (h : JudgeInput) → is_judged h ≡ false → judged a pointer_limit h ≡ Refuses r.QuestionNotAllowed
 unjudged a h e = ap (λ b. judged_by b (nat_eq (length h.ds) 0) (message_refusal pointer_limit h) (judged_bytes a pointer_limit h)) e
 
-seen_judged : (m n : List ℕ) → SeenAlike pointer_limit 48 m n
-    → ((a : Answers) (h : JudgeInput) → eqb 41 h.asked.rtype ≡ false → judged a pointer_limit (record h { answer_bytes = m }) ≡ judged a pointer_limit (record h { answer_bytes = n }))
-    → IsJudgedAs m n
-seen_judged m n keys answers = record {
-  answers = λ a h. of_type a h (eqb 41 h.asked.rtype) refl;
+seen_judged : (m n : List ℕ) → SeenAlike pointer_limit 48 m n → ((t : ℕ) → (t == 41) ≡ false → ProvesAlike pointer_limit t m n) → IsJudgedAs m n
+seen_judged m n keys proves = record {
+  answers = λ a h. of_type a h (h.asked.rtype == 41) refl;
   keys = λ a h. keys_alike a pointer_limit h m n keys;
+  proves = proves;
+  seen = keys;
 }
   where
-    of_type : (a : Answers) (h : JudgeInput) (b : Bool) → eqb 41 h.asked.rtype ≡ b → judged a pointer_limit (record h { answer_bytes = m }) ≡ judged a pointer_limit (record h { answer_bytes = n })
+    of_type : (a : Answers) (h : JudgeInput) (b : Bool) → (h.asked.rtype == 41) ≡ b → judged a pointer_limit (record h { answer_bytes = m }) ≡ judged a pointer_limit (record h { answer_bytes = n })
     of_type a h true e =
-        let opt : is_judged h ≡ false = opt_unjudged h (sym (eqb-true 41 h.asked.rtype e)) in
+        let opt : is_judged h ≡ false = opt_unjudged h (eqb-true h.asked.rtype 41 e) in
         unjudged a (record h { answer_bytes = m }) opt ∙ sym (unjudged a (record h { answer_bytes = n }) opt)
-    of_type a h false e = answers a h e
+    of_type a h false e = proven_judged a pointer_limit h m n (proves h.asked.rtype e)
 
 -- ---- a response of it
 
@@ -205,27 +207,25 @@ module _ (flags : ℕ) (asked : Asked) (first second : List Written) (m : List �
   seen few t spare other = all_seen flags asked first second m alone size q small is wanted more (hold_all gs each) silent t spare other name rtype class few
 
   -- where an address is asked for that no signature covers
-  covered : length the_whole ≤ 65535 → (a : Answers) (h : JudgeInput) → AllByRecursion (SignsOther h.asked.rtype) (first ++ second)
-      → judged a pointer_limit (record h { answer_bytes = the_whole }) ≡ judged a pointer_limit (record h { answer_bytes = m })
-  covered few a h others =
+  covered : length the_whole ≤ 65535 → (t : ℕ) → AllByRecursion (SignsOther t) (first ++ second) → ProvesAlike pointer_limit t the_whole m
+  covered few t others =
       let alike = seen few 46 (unused_all 46 gs refl each) refl in
       let there = ok_is (in_message flags asked first second m alone) alike.other (message pointer_limit m) back alike.reads_other in
-      uncovered_alike a pointer_limit h the_whole m alike
-      (subst (λ (x : Message). list_any (is_covering pointer_limit m h.asked.rtype) x.records ≡ false) there (none_covers flags asked first second m alone h.asked.rtype others))
+      bare_prove pointer_limit t the_whole m alike
+      (subst (λ (x : Message). list_any (is_covering pointer_limit m t) x.records ≡ false) there (none_covers flags asked first second m alone t others))
 
   -- where there is none
-  without : length the_whole ≤ 65535 → (a : Answers) (h : JudgeInput) → eqb 41 h.asked.rtype ≡ false → gs ≡ [] → judged a pointer_limit (record h { answer_bytes = the_whole }) ≡ judged a pointer_limit (record h { answer_bytes = m })
-  without few a h other none =
-      answers_alike a pointer_limit h the_whole m
-      (seen few h.asked.rtype (subst (λ (xs : List HandedRr). AllByRecursion (IsUnused h.asked.rtype) (map written_as_handed xs)) (sym none) tt) other)
+  without : length the_whole ≤ 65535 → (t : ℕ) → eqb 41 t ≡ false → gs ≡ [] → ProvesAlike pointer_limit t the_whole m
+  without few t other none =
+      seen_prove pointer_limit t the_whole m
+      (seen few t (subst (λ (xs : List HandedRr). AllByRecursion (IsUnused t) (map written_as_handed xs)) (sym none) tt) other)
 
-  of_type : length the_whole ≤ 65535 → (a : Answers) (h : JudgeInput) → eqb 41 h.asked.rtype ≡ false → (b : Bool) → (eqb h.asked.rtype 1 || eqb h.asked.rtype 28) ≡ b
-      → judged a pointer_limit (record h { answer_bytes = the_whole }) ≡ judged a pointer_limit (record h { answer_bytes = m })
-  of_type few a h other false e = answers_alike a pointer_limit h the_whole m (seen few h.asked.rtype (unused_all h.asked.rtype gs e each) other)
-  of_type few a h other true e = ⊎_elim (without few a h other) (covered few a h) (bare h.asked.rtype e)
+  of_type : length the_whole ≤ 65535 → (t : ℕ) → eqb 41 t ≡ false → (b : Bool) → (eqb t 1 || eqb t 28) ≡ b → ProvesAlike pointer_limit t the_whole m
+  of_type few t other false e = seen_prove pointer_limit t the_whole m (seen few t (unused_all t gs e each) other)
+  of_type few t other true e = ⊎_elim (without few t other) (covered few t) (bare t e)
 
   whole_judged : length the_whole ≤ 65535 → IsJudgedAs the_whole m
-  whole_judged few = seen_judged the_whole m (seen few 48 (unused_all 48 gs refl each) refl) (λ a h other. of_type few a h other (eqb h.asked.rtype 1 || eqb h.asked.rtype 28) refl)
+  whole_judged few = seen_judged the_whole m (seen few 48 (unused_all 48 gs refl each) refl) (λ t other. of_type few t (eqb-back 41 t ∙ other) (eqb t 1 || eqb t 28) refl)
 
   response_judged : (octets : List ℕ) → is_truncated octets ≡ false → AnswersQuery limit size q m gs octets → IsJudgedAs octets m
   response_judged octets clear (read, reads, are) =
@@ -381,3 +381,9 @@ clients_told s t q p old new before behind key_octets octets whole d other r a h
     let keys = (responses_judged s q old new key_octets whole d).keys a (record h { answer_bytes = octets }) in
     let answers = (responses_judged t p before behind octets other r).answers a (record h { dnskey_bytes = d.m }) in
     answers_given a pointer_limit (record h { dnskey_bytes = d.m; answer_bytes = r.m }) answer small (subst (AnswersAs answer) (keys ∙ answers) exact) mode rs given
+
+pub clients_shown : ClientsAreShown
+clients_shown s t q p old new before behind key_octets octets whole d other r a h mode rs small given =
+    alike_shows_alike a pointer_limit h mode rs key_octets d.m octets r.m (responses_judged s q old new key_octets whole d).seen (responses_judged t p before behind octets other r).proves
+    (inl (answered a pointer_limit (record h { dnskey_bytes = d.m; answer_bytes = r.m }) mode rs small given))
+    (given_is_shown a pointer_limit (record h { dnskey_bytes = d.m; answer_bytes = r.m }) mode rs small given)

@@ -1,8 +1,3 @@
-pub mod Picked
-pub mod UsedAlike
-pub mod LinksAlike
-pub mod FactsAlike
-pub mod JudgedAlike
 pub mod Lists
 pub mod Nowhere
 pub mod Framed

@@ -29,8 +29,8 @@ use Rattle.answer_judge.specs.Judging.{JudgeInput, is_judged}
 use Rattle.answer_judge.specs.Judged.{judged}
 use Rattle.answer_judge_facts.specs.Times.{proof_times}
 use Rattle.answer_judge_facts.specs.Verified.{verified_facts}
-use Rattle.server_laws.specs.SeenAlike.{is_used}
-use Rattle.server_laws.proofs.FactsAlike.{all_times, facts_alike}
+use Rattle.message_laws.specs.SeenAlike.{is_used}
+use Rattle.message_laws.proofs.FactsAlike.{all_times, facts_alike}
 use Rattle.server_answers.specs.Composed.{IsWritten, joined}
 use Rattle.server_answers.specs.Glue.{glue}
 use Rattle.server_answers.specs.Glued.{AnswersGlued}

@@ -12,7 +12,7 @@ use Rattle.messages.specs.Message.{Asked, Message, message, pair}
 use Rattle.messages.specs.Written.{Written, question_octets, record_octets, written}
 use Rattle.messages.specs.WrittenLaws.{IsQuestion, IsRecord, first_place, spelled_from}
 use Rattle.messages.proofs.MessageWritten.{StandsAt}
-use Rattle.server_laws.specs.SeenAlike.{is_used_type}
+use Rattle.message_laws.specs.SeenAlike.{is_used_type}
 use Rattle.server_answers.proofs.WritesGroups.{Holds, all_records, count_of}
 use Rattle.server_queries.specs.Headers.{has_flag}
 use Rattle.server_queries.specs.Queries.{Queried}

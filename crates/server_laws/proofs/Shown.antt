@@ -12,7 +12,7 @@ use Rattle.messages.specs.WrittenLaws.{AreSections, IsQuestion, IsRecord, first_
 use Rattle.messages.proofs.MessageWhole.{message_here}
 use Rattle.messages.proofs.MessageWritten.{StandsAt, end_of}
 use Rattle.answer_terms.specs.Alike.{IsLike}
-use Rattle.server_laws.specs.SeenAlike.{SeenAlike, is_covering, is_used, is_used_type}
+use Rattle.message_laws.specs.SeenAlike.{SeenAlike, is_covering, is_used, is_used_type}
 use Rattle.server_answers.proofs.WritesGroups.{Holds}
 use Rattle.server_answers.proofs.WritesRecords.{rest_stands}
 use Rattle.server_queries.specs.Queries.{Queried}

@@ -17,6 +17,8 @@ use Rattle.answer_zone_records.specs.AliasFaults.{IsAcceptedWithAliases}
 use Rattle.answer_judge.specs.Judging.{Answer, JudgeInput, Says}
 use Rattle.answer_judge.specs.Judged.{AnswersAs, judged}
 use Rattle.answer_judge.specs.Meeting.{WasGiven}
+use Rattle.message_laws.specs.SeenAlike.{ProvesAlike, SeenAlike}
+use Rattle.message_laws.specs.Shown.{IsShown}
 use Rattle.server_answers.specs.World.{World}
 use Rattle.server_queries.specs.Headers.{has_flag}
 use Rattle.server_queries.specs.Queries.{Queried}
@@ -52,10 +54,13 @@ pub record IsWhole (s : Serving) (q : Queried) (octets : List ℕ) : Type 0 wher
   pub size : s.size < 65536
   pub whole : is_truncated octets ≡ false
 
--- of one message a judge says what it says of another, as an answer and as a DNSKEY answer, beside whatever else
+-- Of one message a judge says what it says of another, as an answer and as a DNSKEY answer, beside whatever else. In both alike is
+-- proved of each type but OPT, 41, and they are seen alike as DNSKEY answers.
 pub record IsJudgedAs (one other : List ℕ) : Type 0 where
   pub answers : (a : Answers) (h : JudgeInput) → judged a pointer_limit (record h { answer_bytes = one }) ≡ judged a pointer_limit (record h { answer_bytes = other })
   pub keys : (a : Answers) (h : JudgeInput) → judged a pointer_limit (record h { dnskey_bytes = one }) ≡ judged a pointer_limit (record h { dnskey_bytes = other })
+  pub proves : (t : ℕ) → (t == 41) ≡ false → ProvesAlike pointer_limit t one other
+  pub seen : SeenAlike pointer_limit 48 one other
 
 -- a judge that is handed one of two messages as an answer says the same
 abbrev pub SaysAlike : Answers → JudgeInput → List ℕ → List ℕ → Type 0
@@ -125,3 +130,11 @@ ClientsAreTold =
     → (a : Answers) (h : JudgeInput) (mode : Mode) (rs : List HandedRr) → h.limit < 65536 → WasGiven a pointer_limit (record h { dnskey_bytes = d.m; answer_bytes = r.m }) mode rs
     → (answer : Answer) → AnswersAs answer (judged a pointer_limit (record h { dnskey_bytes = key_octets; answer_bytes = octets }))
     → AnswersAs answer (Says (verdict (zone_of h.apex rs) (optout_of mode) h.asked.name h.asked.rtype))
+
+-- And these responses show what the zone answers, so that walks over them come to verdicts.
+abbrev pub ClientsAreShown : Type 0
+ClientsAreShown =
+    (s t : Serving) (q p : Queried) (old new before behind : Option ℕ) (key_octets octets : List ℕ)
+    → IsWhole s q key_octets → (d : IsAnswered s q old new key_octets) → IsWhole t p octets → (r : IsAnswered t p before behind octets)
+    → (a : Answers) (h : JudgeInput) (mode : Mode) (rs : List HandedRr) → h.limit < 65536 → WasGiven a pointer_limit (record h { dnskey_bytes = d.m; answer_bytes = r.m }) mode rs
+    → IsShown a pointer_limit (record h { dnskey_bytes = key_octets; answer_bytes = octets }) mode rs

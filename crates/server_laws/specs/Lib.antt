@@ -1,4 +1,3 @@
-pub mod SeenAlike
 pub mod Heard
 pub mod Synthesized
 pub mod Aliased

@@ -1,6 +1,7 @@
 //! Laws of the responses of a name server.
 ghost use Rattle.server_laws.specs.Aliased.{AliasesAreAnswered, AllowedAreAliased};
-ghost use Rattle.server_laws.specs.Heard.{AliasesJudgedAlike, ClientsAreTold, DenialsJudgedAlike};
+ghost use Rattle.server_laws.specs.Heard.{AliasesJudgedAlike, ClientsAreShown, ClientsAreTold};
+ghost use Rattle.server_laws.specs.Heard.{DenialsJudgedAlike};
 ghost use Rattle.server_laws.specs.Heard.{ParametersJudgedAlike, ResponsesJudgedAlike};
 ghost use Rattle.server_laws.specs.Heard.{SubsetsJudgedAlike};
 ghost use Rattle.server_laws.specs.Redirected.{RedirectsAreMade, RedirectsJudgedAlike};
@@ -66,9 +67,11 @@ pub fn aliases_answer_for_their_names()
 
 /// So the verdict reaches the clients of a name server: from the whole responses to two queries,
 /// one for the keys, that are made of what a zone under keys that meet has given, a judge says the
-/// zone's verdict.
+/// zone's verdict. The responses show what the zone answers, so a walk over the responses of such
+/// zones is stuck only for want of memory.
 pub fn clients_are_told_the_verdict()
-    ensures { ClientsAreTold }
+    ensures told { ClientsAreTold }
+    ensures shown { ClientsAreShown }
 {}
 
 /// A zone answers alike for all types of which it holds no record, but DS, which is the parent's at

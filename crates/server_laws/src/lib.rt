@@ -1,5 +1,4 @@
 //! What a judge returns for the responses of a name server.
 #![tactic(auto)]
 
-pub mod alike;
 pub mod laws;

@@ -35,7 +35,7 @@ use Rattle.answer_findings.specs.Hints.{answer_records, has_cname_hint}
 use Rattle.answer_findings.specs.Judgements.{alias_hint, asking}
 use Rattle.walk_laws.specs.Aliased.{WasGivenWithAliases}
 use Rattle.walk_laws.proofs.Gave.{usable, zone_servable}
-use Rattle.walk_laws.proofs.Whether.{of_chain, unsigned}
+use Rattle.message_laws.proofs.Whether.{of_chain, unsigned}
 
 -- records that suggest a DNAME above the name, and a CNAME at it
 abbrev hints_dname : JudgeInput → Spelled → Bool

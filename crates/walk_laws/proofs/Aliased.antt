@@ -5,8 +5,6 @@ use Rattle.std.proofs.lemmas.Bool.{false≢true}
 use Rattle.definitions.specs.Limits.{pointer_limit}
 use Rattle.definitions.specs.Name.{Name}
 use Rattle.definitions.specs.Zone.{Open, Verdict}
-use Rattle.definitions.specs.ZoneChain.{Mode}
-use Rattle.messages.specs.HandedRr.{HandedRr}
 use Rattle.messages.specs.Message.{Asked}
 use Rattle.answer_judge.specs.Judged.{AnswersAs, judged}
 use Rattle.answer_judge.specs.Judging.{Answer, JudgeInput, Refuses, Says, answer_of}
@@ -24,8 +22,7 @@ use Rattle.answer_findings.specs.Table.{AgreesWith, Checked, Tried, answers_with
 use Rattle.resolution_step.specs.Told.{StepSeen, TellsNoCut, TellsNoneBelow, TellsNothing, Search, Sees, Refuses as Refused_so, Wants, IsCutTold, IsSearchTold, IsSeenTold, IsTold, at_cut, cut_said, cut_searched, cut_told, verdict_told}
 use Rattle.resolution_step.specs.declared.judged_step.Counts.{Counts}
 use Rattle.resolution_walk.specs.Between.{IsNothing}
-use Rattle.walk_laws.specs.Aliased.{WasGivenWithAliases}
-use Rattle.walk_laws.proofs.Leads.{IsLead, IsLed}
+use Rattle.message_laws.proofs.ShownLeads.{IsLead, IsLed}
 use Rattle.walk_laws.proofs.Saying.{IsOfKind, IsSearchOfKind, search_so}
 
 -- ---- what is found where an alias leads on
@@ -45,8 +42,7 @@ lead_is SeesOpen is = is
 lead_is (SeesDname owner lead) is = is
 lead_is (SeesReferral c datas) is = is
 
-module _ (passes : Tried → Bool) (table : List Checked) (agrees : AgreesWith table passes) (h : JudgeInput) (mode : Mode) (rs : List HandedRr) (given : WasGivenWithAliases (answers_with passes) pointer_limit h mode rs)
-    (led : IsLed (answers_with passes) pointer_limit h mode rs given)
+module _ (passes : Tried → Bool) (table : List Checked) (agrees : AgreesWith table passes) (h : JudgeInput) (led : IsLed (answers_with passes) pointer_limit h)
     (honest : (js : Result Judgement Refused) → IsJudgedBy table (aside h h.asked) js → (v : Verdict) → answer_of js ≡ Says v → v ≡ Open) where
   abbrev itself : JudgeInput
   itself = aside h h.asked

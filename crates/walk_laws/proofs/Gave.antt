@@ -1,5 +1,5 @@
 -- What a judge says of the RRsets that a zone with aliases has given.
-use Rattle.std.proofs.Common.{◌≡◌, ℕ, ◌<◌, Bool, true, false, not, ◌&&◌, ◌||◌, List, [], ◌∷◌, length, map, Option, Some, None, eqb, leb, refl, sym, ap, subst, ◌∙◌, ◌⊎◌, inl, inr, arith, lit<}
+use Rattle.std.proofs.Common.{◌≡◌, ℕ, ◌<◌, Bool, true, false, not, ◌&&◌, ◌||◌, List, [], ◌∷◌, length, map, Option, Some, None, eqb, leb, refl, sym, ap, subst, ◌∙◌, inl, inr, arith, lit<}
 use Rattle.std.specs.Prelude.{IfSome, is_none, nat_lt, if◌then◌else◌}
 use Rattle.std.specs.Option.{is_some}
 use Rattle.std.specs.List.{AllByRecursion, filter, find, list_any}
@@ -54,9 +54,11 @@ use Rattle.answer_judge.proofs.GivenMoments.{told_alike}
 use Rattle.answer_judge.proofs.GivenRrset.{is_ordinary}
 use Rattle.answer_judge.proofs.OwnAnswer.{Proves, own_front}
 use Rattle.answer_findings.specs.Judgements.{aside}
-use Rattle.walk_laws.specs.Aliased.{WasGivenWithAliases, in_place}
+use Rattle.message_laws.specs.InPlace.{in_place}
+use Rattle.walk_laws.specs.Aliased.{WasGivenWithAliases}
 use Rattle.walk_laws.proofs.Keys.{apart, chained, named}
-use Rattle.walk_laws.proofs.Parts.{chained_by, first_of, judged_by, proved_by}
+use Rattle.message_laws.proofs.Parts.{chained_by, first_of, judged_by, proved_by}
+use Rattle.message_laws.proofs.Shown.{SaysOrLacks}
 
 no_and : (b : Bool) → (b && false) ≡ false
 no_and true = refl
@@ -87,10 +89,6 @@ expands_inside apex q t gs (Some x) (g, there, is) = λ wide.
     let wider = and_parts (may_expand g.rtype && nat_lt (label_count g.source) (label_count g.owner)) (leb (length apex) (label_count g.source)) (ap (λ b. b || (may_expand g.rtype && nat_lt (label_count g.source) (label_count g.owner) && leb (length apex) (label_count g.source))) (sym unlike) ∙ is.fits) in
     let far = leb-true (length apex) (label_count g.source) wider.1 in
     omega (arith, far, counted)
-
--- a judgement says something, or that nothing is proven
-abbrev pub SaysOrLacks : Answer → Type 0
-SaysOrLacks answer = ((v : Verdict) × (answer ≡ Says v)) ⊎ (answer ≡ Refuses r.NotProven)
 
 module _ (a : Answers) (k : ℕ) (h : JudgeInput) (mode : Mode) (rs : List HandedRr) (given : WasGivenWithAliases a k h mode rs) where
   abbrev z : Zone

@@ -1,16 +1,18 @@
 -- A judge does not refuse keys that were given.
-use Rattle.std.proofs.Common.{◌≡◌, ℕ, ◌<◌, Bool, true, false, not, ◌&&◌, List, [], ◌∷◌, length, map, Option, Some, None, Result, Ok, Err, refl, ap, ◌∙◌, inl, inr, arith}
+use Rattle.std.proofs.Common.{◌≡◌, ℕ, ◌<◌, Bool, true, false, not, ◌&&◌, List, [], ◌∷◌, length, map, Option, Some, None, Result, Ok, Err, refl, sym, ap, ◌∙◌, inl, inr, arith}
 use Rattle.std.specs.Prelude.{nat_eq, if◌then◌else◌}
 use Rattle.std.specs.List.{filter}
-use Rattle.std.proofs.lemmas.Bool.{lt-ltb, ne_eqb}
+use Rattle.std.proofs.lemmas.Bool.{and_from, eq-eqb, false≢true, lt-ltb, ne_eqb}
 use Rattle.definitions.specs.Dnskey.{Dnskey, Ds, dnskey_data, key_tag}
+use Rattle.definitions.specs.Name.{low}
 use Rattle.definitions.specs.Zone.{Verdict, sorted_data}
 use Rattle.definitions.specs.ZoneChain.{Mode}
 use Rattle.denial_laws.specs.Facts.{Facts}
 use Rattle.messages.specs.HandedRr.{HandedRr}
-use Rattle.messages.specs.Message.{Message, message}
+use Rattle.messages.specs.Message.{Asked, Message, message}
 use Rattle.messages.specs.declared.error.MessageError.{MessageError}
 use Rattle.messages.proofs.Lists.{Has, all_at}
+use Rattle.messages.proofs.ZoneNames.{labels_eq-same}
 use Rattle.answer_scheme.specs.Answers.{Answers}
 use Rattle.answer_terms.specs.EqualTags.{has_equal_tags}
 use Rattle.answer_terms.specs.Served.{ServedRrset, by_tag, key_group}
@@ -27,7 +29,9 @@ use Rattle.answer_judge.proofs.GivenChained.{keys_apart, keys_data, keys_has, tr
 use Rattle.answer_judge.proofs.GivenLists.{has_contained}
 use Rattle.answer_judge.proofs.GivenSignatures.{IsSignedBy, fits_equal, verified_given}
 use Rattle.walk_laws.specs.Keys.{GivenKeysAreTrusted, KeysWereGiven, is_refused_for_keys}
-use Rattle.walk_laws.proofs.Parts.{chained_by, first_of, judged_by, proved_by}
+use Rattle.message_laws.specs.Shown.{ShowsKeys}
+use Rattle.message_laws.proofs.Parts.{chained_by, first_of, judged_by, proved_by}
+use Rattle.message_laws.proofs.Shown.{some_named}
 
 -- no refusal behind the keys is one for them
 proved_beside : (unlike mixed over unhashed : Bool) (decided : Option Verdict) → is_refused_for_keys (proved_by unlike mixed over unhashed decided) ≡ false
@@ -86,32 +90,52 @@ module _ (a : Answers) (k : ℕ) (h : JudgeInput) (given : KeysWereGiven a k h.a
       ap (is_verified w k h.dnskey_bytes read.records h.apex 48) (ap sorted_data are ∙ sorted_twice (map dnskey_data given.present))
       ∙ verified_given w k h.dnskey_bytes read.records h.apex given.at given.life (by_tag given.keysigners) (g ∷ []) h.apex 48 g anchor given.told.groups_are by refl refl
 
-  -- ---- with whatever answer beside them
+  -- so they are shown
+  pub keys_shown : ShowsKeys a k h.apex h.ds h.dnskey_bytes h.now
+  keys_shown = record {
+    read = read;
+    reads = given.told.reads;
+    asks =
+        let x : Asked = read.asked in
+        and_from _ _ (and_from _ _ (labels_eq-same (low x.name) (low h.apex) given.told.name_is) (eq-eqb x.rtype 48 given.told.rtype_is)) (eq-eqb x.class 1 given.told.class_is);
+    ds_some = λ none. false≢true (sym named ∙ ap (λ (ds : List Ds). nat_eq (length ds) 0) none);
+    tags = apart;
+    signed = chained;
+  }
+
+-- ---- keys that are shown, with whatever answer beside them
+
+module _ (a : Answers) (k : ℕ) (h : JudgeInput) (shown : ShowsKeys a k h.apex h.ds h.dnskey_bytes h.now) where
+  abbrev key_answer : Message
+  key_answer = shown.read
+
+  abbrev shown_keys : List Dnskey
+  shown_keys = keys_of h key_answer
 
   abbrev facts : Message → Facts
-  facts m = facts_in a k h (filter is_usable keys) m
+  facts m = facts_in a k h (filter is_usable shown_keys) m
 
   abbrev is_asked : Message → Bool
-  is_asked m = same_question read.asked (record { name = h.apex; rtype = 48; class = 1 }) && may_ask h m.asked
+  is_asked m = same_question key_answer.asked (record { name = h.apex; rtype = 48; class = 1 }) && may_ask h m.asked
 
   abbrev by_question : Message → Bool → Bool → Bool → Answer
   by_question m asked tags authentic = elim (if not asked then Some r.QuestionMismatch else if tags then Some r.EqualTags else None) [
     | Some e ↦ Refuses e
-    | None ↦ chained_by authentic (judged_answer a k h (filter is_usable keys) m)
+    | None ↦ chained_by authentic (judged_answer a k h (filter is_usable shown_keys) m)
   ]
 
   whichever : (m : Message) (asked : Bool) → is_refused_for_keys (by_question m asked false true) ≡ false
   whichever m false = refl
-  whichever m true = proved_beside (h.one_moment && has_unlike_times a k h (filter is_usable keys) m) (are_mixed (facts m).hash_links) (are_over h.limit (facts m).hash_links) (is_unhashed a h (facts m)) (decided_by a h (facts m))
+  whichever m true = proved_beside (h.one_moment && has_unlike_times a k h (filter is_usable shown_keys) m) (are_mixed (facts m).hash_links) (are_over h.limit (facts m).hash_links) (is_unhashed a h (facts m)) (decided_by a h (facts m))
 
-  beside : (asked : Bool) (answer : Result Message MessageError) → is_refused_for_keys (judged_by asked false (Ok read) answer (first_of h) (judged_messages a k h)) ≡ false
+  beside : (asked : Bool) (answer : Result Message MessageError) → is_refused_for_keys (judged_by asked false (Ok key_answer) answer (first_of h) (judged_messages a k h)) ≡ false
   beside false answer = refl
   beside true (Err e) = refl
-  beside true (Ok m) = (λ i. is_refused_for_keys (by_question m (is_asked m) (apart i) (chained i))) ∙ whichever m (is_asked m)
+  beside true (Ok m) = (λ i. is_refused_for_keys (by_question m (is_asked m) (shown.tags i) (shown.signed i))) ∙ whichever m (is_asked m)
 
   unrefused : is_refused_for_keys (judged a k h) ≡ false
   unrefused =
-      (λ i. is_refused_for_keys (judged_by (is_judged h) (named i) (given.told.reads i) (message k h.answer_bytes) (first_of h) (judged_messages a k h)))
+      (λ i. is_refused_for_keys (judged_by (is_judged h) (some_named h.ds shown.ds_some i) (shown.reads i) (message k h.answer_bytes) (first_of h) (judged_messages a k h)))
       ∙ beside (is_judged h) (message k h.answer_bytes)
 
   pub keys_trusted : (answer : Answer) → AnswersAs answer (judged a k h) → is_refused_for_keys answer ≡ false
@@ -140,6 +164,7 @@ keys_given a k h mode rs given = record {
 
 pub given_keys_are_trusted : GivenKeysAreTrusted
 given_keys_are_trusted = record {
-  trusted = λ a k h answer given. keys_trusted a k h given answer;
+  trusted = λ a k h answer shown. keys_trusted a k h shown answer;
+  shown = keys_shown;
   given = keys_given;
 }

@@ -1,4 +1,4 @@
--- Where a zone's keys were given, no answer that tells nothing is refused for them.
+-- Where a zone's keys are shown, no answer that tells nothing is refused for them.
 use Rattle.std.proofs.Common.{◌≡◌, ℕ, Bool, true, false, List, [], ◌∷◌, Option, Some, None, Result, Err, refl, sym, ap, subst, ◌∙◌}
 use Rattle.std.specs.Prelude.{◌&&◌, ◌==◌, if◌then◌else◌}
 use Rattle.definitions.specs.Dnskey.{Ds}
@@ -22,7 +22,8 @@ use Rattle.resolution_step.specs.Told.{StepSeen, TellsVerdict, TellsLead, TellsD
 use Rattle.resolution_step.specs.declared.judged_step.Counts.{Counts}
 use Rattle.resolution_walk.specs.Between.{IsNothing}
 use Rattle.resolution_walk.specs.Judged.{are_keys_refused, is_of_keys}
-use Rattle.walk_laws.specs.Keys.{KeysWereGiven, is_refused_for_keys}
+use Rattle.message_laws.specs.Shown.{ShowsKeys}
+use Rattle.walk_laws.specs.Keys.{is_refused_for_keys}
 use Rattle.walk_laws.proofs.Keys.{keys_trusted}
 
 -- what is told is no refusal for keys
@@ -90,10 +91,10 @@ referral_trusting : (algorithms : List ℕ) (c : Name) (datas : List (List ℕ))
 referral_trusting algorithms c datas true = refl
 referral_trusting algorithms c datas false = known_trusting (low c) datas (known_ds algorithms datas)
 
--- ---- of a case whose keys were given
+-- ---- of a case whose keys are shown
 
 module _ (passes : Tried → Bool) (table : List Checked) (agrees : AgreesWith table passes) (algorithms : List ℕ) where
-  module _ (h : JudgeInput) (given : KeysWereGiven (answers_with passes) pointer_limit h.apex h.ds h.dnskey_bytes h.now) where
+  module _ (h : JudgeInput) (given : ShowsKeys (answers_with passes) pointer_limit h.apex h.ds h.dnskey_bytes h.now) where
     own_trusting : (js : Result Judgement Refused) → IsJudgedBy table h js → is_refused_for_keys (answer_of js) ≡ false
     own_trusting js is = keys_trusted (answers_with passes) pointer_limit h given (answer_of js) (is.by_table passes agrees).exact
 
@@ -130,7 +131,7 @@ module _ (passes : Tried → Bool) (table : List Checked) (agrees : AgreesWith t
         go (Refused_so e) kept = kept
         go (Wants asks) kept = tt
 
-  module _ (h : JudgeInput) (given : KeysWereGiven (answers_with passes) pointer_limit h.apex h.ds h.dnskey_bytes h.now) where
+  module _ (h : JudgeInput) (given : ShowsKeys (answers_with passes) pointer_limit h.apex h.ds h.dnskey_bytes h.now) where
     seen_trusting : (x : Seen) (fl : Option Validity) (fn : Counts) (said : StepSeen) (l : Option Validity) (n : Counts) → IsSeenTold algorithms table h x fl fn said l n → IsTrusting said
     seen_trusting (SeesVerdict v) fl fn said l n k = subst IsTrusting (sym k.0) (verdict_trusting v)
     seen_trusting (SeesDelegated None) fl fn said l n k = subst IsTrusting (sym k.0) refl

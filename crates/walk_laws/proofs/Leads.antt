@@ -1,21 +1,19 @@
 -- Where a zone has given an alias in place of what is asked for, a judge finds where it leads.
-use Rattle.std.proofs.Common.{◌≡◌, ℕ, Bool, true, false, not, ◌&&◌, ◌||◌, List, [], ◌∷◌, map, Option, Some, None, cond, eqb, refl, sym, ap, subst, ◌∙◌, inl, arith}
+use Rattle.std.proofs.Common.{◌≡◌, ℕ, Bool, true, false, not, ◌&&◌, ◌||◌, List, [], ◌∷◌, map, Option, Some, None, eqb, refl, sym, ap, subst, ◌∙◌, inl, arith}
 use Rattle.std.specs.Prelude.{◌==◌, Contains, IsSome, is_none, nat_eq, nat_le, nat_lt, if◌then◌else◌}
 use Rattle.std.specs.List.{AllByRecursion, filter}
 use Rattle.std.proofs.lemmas.Bool.{and_from, and_parts, false≢true, ltb-true, not-true, or_left, or_parts, or_right}
 use Rattle.definitions.specs.Name.{Name, at_or_above, low, strictly_above, wire}
 use Rattle.definitions.specs.Signing.{label_count}
-use Rattle.definitions.specs.Zone.{Open, Records, StarRecords, NoType, NoName, StarNoType, Delegated, Rr, Verdict, Zone, apex_of, cut_above, data_at, has, is_delegation, is_live, is_of, is_open, star_under, verdict}
+use Rattle.definitions.specs.Zone.{Records, Rr, Verdict, Zone, apex_of, cut_above, data_at, has, is_delegation, is_live, is_of, verdict}
 use Rattle.definitions.specs.ZoneChain.{Mode, Nsec, Nsec3, optout_of}
-use Rattle.definitions.proofs.VerdictCases.{verdict-open}
-use Rattle.definitions.proofs.ZoneNames.{above_itself, above_lowered, lowered_above}
+use Rattle.definitions.proofs.ZoneNames.{above_lowered, lowered_above}
 use Rattle.denial_laws.specs.Deciding.{by_wildcard}
 use Rattle.denial_laws.specs.Facts.{Facts, Rrset, is_expanded}
 use Rattle.denial_laws.specs.Leading.{exchanged}
 use Rattle.denial_laws.specs.Truth.{concerned, is_signed}
-use Rattle.denial_laws.proofs.NameFacts.{strictly-low, strictly_at}
+use Rattle.denial_laws.proofs.NameFacts.{strictly-low}
 use Rattle.denial_laws.proofs.Verdicts.{verdict_signed}
-use Rattle.denial_laws.proofs.VerdictView.{View, Signed, Missing, Cut, Starred, Unstarred, Gone, view}
 use Rattle.messages.specs.HandedRr.{HandedRr, among}
 use Rattle.messages.specs.Message.{Asked}
 use Rattle.messages.proofs.Lists.{eqb-back}
@@ -37,34 +35,19 @@ use Rattle.answer_judge.proofs.GivenRrset.{is_ordinary, verified_rrset_given}
 use Rattle.answer_judge.proofs.GivenSignatures.{IsSignedBy, fits_equal}
 use Rattle.answer_judge.proofs.OwnAnswer.{some_data}
 use Rattle.answer_judge.specs.Judging.{JudgeInput, Says, is_judged}
-use Rattle.answer_judge.specs.declared.verdict.Refusal.TheVariants as r
 use Rattle.answer_judge_keys.proofs.GivenKeys.{by_tag-has}
 use Rattle.answer_judge_keys.proofs.GivenSorted.{sorted_twice}
 use Rattle.answer_judge.specs.Judged.{decided_by, judged, judged_answer, judged_proof, trusting}
 use Rattle.answer_judge_facts.specs.Verified.{Trusting, verified_hash_links, verified_links, verified_rrset}
-use Rattle.answer_findings.specs.Judgements.{alias_hint, aside, asking}
-use Rattle.answer_findings.specs.Seen.{Seen, SeesAlias, SeesStarAlias, SeesOpen, SeesDname, lead_said, named_lead, own_lead, star_lead}
-use Rattle.walk_laws.specs.Aliased.{SpellsOne, WasGivenWithAliases, in_place}
-use Rattle.walk_laws.proofs.Ahead.{IsAhead, IsFirst, cname_hinted, closed, dname_hinted, first_record, front, groups_of, missing, tells, types, unfound}
-use Rattle.walk_laws.proofs.Gave.{SaysOrLacks, alike, alone, found, judged_elsewhere, judged_in_place, judged_there, kind, n_inside, usable, zone_servable}
-use Rattle.walk_laws.proofs.Parts.{proved_by}
-
--- what is found leads on, or leaves the name open
-abbrev pub IsLead : Seen → Type 0
-IsLead (SeesAlias target) = Unit {0}
-IsLead (SeesStarAlias target) = Unit {0}
-IsLead SeesOpen = Unit {0}
-IsLead (SeesDname owner lead) = Unit {0}
-IsLead _ = ⊥
-
--- a DNAME that redirects a name stands above it
-redirecting_above : (z : Zone) (q d : Name) → redirecting z q ≡ Some d → strictly_above d q ≡ true
-redirecting_above z [] d e = absurd cc
-redirecting_above z (l ∷ q) d e = go (has z (low q) 39 && is_live z (low q)) e (redirecting_above z q d)
-  where
-    go : (b : Bool) → cond b (Some q) (redirecting z q) ≡ Some d → (redirecting z q ≡ Some d → strictly_above d q ≡ true) → at_or_above d q ≡ true
-    go true is later = let same : q ≡ d = cc in subst (λ (x : Name). at_or_above x q ≡ true) same (above_itself q)
-    go false is later = strictly_at d q (later is)
+use Rattle.answer_findings.specs.Judgements.{aside, asking}
+use Rattle.answer_findings.specs.Seen.{SeesDname, lead_said, named_lead, own_lead}
+use Rattle.message_laws.specs.InPlace.{SpellsOne, in_place}
+use Rattle.walk_laws.specs.Aliased.{WasGivenWithAliases}
+use Rattle.walk_laws.proofs.Ahead.{IsAhead, IsFirst, cname_hinted, dname_hinted, first_record, front, groups_of, missing, tells, types}
+use Rattle.walk_laws.proofs.Gave.{alike, alone, found, judged_elsewhere, judged_in_place, judged_there, kind, n_inside, usable, zone_servable}
+use Rattle.message_laws.proofs.Parts.{proved_by}
+use Rattle.message_laws.proofs.Shown.{SaysOrLacks}
+use Rattle.message_laws.proofs.ShownLeads.{IsLed, Leads, cname_leads, redirecting_above}
 
 no_and : (b : Bool) → (b && false) ≡ false
 no_and true = refl
@@ -82,17 +65,6 @@ module _ (a : Answers) (k : ℕ) (h : JudgeInput) (mode : Mode) (rs : List Hande
 
   abbrev s : Served
   s = served_from a h mode rs
-
-  -- the alias that is suggested is judged, and leads on
-  pub record IsLed : Type 0 where
-    pub question : Asked
-    pub hinted : alias_hint k h ≡ Some question
-    pub verdict_is : Verdict
-    pub judged_is : judged a k (aside h question) ≡ Says verdict_is
-    pub lead : Seen
-    pub is_lead : IsLead lead
-    pub leads : lead_said h question (Says verdict_is) ≡ Some lead
-    pub unproven : SaysOrLacks (judged a k (aside h h.asked))
 
   -- ---- the question
 
@@ -147,37 +119,10 @@ module _ (a : Answers) (k : ℕ) (h : JudgeInput) (mode : Mode) (rs : List Hande
         subst SaysOrLacks (sym (judged_there a k h mode rs given h.asked (or_right (asks_alias h.apex h.asked) (is_allowed h.apex h.asked) given.allowed)))
         (judged_elsewhere a k h mode rs given (missing a k h mode rs given n 5 refl told x n t (eqb-back 5 t ∙ other_types.2) (eqb-back 47 t ∙ other_types.0) (eqb-back 50 t ∙ other_types.1)))
 
-    -- where it leads
-    pub record Leads (v : Verdict) : Type 0 where
-      pub lead : Seen
-      pub is_lead : IsLead lead
-      pub leads : lead_said h cname (Says v) ≡ Some lead
+    leads_so : Leads z (zone_servable a k h mode rs given) (optout_of mode) h (n_inside a k h mode rs given) there spells (verdict z (optout_of mode) n 5)
+    leads_so = cname_leads z (zone_servable a k h mode rs given) (optout_of mode) h (n_inside a k h mode rs given) there spells
 
-    by_own : (datas : List (List ℕ)) → SpellsOne (Records datas) → Leads (Records datas)
-    by_own datas (target, one) = record { lead = SeesAlias target; is_lead = tt; leads = ap (named_lead (own_lead h cname)) one }
-
-    by_star : (datas : List (List ℕ)) → SpellsOne (StarRecords datas) → Leads (StarRecords datas)
-    by_star datas (target, one) = record { lead = SeesStarAlias target; is_lead = tt; leads = ap (named_lead (star_lead cname)) one }
-
-    by_open : Leads Open
-    by_open = record { lead = SeesOpen; is_lead = tt; leads = refl }
-
-    leads_so : Leads (verdict z (optout_of mode) n 5)
-    leads_so = go (view z (zone_servable a k h mode rs given) n 5 (n_inside a k h mode rs given))
-      where
-        starred : (e : Name) → verdict z false n 5 ≡ StarRecords (data_at z (star_under e) 5) → (b : Bool) → is_open z (optout_of mode) (low n) ≡ b → Leads (verdict z (optout_of mode) n 5)
-        starred e v false o = subst Leads (sym (closed a k h mode rs given n 5 o ∙ v)) (by_star (data_at z (star_under e) 5) (subst SpellsOne v spells))
-        starred e v true o = subst Leads (sym (verdict-open z (optout_of mode) n (low n) 5 refl o)) by_open
-
-        go : View z n 5 → Leads (verdict z (optout_of mode) n 5)
-        go (Signed y v) = subst Leads (sym (verdict_signed z (optout_of mode) n 5 y)) (by_own (data_at z (low n) 5) (subst SpellsOne v spells))
-        go (Starred e y c w v) = starred e v (is_open z (optout_of mode) (low n)) refl
-        go (Missing y w v) = unfound a k h mode rs given n 5 NoType there v refl
-        go (Cut c e y v) = unfound a k h mode rs given n 5 Delegated there v refl
-        go (Unstarred e y c w u v) = unfound a k h mode rs given n 5 StarNoType there v refl
-        go (Gone e y c w v) = unfound a k h mode rs given n 5 NoName there v refl
-
-    pub led_by_cname : IsLed
+    pub led_by_cname : IsLed a k h
     led_by_cname = record {
       question = cname;
       hinted = cname_hinted a k h mode rs given n 5 refl told x refl refl in_zone.1 other_types.2;
@@ -319,7 +264,7 @@ module _ (a : Answers) (k : ℕ) (h : JudgeInput) (mode : Mode) (rs : List Hande
         ap (named_lead (own_lead h question)) spells_there.1
         ∙ ap (λ b. if b then Some (SeesDname owner (exchanged n owner spells_there.0)) else None) owner_above
 
-    pub led_by_dname : IsLed
+    pub led_by_dname : IsLed a k h
     led_by_dname = record {
       question = question;
       hinted = dname_hinted a k h mode rs given d 39 refl given_there stands refl owner_inside owner_above;

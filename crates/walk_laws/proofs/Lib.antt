@@ -7,10 +7,7 @@ pub mod Counting
 pub mod Deep
 pub mod Way
 pub mod Uncut
-pub mod Denied
-pub mod Parts
 pub mod Keys
-pub mod Whether
 pub mod WhetherFound
 pub mod KeysTold
 pub mod Saying
@@ -24,6 +21,7 @@ pub mod Leads
 pub mod Aliased
 pub mod ServedAliases
 pub mod Verdict
+pub mod ShownTrees
 pub mod EvidenceNames
 pub mod EvidenceZone
 pub mod EvidenceUnforged

@@ -29,13 +29,15 @@ use Rattle.resolution_walk.specs.Between.{IsNothing}
 use Rattle.resolution_walk.specs.Judged.{IsHeard, OfAnswer, OfName, are_keys_refused}
 use Rattle.resolution_walk.specs.declared.ending.Walk.{Walk}
 use Rattle.walk_laws.specs.Ending.{IsUntoldOf}
-use Rattle.walk_laws.specs.Keys.{KeysWereGiven}
+use Rattle.message_laws.specs.Shown.{ShowsKeys}
 use Rattle.walk_laws.specs.Served.{AnswersItself, AreServed, KeysAreRefused, KeyedTreesAreWalked, ServedTreesAreWalked, ServedZonesAreWalked, ZonesKeys, asking}
 use Rattle.walk_laws.proofs.Ending.{trees_are_walked}
+use Rattle.walk_laws.specs.Shown.{ShowZonesKeys}
+use Rattle.walk_laws.proofs.Keys.{keys_shown}
 use Rattle.walk_laws.proofs.KeysTold.{cut_told_trusting, nothing_trusting, told_trusting}
 use Rattle.walk_laws.proofs.Saying.{cut_nothing, proper, told_nothing}
 use Rattle.walk_laws.proofs.Stuck.{OnlyForMemory, keys_refused, never_at_end, only_one, stuck_for}
-use Rattle.walk_laws.proofs.Whether.{TellsDs}
+use Rattle.message_laws.proofs.Whether.{TellsDs}
 use Rattle.walk_laws.proofs.WhetherFound.{whether_found}
 
 -- ---- a zone's answers
@@ -83,7 +85,7 @@ module _ (passes : Tried → Bool) (e : Given) (asked : Asked) (zones : List Sig
           groups_are = given.answer_told.groups_are;
         } in
         cut_nothing e.algorithms e.table h (verdict_is s ds n 43 step.judged (inr refl) anchored none step.of) refl proper_one.0 proper_one.1 judges
-        (λ js are. whether_found passes e.table served.checked h n s.version.mode s.version.records tells below js are (judges js.own are.own)) said l counts refusal told cut nothing
+        (λ js are. whether_found passes e.table served.checked h n (verdict_is s ds n 43 step.judged (inr refl) anchored none step.of) (λ none_there. delegation_told (answers_with passes) pointer_limit h n s.version.mode s.version.records tells none_there below) below js are (judges js.own are.own)) said l counts refusal told cut nothing
 
   only_for_memory : OnlyForMemory e asked zones anchor
   only_for_memory = record {
@@ -95,12 +97,16 @@ pub served_trees_are_walked : TreesSayOne → TreesResolveToOne → ServedTreesA
 served_trees_are_walked one resolve_one passes e asked limits zones anchor said names w k served =
     stuck_for e limits said names w (keys_refused e asked limits.cuts zones anchor names k.of (only_for_memory passes e asked zones anchor served) w) (trees_are_walked one resolve_one e asked limits zones anchor said names w k)
 
--- ---- where keys were given
+-- ---- where keys are shown, as those that were given
 
-module _ (passes : Tried → Bool) (e : Given) (asked : Asked) (cuts : ℕ) (zones : List SignedZone) (anchor : SignedZone) (names : List Name) (checked : AgreesWith e.table passes) (keys : ZonesKeys passes e zones anchor) where
-  keys_there : (s : SignedZone) (ds : List Ds) (q : Asked) (h : JudgeInput) → IsAnchored e zones anchor s ds → IsOf e s.apex ds q h → KeysWereGiven (answers_with passes) pointer_limit h.apex h.ds h.dnskey_bytes h.now
+pub show_keys : (passes : Tried → Bool) (e : Given) (zones : List SignedZone) (anchor : SignedZone) → ZonesKeys passes e zones anchor → ShowZonesKeys passes e zones anchor
+show_keys passes e zones anchor keys s ds octets anchored there =
+    keys_shown (answers_with passes) pointer_limit (judge_input e s.apex ds (record { name = s.apex; rtype = 48; class = 1 }) octets []) (keys s ds octets anchored there)
+
+module _ (passes : Tried → Bool) (e : Given) (asked : Asked) (cuts : ℕ) (zones : List SignedZone) (anchor : SignedZone) (names : List Name) (checked : AgreesWith e.table passes) (keys : ShowZonesKeys passes e zones anchor) where
+  keys_there : (s : SignedZone) (ds : List Ds) (q : Asked) (h : JudgeInput) → IsAnchored e zones anchor s ds → IsOf e s.apex ds q h → ShowsKeys (answers_with passes) pointer_limit h.apex h.ds h.dnskey_bytes h.now
   keys_there s ds q h anchored is =
-      subst (λ (x : JudgeInput). KeysWereGiven (answers_with passes) pointer_limit x.apex x.ds x.dnskey_bytes x.now) (sym is.is) (keys s ds is.keys anchored is.keys_are)
+      subst (λ (x : JudgeInput). ShowsKeys (answers_with passes) pointer_limit x.apex x.ds x.dnskey_bytes x.now) (sym is.is) (keys s ds is.keys anchored is.keys_are)
 
   keys_unrefused : (w : Walk) (u : IsUntoldOf asked cuts zones anchor names e w) → are_keys_refused u.refusal ≡ false
   keys_unrefused w u = go u.untold.said u.untold.heard u.untold.nothing
@@ -116,7 +122,7 @@ module _ (passes : Tried → Bool) (e : Given) (asked : Asked) (cuts : ℕ) (zon
 
 pub keyed_trees_are_walked : TreesSayOne → TreesResolveToOne → KeyedTreesAreWalked
 keyed_trees_are_walked one resolve_one passes e asked limits zones anchor said names w k served =
-    stuck_for e limits said names w (never_refused passes e asked limits.cuts zones anchor names served.served.checked served.keys w)
+    stuck_for e limits said names w (never_refused passes e asked limits.cuts zones anchor names served.served.checked (show_keys passes e zones anchor served.keys) w)
     (served_trees_are_walked one resolve_one passes e asked limits zones anchor said names w k served.served)
 
 -- ---- one zone

@@ -36,16 +36,18 @@ use Rattle.evidence_laws.specs.Given.{Given, IsOf, judge_input}
 use Rattle.evidence_laws.specs.Truth.{IsAnchored, IsOfTree, SignedZone, zone_of}
 use Rattle.evidence_laws.specs.Walking.{IsNameStep, IsOwnStep}
 use Rattle.resolution_walk.specs.Between.{IsNothing}
-use Rattle.walk_laws.specs.Aliased.{AliasedTreesAreWalked, AreServedWithAliases, WasGivenWithAliases, in_place}
+use Rattle.message_laws.specs.InPlace.{in_place}
+use Rattle.walk_laws.specs.Aliased.{AliasedTreesAreWalked, AreServedWithAliases, WasGivenWithAliases}
 use Rattle.walk_laws.specs.Served.{AnswersItself, asking}
 use Rattle.walk_laws.proofs.Aliased.{alias_cut, alias_told}
 use Rattle.walk_laws.proofs.Ending.{trees_are_walked}
 use Rattle.walk_laws.proofs.Gave.{Place, Own, ByCname, ByDname, own_says, place, zone_servable}
-use Rattle.walk_laws.proofs.Leads.{IsLed, led_by_cname, led_by_dname}
+use Rattle.message_laws.proofs.ShownLeads.{IsLed}
+use Rattle.walk_laws.proofs.Leads.{led_by_cname, led_by_dname}
 use Rattle.walk_laws.proofs.Saying.{cut_nothing, proper, told_nothing}
-use Rattle.walk_laws.proofs.Served.{never_refused}
+use Rattle.walk_laws.proofs.Served.{never_refused, show_keys}
 use Rattle.walk_laws.proofs.Stuck.{OnlyForMemory, keys_refused, only_one, stuck_for}
-use Rattle.walk_laws.proofs.Whether.{TellsDs}
+use Rattle.message_laws.proofs.Whether.{TellsDs}
 use Rattle.walk_laws.proofs.WhetherFound.{whether_found}
 
 or_true : (b : Bool) → (b || true) ≡ true
@@ -53,7 +55,7 @@ or_true true = refl
 or_true false = refl
 
 -- what is an alias but for opt-out opt-out leaves open
-left_open : (z : Zone) (optout : Bool) (n : Name) (t : ℕ) → is_aliased z false n t ≡ true → is_aliased z optout n t ≡ false → is_open z optout (low n) ≡ true
+pub left_open : (z : Zone) (optout : Bool) (n : Name) (t : ℕ) → is_aliased z false n t ≡ true → is_aliased z optout n t ≡ false → is_open z optout (low n) ≡ true
 left_open z optout n t led none = go (is_open z optout (low n)) refl
   where
     go : (b : Bool) → is_open z optout (low n) ≡ b → b ≡ true
@@ -79,7 +81,7 @@ module _ (passes : Tried → Bool) (e : Given) (asked : Asked) (zones : List Sig
     IsPlace = Place (answers_with passes) pointer_limit input s.version.mode s.version.records given
 
     abbrev LedHere : Type 0
-    LedHere = IsLed (answers_with passes) pointer_limit input s.version.mode s.version.records given
+    LedHere = IsLed (answers_with passes) pointer_limit input
 
     honest_itself : IsHonestInput (answers_with of.passes) pointer_limit input (s.version ∷ [])
     honest_itself = subst (λ (x : JudgeInput). IsHonestInput (answers_with of.passes) pointer_limit x (s.version ∷ [])) is.is (of.honest s ds (asking asked n t) h refl anchored is).itself
@@ -130,7 +132,7 @@ module _ (passes : Tried → Bool) (e : Given) (asked : Asked) (zones : List Sig
             told_nothing e.algorithms e.table (input s ds n asked.rtype step.judged (inl refl) anchored none step.of) (verdict_is s ds n asked.rtype step.judged (inl refl) anchored none step.of) proper_one.0 proper_one.1
             (judged_own s ds n asked.rtype step.judged (inl refl) anchored none step.of same) said l counts refusal told nothing
         go (inr led) =
-            alias_told passes e.table served.checked (input s ds n asked.rtype step.judged (inl refl) anchored none step.of) s.version.mode s.version.records (given s ds n asked.rtype step.judged (inl refl) anchored none step.of) led.0
+            alias_told passes e.table served.checked (input s ds n asked.rtype step.judged (inl refl) anchored none step.of) led.0
             (honestly s ds n asked.rtype step.judged (inl refl) anchored none step.of led.1) e.algorithms said l counts refusal told nothing
 
     name_nothing : AnswersItself s n 43 → strictly_above s.apex n ≡ true → IsNameStep e s.apex ds (asking asked n 43) said l counts → said ≡ at_cut said → IsNothing said refusal → refusal ≡ Some r.Memory
@@ -159,9 +161,9 @@ module _ (passes : Tried → Bool) (e : Given) (asked : Asked) (zones : List Sig
             let proper_one = properly s ds n 43 step.judged (inr refl) anchored none step.of in
             let judges = judged_own s ds n 43 step.judged (inr refl) anchored none step.of same in
             cut_nothing e.algorithms e.table h (verdict_is s ds n 43 step.judged (inr refl) anchored none step.of) refl proper_one.0 proper_one.1 judges
-            (λ js are. whether_found passes e.table served.checked h n s.version.mode s.version.records (tells same) below js are (judges js.own are.own)) said l counts refusal told cut nothing
+            (λ js are. whether_found passes e.table served.checked h n (verdict_is s ds n 43 step.judged (inr refl) anchored none step.of) (λ none_there. delegation_told (answers_with passes) pointer_limit h n s.version.mode s.version.records (tells same) none_there below) below js are (judges js.own are.own)) said l counts refusal told cut nothing
         go (inr led) =
-            alias_cut passes e.table served.checked (input s ds n 43 step.judged (inr refl) anchored none step.of) s.version.mode s.version.records (given s ds n 43 step.judged (inr refl) anchored none step.of) led.0
+            alias_cut passes e.table served.checked (input s ds n 43 step.judged (inr refl) anchored none step.of) led.0
             (honestly s ds n 43 step.judged (inr refl) anchored none step.of led.1) e.algorithms said l counts refusal told cut nothing
 
   only_for_memory : OnlyForMemory e asked zones anchor
@@ -173,5 +175,5 @@ module _ (passes : Tried → Bool) (e : Given) (asked : Asked) (zones : List Sig
 pub aliased_trees_are_walked : TreesSayOne → TreesResolveToOne → AliasedTreesAreWalked
 aliased_trees_are_walked one resolve_one passes e asked limits zones anchor said names w k served =
     stuck_for e limits said names w
-    (λ u. never_refused passes e asked limits.cuts zones anchor names served.checked served.keys w (keys_refused e asked limits.cuts zones anchor names k.of (only_for_memory passes e asked zones anchor k.of served) w u))
+    (λ u. never_refused passes e asked limits.cuts zones anchor names served.checked (show_keys passes e zones anchor served.keys) w (keys_refused e asked limits.cuts zones anchor names k.of (only_for_memory passes e asked zones anchor k.of served) w u))
     (trees_are_walked one resolve_one e asked limits zones anchor said names w k)

@@ -4,11 +4,8 @@ use Rattle.std.specs.Prelude.{IfSome, if◌then◌else◌}
 use Rattle.std.proofs.lemmas.Bool.{false≢true}
 use Rattle.definitions.specs.Limits.{pointer_limit}
 use Rattle.definitions.specs.Name.{Name, same, strictly_above}
-use Rattle.definitions.specs.Zone.{Verdict, NoType, verdict}
-use Rattle.definitions.specs.ZoneChain.{Mode, optout_of}
-use Rattle.messages.specs.HandedRr.{HandedRr}
+use Rattle.definitions.specs.Zone.{Verdict, NoType}
 use Rattle.messages.specs.Message.{Asked}
-use Rattle.answer_terms.specs.Accepting.{zone_of}
 use Rattle.answer_judge.specs.Judged.{AnswersAs, judged}
 use Rattle.answer_judge.specs.Judging.{JudgeInput, Refuses, Says, answer_of}
 use Rattle.answer_judge.specs.declared.verdict.Refusal.TheVariants as r
@@ -18,21 +15,18 @@ use Rattle.answer_findings.specs.Found.{AreJudgements}
 use Rattle.answer_findings.specs.Judgements.{IsMade, IsMadeInMemory, aside, asked_in, asking, is_delegated, ns_question, question_of}
 use Rattle.answer_findings.specs.Seen.{delegates_found, delegates_said}
 use Rattle.answer_findings.specs.Table.{AgreesWith, Checked, Tried, answers_with}
-use Rattle.walk_laws.proofs.Whether.{SaysSome, TellsDs, delegation_told}
+use Rattle.message_laws.proofs.ShownDs.{SaysSome}
 
 -- whether it is was found
 abbrev pub IsWhetherFound : Option Bool → Type 0
 IsWhetherFound found = (d : Bool) × (found ≡ Some d)
 
-module _ (passes : Tried → Bool) (table : List Checked) (agrees : AgreesWith table passes) (h : JudgeInput) (n : Name) (mode : Mode) (rs : List HandedRr) where
+module _ (passes : Tried → Bool) (table : List Checked) (agrees : AgreesWith table passes) (h : JudgeInput) (n : Name) (verdict_is : Verdict) where
   abbrev of_ds : JudgeInput
   of_ds = aside h (asking h n 43)
 
   abbrev of_ns : JudgeInput
   of_ns = aside h (asking h n 2)
-
-  abbrev verdict_is : Verdict
-  verdict_is = verdict (zone_of h.apex rs) (optout_of mode) n 43
 
   -- a judgement of NS there says something
   made_says : (v : Verdict) → judged (answers_with passes) pointer_limit of_ns ≡ Says v → (made : _) → asked_in made ≡ Some (asking h n 2) → IfSome made (IsMade table h) → IfSome made IsMadeInMemory
@@ -47,7 +41,8 @@ module _ (passes : Tried → Bool) (table : List Checked) (agrees : AgreesWith t
       go (inl ran_out) = absurd (false≢true (sym in_memory ∙ ap is_out_of_memory ran_out))
       go (inr said) = (is_delegated v, ap delegates_said (said ∙ says))
 
-  module _ (given : TellsDs (answers_with passes) pointer_limit h n mode rs) (below : strictly_above h.apex n ≡ true) where
+  -- where the answer for DS says that there is none, the one for NS says something
+  module _ (tells : verdict_is ≡ NoType → judged (answers_with passes) pointer_limit of_ds ≡ Says NoType → SaysSome (judged (answers_with passes) pointer_limit of_ns)) (below : strictly_above h.apex n ≡ true) where
     pub whether_found : (js : _) → AreJudgements table of_ds js → AnswersAs (answer_of js.own) (Says verdict_is) → answer_of js.own ≡ Says NoType → IsWhetherFound (delegates_found of_ds js.ns)
     whether_found js are own is = go (same n h.apex)
       where
@@ -60,7 +55,7 @@ module _ (passes : Tried → Bool) (table : List Checked) (agrees : AgreesWith t
         exact (inr said) = sym said ∙ is
 
         told : SaysSome (judged (answers_with passes) pointer_limit of_ns)
-        told = delegation_told (answers_with passes) pointer_limit h n mode rs given (verdict_from own) below (exact (are.own.by_table passes agrees).exact)
+        told = tells (verdict_from own) (exact (are.own.by_table passes agrees).exact)
 
         sought : ns_question pointer_limit of_ds (answer_of js.own) ≡ Some (asking h n 2)
         sought = ap (ns_question pointer_limit of_ds) is ∙ ap (λ (b : Bool). if b then Some (asking h n 2) else None) below

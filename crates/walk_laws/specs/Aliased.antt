@@ -1,10 +1,9 @@
 -- What zones with aliases give, and where a walk over evidence of a tree of such zones ends.
-use Rattle.std.specs.Prelude.{◌≡◌, ◌⊎◌, ℕ, ◌<◌, Bool, true, false, List, Some, None, Contains, if◌then◌else◌}
+use Rattle.std.specs.Prelude.{◌≡◌, ◌⊎◌, ℕ, ◌<◌, Bool, true, false, List, None, Contains}
 use Rattle.std.specs.List.{AllByRecursion}
 use Rattle.definitions.specs.Dnskey.{Dnskey, Ds}
 use Rattle.definitions.specs.Limits.{pointer_limit}
 use Rattle.definitions.specs.Name.{Name, IsName}
-use Rattle.definitions.specs.Zone.{Verdict, Records, StarRecords, Zone, verdict}
 use Rattle.definitions.specs.ZoneChain.{Mode}
 use Rattle.messages.specs.Handed.{IsHanded}
 use Rattle.messages.specs.HandedRr.{HandedRr}
@@ -17,13 +16,12 @@ use Rattle.answer_terms.specs.EqualTags.{has_equal_tags}
 use Rattle.answer_terms.specs.Hashing.{HashesHold}
 use Rattle.answer_terms.specs.Served.{answer_groups, by_tag}
 use Rattle.answer_terms.specs.Told.{Tells}
-use Rattle.answer_zone.specs.Finding.{finds, redirecting}
 use Rattle.answer_zone_records.specs.AliasFaults.{IsAcceptedWithAliases}
 use Rattle.answer_judge.specs.Meeting.{holds, served_from}
 use Rattle.answer_judge.specs.Judging.{JudgeInput}
 use Rattle.answer_judge_keys.specs.Trusted.{is_usable}
-use Rattle.answer_findings.specs.Seen.{one_name}
 use Rattle.answer_findings.specs.Table.{AgreesWith, Tried, answers_with}
+use Rattle.message_laws.specs.InPlace.{LeadsToOne, in_place}
 use Rattle.tree_laws.specs.Tree.{Said}
 use Rattle.evidence_laws.specs.Given.{Given, IsOf}
 use Rattle.evidence_laws.specs.Truth.{IsAnchored, SignedZone}
@@ -32,24 +30,6 @@ use Rattle.resolution_walk.specs.declared.walk.Limits.{Limits}
 use Rattle.walk_laws.specs.Ending.{EndsInTree, IsTreesWalk, Never}
 use Rattle.walk_laws.specs.Keys.{KeysWereGiven}
 use Rattle.walk_laws.specs.Served.{AnswersItself, ZonesKeys, asking}
-
--- The question that a zone answers where it is asked one that is allowed: that; or, where it has no such RRset, the one for the CNAME that
--- answers for the name, or for the DNAME of the nearest name above at which one stands (RFC 1034, 4.3.2; RFC 6672, 3.2).
-abbrev pub in_place : Zone → Asked → Asked
-in_place z q =
-    if finds z q.name q.rtype then q
-    else if finds z q.name 5 then record { name = q.name; rtype = 5; class = q.class }
-    else elim (redirecting z q.name) [ None ↦ q | Some d ↦ record { name = d; rtype = 39; class = q.class } ]
-
--- the data of an RRset are one name's
-abbrev pub SpellsOne : Verdict → Type 0
-SpellsOne (Records datas) = (target : Name) × (one_name datas ≡ Some target)
-SpellsOne (StarRecords datas) = (target : Name) × (one_name datas ≡ Some target)
-SpellsOne _ = Unit {0}
-
--- an alias that is answered in place of a question leads to one name
-abbrev pub LeadsToOne : Zone → Asked → Type 0
-LeadsToOne z q = finds z q.name q.rtype ≡ false → SpellsOne (verdict z false (in_place z q).name (in_place z q).rtype)
 
 -- What is handed in was given by the zone of these records and this chain, aliases among the records or not: a DNSKEY answer, and the
 -- RRsets that the zone answers the question with, whatever the message asks, of keys that meet, whose signatures hold.

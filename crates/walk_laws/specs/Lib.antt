@@ -9,4 +9,5 @@ pub mod Keys
 pub mod Served
 pub mod Aliased
 pub mod Verdict
+pub mod Shown
 pub mod Evidence

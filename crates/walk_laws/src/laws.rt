@@ -11,6 +11,7 @@ ghost use Rattle.walk_laws.specs.Served.{
   ServedTreesAreWalked,
   ServedZonesAreWalked,
 };
+ghost use Rattle.walk_laws.specs.Shown.{ShownTreesAreWalked, ShownTreesComeToVerdicts};
 ghost use Rattle.walk_laws.specs.Verdict.{
   AliasedTreesComeToVerdicts,
   LoopsComeToVerdicts,
@@ -69,9 +70,10 @@ pub fn trees_are_walked()
     trees_resolve_to_one();
 }
 
-/// A judge does not refuse the keys of a DNSKEY answer that a zone has given, under a DS set that
-/// names one of them, whatever it is asked and whatever answer stands beside them. A zone that has
-/// given an answer under keys that meet has given them so.
+/// A judge does not refuse keys that are shown: those of a DNSKEY answer that has no two of one tag,
+/// and that one of them signs which the DS set names, whatever it is asked and whatever answer stands
+/// beside them. Keys that a zone has given are shown, and a zone that has given an answer under keys
+/// that meet has given them.
 pub fn given_keys_are_trusted()
     ensures { GivenKeysAreTrusted }
 {}
@@ -157,6 +159,34 @@ pub fn trees_come_to_verdicts()
 /// for `aliased_trees_are_walked`.
 pub fn aliased_trees_come_to_verdicts()
     ensures { AliasedTreesComeToVerdicts }
+{
+    trees_say_one();
+    trees_resolve_to_one();
+}
+
+/// Where messages show the keys of zones, aliases among their records or not, and what the zones
+/// answer to allowed questions, a walk is stuck only for want of memory, whatever else is in the
+/// messages, and in whichever order: an OPT record, records that nothing asks for, further records of
+/// the chain, signatures of more keys and of unlike times, an alias that is followed in the zone, the
+/// CNAME that is made beside a DNAME.
+///
+/// A message shows what a zone answers where the facts of the zone's own answer are among those that
+/// are verified in it; where all else that is verified of the question is true of the zone, of one
+/// chain; and where signatures are of one moment, if they must be. Where the zone answers by a CNAME
+/// or a DNAME, it shows that, and suggests it: it is the first DNAME above the name in the message,
+/// or there is none, and a CNAME at the name.
+pub fn shown_trees_are_walked()
+    ensures { ShownTreesAreWalked }
+{
+    trees_say_one();
+    trees_resolve_to_one();
+}
+
+/// The loop of a caller over a tree whose messages show what its zones answer ends in what the tree
+/// says, through its aliases, unless more signatures are asked for than are allowed, or memory runs
+/// out.
+pub fn shown_trees_come_to_verdicts()
+    ensures { ShownTreesComeToVerdicts }
 {
     trees_say_one();
     trees_resolve_to_one();

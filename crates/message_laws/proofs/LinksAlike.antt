@@ -19,8 +19,8 @@ use Rattle.answer_terms.specs.FactsCase.{low_link}
 use Rattle.answer_judge_facts.specs.Verified.{Trusting, hash_link_at, hash_link_with, is_hash_alone, is_hash_link, is_link, is_verified, link_at, link_of, one_known, rrset_in, verified_hash_links, verified_links}
 use Rattle.answer_judge_facts.proofs.JudgeCase.{above-owner, is_verified-owner, rrset_in-owner, spells-owner}
 use Rattle.answer_judge.proofs.GivenNext.{canonical_nsec, canonical_nsec3, if_true_some, name_in_at}
-use Rattle.server_laws.specs.SeenAlike.{is_used, is_used_type}
-use Rattle.server_laws.proofs.UsedAlike.{rrset_alike, some_alike, verified_alike}
+use Rattle.message_laws.specs.SeenAlike.{is_used, is_used_type}
+use Rattle.message_laws.proofs.UsedAlike.{rrset_alike, some_alike, verified_alike}
 
 -- ---- what the data of chains' records say
 

@@ -27,12 +27,9 @@ use Rattle.answer_judge.specs.Meeting.{served_from}
 use Rattle.answer_judge.proofs.GivenMoments.{told_alike}
 use Rattle.answer_judge.proofs.GivenRrset.{is_ordinary, is_signed_rrset, verified_rrset_missing}
 use Rattle.answer_findings.specs.Judgements.{aside, asking}
-use Rattle.walk_laws.proofs.Denied.{SaysOf, facts_tell}
-use Rattle.walk_laws.proofs.Parts.{chained_by, first_of, judged_by, proved_by}
-
--- a judgement says something
-abbrev pub SaysSome : Answer → Type 0
-SaysSome answer = (v : Verdict) × (answer ≡ Says v)
+use Rattle.message_laws.proofs.Denied.{SaysOf, facts_tell}
+use Rattle.message_laws.proofs.Parts.{chained_by, first_of, judged_by, proved_by}
+use Rattle.message_laws.proofs.ShownDs.{SaysSome}
 
 abbrev SaysNoType : Answer → Type 0
 SaysNoType answer = answer ≡ Says NoType
@@ -110,7 +107,7 @@ module _ (a : Answers) (k : ℕ) (h : JudgeInput) (n : Name) (mode : Mode) (rs :
       abbrev w : Trusting
       w = trusting a h ks
 
-      no_rrset : (t : ℕ) → eqb 6 t ≡ false → eqb 47 t ≡ false → eqb 50 t ≡ false → verified_rrset w k m read.records n t ≡ None
+      pub no_rrset : (t : ℕ) → eqb 6 t ≡ false → eqb 47 t ≡ false → eqb 50 t ≡ false → verified_rrset w k m read.records n t ≡ None
       no_rrset t start names hashes = verified_rrset_missing w k m read.records h.apex given.at given.life given.keys groups n t tells ordinary (unsigned n t groups (of_types t start names hashes))
 
       -- what the chain's records prove, of either type
@@ -120,7 +117,7 @@ module _ (a : Answers) (k : ℕ) (h : JudgeInput) (n : Name) (mode : Mode) (rs :
       abbrev facts : Facts
       facts = facts_with None
 
-      alike : are_unlike (proof_times w k m read.records n 2) ≡ false
+      pub alike : are_unlike (proof_times w k m read.records n 2) ≡ false
       alike = told_alike w k m read.records h.apex given.at given.life given.keys groups ordinary tells n 2
 
       answers_tell : SaysNoType (judged_answer a k of_ds ks read) → SaysSome (judged_answer a k of_ns ks read)

@@ -1,6 +1,7 @@
 -- A judge says the same of messages that it sees alike.
 use Rattle.std.proofs.Common.{◌≡◌, ℕ, Bool, true, false, not, ◌&&◌, ◌||◌, List, length, map, filter, Option, Some, None, Result, Ok, Err, eqb, nat_eq, refl, sym, ap, ◌∙◌}
 use Rattle.std.specs.Prelude.{if◌then◌else◌}
+use Rattle.std.specs.List.{list_any}
 use Rattle.definitions.specs.Dnskey.{Dnskey, dnskey_data, dnskey_of_data}
 use Rattle.definitions.specs.Name.{Name, labels_eq, low, same}
 use Rattle.definitions.specs.Zone.{Unsigned, sorted_data}
@@ -20,12 +21,12 @@ use Rattle.answer_judge_keys.specs.Trusted.{is_trusted, is_usable}
 use Rattle.answer_judge.specs.declared.verdict.Refusal.{Refusal}
 use Rattle.answer_judge.specs.declared.verdict.Refusal.TheVariants as r
 use Rattle.answer_judge.specs.Judged.{are_mixed, are_over, by_facts, facts_in, ds_authenticates_keys, is_unhashed, judged, judged_answer, judged_bytes, judged_facts, judged_messages, keys_of, trusting}
-use Rattle.answer_judge_facts.specs.Times.{are_unlike, proof_times}
-use Rattle.answer_judge_facts.specs.Verified.{Trusting, is_verified, verified_facts}
+use Rattle.answer_judge_facts.specs.Times.{are_unlike}
+use Rattle.answer_judge_facts.specs.Verified.{is_verified}
 use Rattle.answer_judge.proofs.GivenNext.{canonical_octets}
-use Rattle.server_laws.specs.SeenAlike.{AnswersJudgedAlike, KeysJudgedAlike, SeenAlike, UncoveredJudgedAlike}
-use Rattle.server_laws.proofs.UsedAlike.{some_alike, verified_alike}
-use Rattle.server_laws.proofs.FactsAlike.{all_bare_times, all_times, bare_facts, facts_alike}
+use Rattle.message_laws.specs.SeenAlike.{AnswersJudgedAlike, KeysJudgedAlike, ProvesAlike, SeenAlike, SeenProveAlike, UncoveredJudgedAlike, is_covering}
+use Rattle.message_laws.proofs.UsedAlike.{some_alike, verified_alike}
+use Rattle.message_laws.proofs.FactsAlike.{all_bare_times, all_times, bare_facts, facts_alike}
 
 -- ---- what the judge looks at
 
@@ -59,7 +60,7 @@ same_asked x y z name rtype class = λ i. labels_eq (name i) (low z.name) && eqb
 -- ---- facts
 
 -- the case of the names in links means nothing
-judged_low : (a : Answers) (h : JudgeInput) (f : Facts) → judged_facts a h f ≡ judged_facts a h (low_facts f)
+pub judged_low : (a : Answers) (h : JudgeInput) (f : Facts) → judged_facts a h f ≡ judged_facts a h (low_facts f)
 judged_low a h f =
     ap (λ v. if are_mixed f.hash_links then Refuses r.MixedNsec3Parameters else if are_over h.limit f.hash_links then Refuses r.IterationsOverLimit else if is_unhashed a h f then Refuses r.HashFailed else by_facts v)
     (sym (caseless h.apex (hash_among a.hash f.hash_links) f h.asked.name h.asked.rtype).links)
@@ -69,8 +70,8 @@ judged_same a h f g e = judged_low a h f ∙ ap (judged_facts a h) e ∙ sym (ju
 
 -- ---- answers
 
--- what is used is alike of some type, and the facts and the times of signatures are those of the other
-module _ (a : Answers) (k : ℕ) (h : JudgeInput) (m n : List ℕ) (v : ℕ) (seen : SeenAlike k v m n) (facts : (w : Trusting) → low_facts (verified_facts w k m seen.one.records h.asked.name h.asked.rtype) ≡ low_facts (verified_facts w k n seen.other.records h.asked.name h.asked.rtype)) (times : (w : Trusting) → proof_times w k m seen.one.records h.asked.name h.asked.rtype ≡ proof_times w k n seen.other.records h.asked.name h.asked.rtype) where
+-- what is proved of the question's type is alike
+module _ (a : Answers) (k : ℕ) (h : JudgeInput) (m n : List ℕ) (seen : ProvesAlike k h.asked.rtype m n) where
   abbrev one_handing : JudgeInput
   one_handing = record h { answer_bytes = m }
 
@@ -92,9 +93,9 @@ module _ (a : Answers) (k : ℕ) (h : JudgeInput) (m n : List ℕ) (v : ℕ) (se
   answer_judged : (usable : List Dnskey) → judged_answer a k one_handing usable seen.one ≡ judged_answer a k other_handing usable seen.other
   answer_judged usable =
       let w = trusting a h usable in
-      let at = times w in
+      let at = seen.times w h.asked.name in
       let same : judged_facts a h (facts_in a k one_handing usable seen.one) ≡ judged_facts a h (facts_in a k other_handing usable seen.other) =
-      judged_same a h (facts_in a k one_handing usable seen.one) (facts_in a k other_handing usable seen.other) (facts w) in
+      judged_same a h (facts_in a k one_handing usable seen.one) (facts_in a k other_handing usable seen.other) (seen.facts w h.asked.name) in
       λ i. if h.one_moment && are_unlike (at i) then Refuses r.MixedVersions else same i
 
   chained_answer : (x : Message) → judged_messages a k one_handing x seen.one ≡ judged_messages a k other_handing x seen.other
@@ -107,20 +108,41 @@ module _ (a : Answers) (k : ℕ) (h : JudgeInput) (m n : List ℕ) (v : ℕ) (se
       ∙ (λ i. judged_of (message k h.dnskey_bytes) (Ok seen.one) (λ x y. chained_answer x i))
       ∙ ap (λ o. judged_of (message k h.dnskey_bytes) o (judged_messages a k other_handing)) (sym seen.reads_other)
 
-  answers_judged : judged a k one_handing ≡ judged a k other_handing
-  answers_judged = λ i. said_of (is_judged h) (nat_eq (length h.ds) 0) (answer_first i) (answer_bytes_judged i)
+  pub proven_judged : judged a k one_handing ≡ judged a k other_handing
+  proven_judged = λ i. said_of (is_judged h) (nat_eq (length h.ds) 0) (answer_first i) (answer_bytes_judged i)
+
+pub seen_prove : SeenProveAlike
+seen_prove k t m n seen = record {
+  one = seen.one;
+  other = seen.other;
+  reads_one = seen.reads_one;
+  reads_other = seen.reads_other;
+  name_is = seen.name_is;
+  rtype_is = seen.rtype_is;
+  class_is = seen.class_is;
+  facts = facts_alike k m n t seen.one.records seen.other.records seen.records_are;
+  times = all_times k m n t seen.one.records seen.other.records seen.records_are;
+}
+
+-- so do those of which no signature covers the type
+pub bare_prove : (k t : ℕ) (m n : List ℕ) (seen : SeenAlike k 46 m n) → list_any (is_covering k n t) seen.other.records ≡ false → ProvesAlike k t m n
+bare_prove k t m n seen bare = record {
+  one = seen.one;
+  other = seen.other;
+  reads_one = seen.reads_one;
+  reads_other = seen.reads_other;
+  name_is = seen.name_is;
+  rtype_is = seen.rtype_is;
+  class_is = seen.class_is;
+  facts = bare_facts k m n t seen.one.records seen.other.records seen.records_are bare;
+  times = all_bare_times k m n t seen.one.records seen.other.records seen.records_are bare;
+}
 
 pub answers_alike : AnswersJudgedAlike
-answers_alike a k h m n seen =
-    answers_judged a k h m n h.asked.rtype seen
-    (λ w. facts_alike k m n h.asked.rtype seen.one.records seen.other.records seen.records_are w h.asked.name)
-    (λ w. all_times k m n h.asked.rtype seen.one.records seen.other.records seen.records_are w h.asked.name)
+answers_alike a k h m n seen = proven_judged a k h m n (seen_prove k h.asked.rtype m n seen)
 
 pub uncovered_alike : UncoveredJudgedAlike
-uncovered_alike a k h m n seen bare =
-    answers_judged a k h m n 46 seen
-    (λ w. bare_facts k m n h.asked.rtype seen.one.records seen.other.records seen.records_are bare w h.asked.name)
-    (λ w. all_bare_times k m n h.asked.rtype seen.one.records seen.other.records seen.records_are bare w h.asked.name)
+uncovered_alike a k h m n seen bare = proven_judged a k h m n (bare_prove k h.asked.rtype m n seen bare)
 
 -- ---- DNSKEY answers
 
@@ -151,10 +173,10 @@ module _ (a : Answers) (k : ℕ) (h : JudgeInput) (m n : List ℕ) (seen : SeenA
       let octets : data_of m s ≡ data_of n t = some_is (data_of m s) (data_of n t) (sym (key_octets m s is) ∙ like.data_are ∙ key_octets n t (sym like.type_is ∙ is)) in
       λ i. key_when (labels_eq (like.owner_is i) (low h.apex) && eqb (like.type_is i) 48 && eqb (like.class_is i) 1) (octets i)
 
-  same_keys : keys_in m h.apex seen.one.records ≡ keys_in n h.apex seen.other.records
+  pub same_keys : keys_in m h.apex seen.one.records ≡ keys_in n h.apex seen.other.records
   same_keys = some_alike k m n 48 seen.one.records seen.other.records seen.records_are 48 (key_at m h.apex) (key_at n h.apex) refl (no_key m) (no_key n) key_alike
 
-  keys_asked : same_question seen.one.asked (asked_for_keys h.apex) ≡ same_question seen.other.asked (asked_for_keys h.apex)
+  pub keys_asked : same_question seen.one.asked (asked_for_keys h.apex) ≡ same_question seen.other.asked (asked_for_keys h.apex)
   keys_asked = same_asked seen.one.asked seen.other.asked (asked_for_keys h.apex) seen.name_is seen.rtype_is seen.class_is
 
   abbrev keys_refused : Bool → List Dnskey → Message → Option Refusal
@@ -166,7 +188,7 @@ module _ (a : Answers) (k : ℕ) (h : JudgeInput) (m n : List ℕ) (seen : SeenA
       ∙ (λ i. refused_of (Ok seen.one) (message k h.answer_bytes) (λ x y. keys_refused (keys_asked i) (same_keys i) y))
       ∙ ap (λ o. refused_of o (message k h.answer_bytes) (λ x y. keys_refused (same_question x.asked (asked_for_keys h.apex)) (keys_in n h.apex x.records) y)) (sym seen.reads_other)
 
-  keys_chained : ds_authenticates_keys a k these_keys seen.one ≡ ds_authenticates_keys a k those_keys seen.other
+  pub keys_chained : ds_authenticates_keys a k these_keys seen.one ≡ ds_authenticates_keys a k those_keys seen.other
   keys_chained =
       let ks = keys_in m h.apex seen.one.records in
       verified_alike k m n 48 seen.one.records seen.other.records seen.records_are (trusting a h (filter (is_trusted a h.apex h.ds) ks)) h.apex 48 (sorted_data (map dnskey_data ks))

@@ -12,10 +12,10 @@ use Rattle.answer_judge_facts.specs.Sought.{answer_sought, is_alone}
 use Rattle.answer_judge_facts.specs.Times.{Times, proof_times, times_at, times_of}
 use Rattle.answer_judge_facts.specs.Verified.{Trusting, is_hash_alone, one_known, rrset_in, verified_by, verified_facts, verified_rrset}
 use Rattle.answer_judge_facts.proofs.JudgeTimes.{alike_verified, sought-owner}
-use Rattle.server_laws.specs.SeenAlike.{is_covering, is_used, is_used_type}
-use Rattle.server_laws.proofs.Picked.{some_picked, some_zipped}
-use Rattle.server_laws.proofs.UsedAlike.{asked_alike, covering_alike, first_verified, no_rrset, none_verified, rrset_alike}
-use Rattle.server_laws.proofs.LinksAlike.{hash_links_alike, links_alike}
+use Rattle.message_laws.specs.SeenAlike.{is_covering, is_used, is_used_type}
+use Rattle.message_laws.proofs.Picked.{some_picked, some_zipped}
+use Rattle.message_laws.proofs.UsedAlike.{asked_alike, covering_alike, first_verified, no_rrset, none_verified, rrset_alike}
+use Rattle.message_laws.proofs.LinksAlike.{hash_links_alike, links_alike}
 
 flipped : (a b : ℕ) → eqb a b ≡ false → eqb b a ≡ false
 flipped a b e = go (eqb b a) refl

@@ -11,8 +11,8 @@ use Rattle.messages.specs.Message.{Spelled, canonical_data, rrsig_at}
 use Rattle.answer_terms.specs.Alike.{IsLike}
 use Rattle.answer_judge_keys.specs.Trusted.{signs}
 use Rattle.answer_judge_facts.specs.Verified.{Trusting, datum_of, is_verified, rrset_in, verified_by, verified_rrset, verified_with, verifies_with}
-use Rattle.server_laws.specs.SeenAlike.{is_covering, is_used, is_used_type}
-use Rattle.server_laws.proofs.Picked.{any_picked, any_zipped, first_picked, first_zipped, some_picked, some_zipped}
+use Rattle.message_laws.specs.SeenAlike.{is_covering, is_used, is_used_type}
+use Rattle.message_laws.proofs.Picked.{any_picked, any_zipped, first_picked, first_zipped, some_picked, some_zipped}
 
 -- a record that is not used is of no type that is
 pub of_no_used : (t u : ℕ) (r : Spelled) → is_used_type t u ≡ true → is_used t r ≡ false → eqb r.rtype u ≡ false

@@ -1,6 +1,6 @@
 //! Laws of messages that a judge sees alike.
-ghost use Rattle.server_laws.specs.SeenAlike.{AnswersJudgedAlike, KeysJudgedAlike};
-ghost use Rattle.server_laws.specs.SeenAlike.{UncoveredJudgedAlike};
+ghost use Rattle.message_laws.specs.SeenAlike.{AnswersJudgedAlike, KeysJudgedAlike};
+ghost use Rattle.message_laws.specs.SeenAlike.{SeenProveAlike, UncoveredJudgedAlike};
 
 /// A judge says the same of messages that it sees alike.
 ///
@@ -16,4 +16,5 @@ pub fn messages_are_judged_alike()
     ensures answers { AnswersJudgedAlike }
     ensures keys { KeysJudgedAlike }
     ensures uncovered { UncoveredJudgedAlike }
+    ensures proven { SeenProveAlike }
 {}

@@ -1,9 +1,12 @@
 -- Messages that a judge sees alike, whatever other records they have.
 use Rattle.std.specs.Prelude.{◌≡◌, ℕ, Bool, false, ◌&&◌, ◌||◌, ◌==◌, List, None, Ok, Some, filter}
 use Rattle.std.specs.List.{AllZip, list_any}
-use Rattle.definitions.specs.Name.{low}
+use Rattle.definitions.specs.Name.{Name, low}
 use Rattle.messages.specs.Message.{Message, Spelled, message, rrsig_at}
 use Rattle.answer_terms.specs.Alike.{IsLike}
+use Rattle.answer_terms.specs.FactsCase.{low_facts}
+use Rattle.answer_judge_facts.specs.Times.{proof_times}
+use Rattle.answer_judge_facts.specs.Verified.{Trusting, verified_facts}
 use Rattle.answer_scheme.specs.Answers.{Answers}
 use Rattle.answer_judge.specs.Judging.{JudgeInput}
 use Rattle.answer_judge.specs.Judged.{judged}
@@ -46,3 +49,20 @@ UncoveredJudgedAlike =
     (a : Answers) (k : ℕ) (h : JudgeInput) (m n : List ℕ) (seen : SeenAlike k 46 m n)
     → list_any (is_covering k n h.asked.rtype) seen.other.records ≡ false
     → judged a k (record h { answer_bytes = m }) ≡ judged a k (record h { answer_bytes = n })
+
+-- Both messages read, and their questions are alike, names up to case. Of any name and a type the same is verified in them, under
+-- whichever keys, names of links up to case, and by signatures of the same times.
+pub record ProvesAlike (k t : ℕ) (m n : List ℕ) : Type 0 where
+  pub one : Message
+  pub other : Message
+  pub reads_one : message k m ≡ Ok one
+  pub reads_other : message k n ≡ Ok other
+  pub name_is : low one.asked.name ≡ low other.asked.name
+  pub rtype_is : one.asked.rtype ≡ other.asked.rtype
+  pub class_is : one.asked.class ≡ other.asked.class
+  pub facts : (w : Trusting) (q : Name) → low_facts (verified_facts w k m one.records q t) ≡ low_facts (verified_facts w k n other.records q t)
+  pub times : (w : Trusting) (q : Name) → proof_times w k m one.records q t ≡ proof_times w k n other.records q t
+
+-- so do messages that are seen alike, as one that tells of the type
+abbrev pub SeenProveAlike : Type 0
+SeenProveAlike = (k t : ℕ) (m n : List ℕ) → SeenAlike k t m n → ProvesAlike k t m n

@@ -1,0 +1,17 @@
+pub mod Picked
+pub mod UsedAlike
+pub mod LinksAlike
+pub mod FactsAlike
+pub mod JudgedAlike
+pub mod Parts
+pub mod Denied
+pub mod Shown
+pub mod ShownPlace
+pub mod ShownDs
+pub mod ShownLeads
+pub mod Whether
+pub mod OwnTrue
+pub mod ShownAlike
+pub mod GivenShown
+pub mod HeldRecords
+pub mod Held

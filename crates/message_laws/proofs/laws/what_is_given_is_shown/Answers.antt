@@ -1,0 +1,5 @@
+use Rattle.message_laws.proofs.GivenShown.{given_is_shown}
+use Rattle.message_laws.proofs.laws.what_is_given_is_shown.Goals as goal
+
+pub returns : goal.returns
+returns c = given_is_shown

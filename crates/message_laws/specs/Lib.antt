@@ -1,0 +1,5 @@
+pub mod SeenAlike
+pub mod InPlace
+pub mod Shown
+pub mod Held
+pub mod Laws

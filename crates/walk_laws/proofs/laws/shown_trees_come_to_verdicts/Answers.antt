@@ -1,0 +1,5 @@
+use Rattle.walk_laws.proofs.ShownTrees.{shown_trees_come_to_verdicts}
+use Rattle.walk_laws.proofs.laws.shown_trees_come_to_verdicts.Goals as goal
+
+pub returns : goal.returns
+returns c = shown_trees_come_to_verdicts c.trees_say_one.ensures c.trees_resolve_to_one.ensures
