@@ -26,7 +26,6 @@ use Rattle.message_laws.proofs.Shown.{zone_servable}
 use Rattle.message_laws.proofs.ShownDs.{ns_says, own_says}
 use Rattle.message_laws.proofs.ShownLeads.{IsLed, shown_led}
 use Rattle.tree_laws.specs.Laws.{TreesResolveToOne, TreesSayOne}
-use Rattle.tree_laws.specs.Tree.{refers_to}
 use Rattle.resolution_step.specs.Told.{StepSeen, IsCutTold, IsTold, at_cut, verdict_told}
 use Rattle.resolution_step.specs.Truth.{zone_of_version}
 use Rattle.resolution_step.specs.declared.judged_step.Counts.{Counts}

@@ -165,10 +165,10 @@ pub fn aliased_trees_come_to_verdicts()
 }
 
 /// Where messages show the keys of zones, aliases among their records or not, and what the zones
-/// answer to allowed questions, a walk is stuck only for want of memory, whatever else is in the
-/// messages, and in whichever order: an OPT record, records that nothing asks for, further records of
-/// the chain, signatures of more keys and of unlike times, an alias that is followed in the zone, the
-/// CNAME that is made beside a DNAME.
+/// answer to allowed questions, no walk is stuck, whatever else is in the messages, and in whichever
+/// order: an OPT record, records that nothing asks for, further records of the chain, signatures of
+/// more keys and of unlike times, an alias that is followed in the zone, the CNAME that is made
+/// beside a DNAME.
 ///
 /// A message shows what a zone answers where the facts of the zone's own answer are among those that
 /// are verified in it; where all else that is verified of the question is true of the zone, of one
@@ -183,8 +183,7 @@ pub fn shown_trees_are_walked()
 }
 
 /// The loop of a caller over a tree whose messages show what its zones answer ends in what the tree
-/// says, through its aliases, unless more signatures are asked for than are allowed, or memory runs
-/// out.
+/// says, through its aliases, unless more signatures are asked for than are allowed.
 pub fn shown_trees_come_to_verdicts()
     ensures { ShownTreesComeToVerdicts }
 {
