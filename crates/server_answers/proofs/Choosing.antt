@@ -1,5 +1,5 @@
 -- Messages for the type that is chosen where all are asked for, and what becomes of them.
-use Rattle.std.proofs.Common.{◌≡◌, ◌∙◌, ℕ, ◌+◌, ◌<◌, ◌≤◌, Bool, true, false, List, ◌∷◌, Vec, length, drop, get_or, max, refl, sym, ap, subst, inl, inr, arith}
+use Rattle.std.proofs.Common.{◌≡◌, ◌∙◌, ℕ, ◌+◌, ◌<◌, ◌≤◌, Bool, true, false, ◌||◌, List, [], ◌∷◌, Vec, length, drop, get_or, max, refl, sym, ap, subst, inl, inr, arith}
 use Rattle.std.specs.declared.alloc.Global.{Global}
 use Rattle.std.specs.Prelude.{◌≢◌, ◌↔◌, MatchBool, Option, Some, None, Result, Ok, Err, IfErr, IfOk, IsErrOf, OnErr, OnOk}
 use Rattle.std.specs.Result.{is_err}
@@ -10,6 +10,7 @@ use Rattle.messages.specs.Message.{Asked}
 use Rattle.messages.specs.Questions.{asked_of}
 use Rattle.messages.specs.declared.question.Question.{Question}
 use Rattle.answer_publisher_keys.specs.Bindings.{ZoneKeys}
+use Rattle.answer_terms.specs.Asking.{asks_alias, is_allowed}
 use Rattle.answer_publisher.specs.Inputs.{Input}
 use Rattle.answer_publisher.specs.Replacing.{noted, whole_second}
 use Rattle.answer_publisher.specs.World.{RefusesQuestion, World}
@@ -23,9 +24,9 @@ use Rattle.server_answers.specs.Listed.{listed}
 use Rattle.server_answers.specs.MadeOf.{IsMadeOf, ReadsWhole}
 use Rattle.server_answers.specs.Messages.{Makes}
 use Rattle.server_answers.specs.Moments.{IsOrWasNoted}
-use Rattle.server_answers.specs.Responding.{Serving, unsigned}
+use Rattle.server_answers.specs.Responding.{Serving, TellsAllowed, may_answer, unsigned}
 use Rattle.answer_publisher.specs.Aliases.{for_type}
-use Rattle.server_answers.specs.Subset.{AnswersSubset, IsBare, IsChosen, IsFirst, IsHeld, MakesSubset, is_memory, is_no_data, wants_signatures}
+use Rattle.server_answers.specs.Subset.{AnswersSubset, IsBare, IsChosen, IsFirst, IsHeld, MakesSubset, TellsInside, is_memory, is_no_data, wants_signatures}
 use Rattle.server_answers.specs.Synthesized.{has_answers}
 use Rattle.server_answers.specs.declared.requests.Response.{Response}
 use Rattle.server_answers.specs.declared.requests.Response.TheVariants as response
@@ -154,6 +155,40 @@ module _ (w : World) (keys : ZoneKeys) (at : ℕ) where
   pub listed_none : (a : Asked) (m : List ℕ) (t : ℕ) → is_no_data m ≡ false → MatchBool (is_no_data m) (IsFirst w keys at a (listed m) t) (t ≡ t)
   listed_none a m t none = subst (λ (b : Bool). MatchBool b (IsFirst w keys at a (listed m) t) (t ≡ t)) (sym none) refl
 
+  -- ---- a question for the type that is chosen is allowed
+
+  of_type : (r : Asked) (u t : ℕ) → t ≡ u → is_allowed w.zone.apex (for_type u r) ≡ true → is_allowed w.zone.apex (for_type t r) ≡ true
+  of_type r u t same e = subst (λ (k : ℕ). is_allowed w.zone.apex (for_type k r) ≡ true) (sym same) e
+
+  by_held : (r : Asked) (u t : ℕ) (us : List ℕ) (b : Bool) → IsHeld w keys at (for_type u r) b → MatchBool b (t ≡ u) (IsFirst w keys at r us t)
+      → (IsFirst w keys at r us t → is_allowed w.zone.apex (for_type t r) ≡ true) → is_allowed w.zone.apex (for_type t r) ≡ true
+  by_held r u t us true held same later = of_type r u t same held.1.0
+  by_held r u t us false held rest later = later rest
+
+  first_allowed : (r : Asked) (us : List ℕ) (t : ℕ) → is_allowed w.zone.apex (for_type 65535 r) ≡ true → IsFirst w keys at r us t → is_allowed w.zone.apex (for_type t r) ≡ true
+  first_allowed r [] t e same = of_type r 65535 t same e
+  first_allowed r (u ∷ us) t e first = by_held r u t us first.0 first.1 first.2 (λ rest. first_allowed r us t e rest)
+
+  by_listed : (a : Asked) (us : List ℕ) (t : ℕ) (b : Bool) → is_allowed w.zone.apex (for_type 65535 a) ≡ true → MatchBool b (IsFirst w keys at (for_type 65535 a) us t) (t ≡ 65535)
+      → is_allowed w.zone.apex (for_type t a) ≡ true
+  by_listed a us t true e first = first_allowed (for_type 65535 a) us t e first
+  by_listed a us t false e same = of_type a 65535 t same e
+
+  pub chosen_allowed : (a : Asked) (t : ℕ) → IsChosen w keys at a t → is_allowed w.zone.apex (for_type t a) ≡ true
+  chosen_allowed a t chosen = by_listed a (listed chosen.0) t (is_no_data chosen.0) chosen.1.0 chosen.2
+
+-- a fault of a message for the reserved type
+pub tells_inside : {T : Type 0} (apex : Name) (a : Asked) (x : ℕ) (f : AnswerFault) → x ≡ 65535 → (IsErrOf {T = T} (Err f) fault.QuestionNotAllowed ↔ (is_allowed apex (for_type x a) ≡ false)) → TellsInside apex a f
+tells_inside apex a x f reserved iff =
+    subst (λ (k : ℕ). (f ≡ fault.QuestionNotAllowed) ↔ (is_allowed apex (for_type k a) ≡ false)) reserved ((λ e. iff.0 (ap Err e)), (λ none. let e = iff.1 none in cc))
+
+-- one of a message for the type that is chosen, where the question is allowed, is another
+chosen_inside : (s : Serving) (a : Asked) (t : ℕ) (f : AnswerFault) → IsChosen s.world s.keys s.at a t → TellsAllowed s.world.zone.apex (for_type t a) false f → TellsInside s.world.zone.apex a f
+chosen_inside s a t f chosen tells =
+    let asked = for_type t a in
+    let may : may_answer s.world.zone.apex asked false ≡ true = ap (λ (b : Bool). b || asks_alias s.world.zone.apex asked) (chosen_allowed s.world s.keys s.at a t chosen) in
+    ((λ e. absurd (false≢true (sym (tells.0 e) ∙ may))), (λ none. absurd (false≢true (sym none ∙ chosen.1.0))))
+
 -- a question of the same name and class
 pub asked_same : (q r : Question Name) → r.name ≡ q.name → r.class ≡ q.class → asked_of r ≡ for_type r.rtype (asked_of q)
 asked_same q r name class = λ j. record { name = name j; rtype = r.rtype; class = class j }
@@ -164,11 +199,11 @@ pub subset_made : (s : Serving) (a : Asked) (t : ℕ) (signs : Bool) (old mid ne
     → MakesSubset s a signs old new r
 subset_made s a t signs old mid new (Ok (signed.Message m)) chosen was h = (t, chosen, h.0, still_noted s.at old mid new was h.1)
 subset_made s a t signs old mid new (Ok (signed.Missing v)) chosen was h = (t, chosen, h.0, h.1, h.2, h.3 ∙ was)
-subset_made s a t signs old mid new (Err f) chosen was h = (inr (h.1 ∙ was), λ other. inr (t, chosen, h.0))
+subset_made s a t signs old mid new (Err f) chosen was h = (inr (h.1 ∙ was), λ other. (inr (t, chosen, h.0), chosen_inside s a t f chosen h.2))
 
-pub subset_unmade : (s : Serving) (a : Asked) (signs : Bool) (old new : Option ℕ) (f : AnswerFault) → (f ≢ fault.Memory → RefusesQuestion (unsigned s.world) s.keys s.at (for_type 65535 a) f) → IsOrWasNoted s.at old new
-    → MakesSubset s a signs old new (Err f)
-subset_unmade s a signs old new f refuses was = (was, λ other. inl (refuses other))
+pub subset_unmade : (s : Serving) (a : Asked) (signs : Bool) (old new : Option ℕ) (f : AnswerFault) → (f ≢ fault.Memory → RefusesQuestion (unsigned s.world) s.keys s.at (for_type 65535 a) f) → (f ≢ fault.Memory → TellsInside s.world.zone.apex a f)
+    → IsOrWasNoted s.at old new → MakesSubset s a signs old new (Err f)
+subset_unmade s a signs old new f refuses tells was = (was, λ other. (inl (refuses other), tells other))
 
 -- ---- what becomes of it
 
@@ -193,6 +228,6 @@ module _ (s : Serving) (q : Queried) (old new : Option ℕ) where
       (h.0, h.1, h.2, is ∙ h.3, subst (λ (l : List Input). 0 < length l) (sym is) h.4, h.5)
   subset_answered (Ok (signed.Missing inputs)) response.Nothing h k = absurd k
   subset_answered (Ok (signed.Missing inputs)) (response.Reply v) h k = absurd k
-  subset_answered (Err f) (response.Reply v) h k = inr (record { f = f; unchosen = h.1 k.0; enough_memory = k.0; octets_are = k.1; noted_is = h.0 })
+  subset_answered (Err f) (response.Reply v) h k = inr (record { f = f; unchosen = (h.1 k.0).0; tells_inside = (h.1 k.0).1; enough_memory = k.0; octets_are = k.1; noted_is = h.0 })
   subset_answered (Err f) response.Nothing h k = absurd k
   subset_answered (Err f) (response.Sign v) h k = absurd k

@@ -12,6 +12,7 @@ pub mod Responding
 pub mod Servers
 pub mod Subset
 pub mod Synthesized
+pub mod Zones
 pub use Rattle.answer_publisher.specs.Aliases
 pub use Rattle.answer_publisher.specs.World
 pub use Rattle.answer_publisher.specs.Inputs

@@ -1,5 +1,6 @@
 -- What a server answers to questions for all records of a name, or for all signatures there: one RRset of the name (RFC 8482, 4.1).
-use Rattle.std.specs.Prelude.{◌≡◌, ◌≢◌, ◌⊎◌, MatchBool, ℕ, ◌<◌, Bool, true, false, not, ◌&&◌, ◌||◌, ◌==◌, List, [], ◌∷◌, length, Option, Result, Ok, Err, slice_index}
+use Rattle.std.specs.Prelude.{◌≡◌, ◌≢◌, ◌⊎◌, ◌↔◌, MatchBool, ℕ, ◌<◌, Bool, true, false, not, ◌&&◌, ◌||◌, ◌==◌, List, [], ◌∷◌, length, Option, Result, Ok, Err, slice_index}
+use Rattle.definitions.specs.Name.{Name}
 use Rattle.messages.specs.Message.{Asked}
 use Rattle.answer_terms.specs.Asking.{is_allowed}
 use Rattle.answer_publisher_keys.specs.Bindings.{ZoneKeys}
@@ -7,7 +8,7 @@ use Rattle.answer_publisher.specs.Aliases.{for_type}
 use Rattle.answer_publisher.specs.Replacing.{noted}
 use Rattle.answer_publisher.specs.World.{AnswersQuestion, RefusesQuestion, SpellsAnswer, World}
 use Rattle.answer_publisher.specs.declared.fault.AnswerFault.{AnswerFault}
-use Rattle.answer_publisher.specs.declared.fault.AnswerFault.TheVariants.{Memory}
+use Rattle.answer_publisher.specs.declared.fault.AnswerFault.TheVariants.{Memory, QuestionNotAllowed}
 use Rattle.server_queries.specs.Queries.{Queried}
 use Rattle.server_responses.specs.Responses.{error_response, is_dnssec_ok}
 use Rattle.server_signatures.specs.Table.{missing}
@@ -60,12 +61,17 @@ IsChosen w keys at a t =
 abbrev pub IsUnchosen : Serving → Asked → Bool → AnswerFault → Type 0
 IsUnchosen s a signed f = IsFault s (for_type 65535 a) false false f ⊎ ((t : ℕ) × IsChosen s.world s.keys s.at a t × IsFault s (for_type t a) false signed f)
 
+-- a fault says that the question is not allowed exactly where it is of another class than IN, or for a name that is not of the zone: where
+-- that for the reserved type is not
+abbrev pub TellsInside : Name → Asked → AnswerFault → Type 0
+TellsInside apex a f = (f ≡ QuestionNotAllowed) ↔ (is_allowed apex (for_type 65535 a) ≡ false)
+
 -- a message for the type that is chosen; what is missing for it; or why there is none
 abbrev pub MakesSubset : Serving → Asked → Bool → Option ℕ → Option ℕ → Result Signed AnswerFault → Type 0
 MakesSubset s a signed old new (Ok (Message m)) = (t : ℕ) × IsChosen s.world s.keys s.at a t × IsMessage s (for_type t a) false signed m.items × (new ≡ noted old s.at)
 MakesSubset s a signed old new (Ok (Missing v)) =
     (t : ℕ) × IsChosen s.world s.keys s.at a t × (signed ≡ true) × (v.items ≡ missing s.table (inputs_for s (for_type t a) false)) × (0 < length v.items) × (new ≡ noted old s.at)
-MakesSubset s a signed old new (Err f) = IsOrWasNoted s.at old new × (f ≢ Memory → IsUnchosen s a signed f)
+MakesSubset s a signed old new (Err f) = IsOrWasNoted s.at old new × (f ≢ Memory → IsUnchosen s a signed f × TellsInside s.world.zone.apex a f)
 
 -- the response of the message for the type that is chosen
 pub record IsSubset (s : Serving) (q : Queried) (old new : Option ℕ) (octets : List ℕ) : Type 0 where
@@ -80,6 +86,7 @@ pub record IsSubset (s : Serving) (q : Queried) (old new : Option ℕ) (octets :
 pub record IsSubsetRefused (s : Serving) (q : Queried) (old new : Option ℕ) (octets : List ℕ) : Type 0 where
   pub f : AnswerFault
   pub unchosen : IsUnchosen s q.asked (wants_signatures q) f
+  pub tells_inside : TellsInside s.world.zone.apex q.asked f
   pub enough_memory : f ≢ Memory
   pub octets_are : octets ≡ error_response s.size q (rcode_of f)
   pub noted_is : IsOrWasNoted s.at old new

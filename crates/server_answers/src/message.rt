@@ -1,7 +1,8 @@
 //! The message of which a response is made.
-ghost use Rattle.std.specs.Prelude.{◌≡◌, false, true, IfErr, IfOk, OnErr, OnOk};
+ghost use Rattle.std.specs.Prelude.{◌≡◌, ◌↔◌, false, true, IfErr, IfOk, IsErrOf, OnErr, OnOk};
 ghost use Rattle.answer_publisher.specs.Replacing.{noted};
 ghost use Rattle.answer_publisher.specs.World.{RefusesQuestion, world_of};
+ghost use Rattle.answer_terms.specs.Asking.{is_allowed};
 ghost use Rattle.messages.specs.Message.{Asked};
 ghost use Rattle.messages.specs.Questions.{asked_of};
 ghost use Rattle.server_answers.specs.Messages.{Makes};
@@ -71,6 +72,9 @@ pub(crate) fn bare_message<S: Scheme, H: Nsec3Hasher>(
     question: &Question,
     at: &UnixTime,
 ) -> Result<Vec<u8>, AnswerFault>
+    ensures allowed { let asked = asked_of question.now in
+        let allowed = is_allowed publisher.old.zone.apex asked in
+        IsErrOf result AnswerFault.QuestionNotAllowed ↔ (allowed ≡ false) }
     ensures bare { let p = publisher.old in
         let w = world_of S.signature_of S.verifies S.digest_of H.hash_of p in
         IfOk result (λ m. IsBare w p.keys at.now (asked_of question.now) m.items) }

@@ -9,7 +9,8 @@ ghost use Rattle.server_answers.specs.Responding.{unsigned};
 ghost use Rattle.server_answers.specs.Servers.{serving_by};
 ghost use Rattle.answer_publisher.specs.Aliases.{for_type};
 ghost use Rattle.server_answers.specs.Subset.{AnswersSubset, IsChosen, IsFirst, IsHeld};
-ghost use Rattle.server_answers.specs.Subset.{MakesSubset, is_memory, is_no_data, wants_signatures};
+ghost use Rattle.server_answers.specs.Subset.{MakesSubset, TellsInside, is_memory, is_no_data};
+ghost use Rattle.server_answers.specs.Subset.{wants_signatures};
 ghost use Rattle.server_queries.specs.Views.{queried_of};
 
 use crate::listed::listed_types;
@@ -105,6 +106,8 @@ fn choose_type<S: Scheme, H: Nsec3Hasher>(
         let asked = for_type 65535 (asked_of question.old) in
         IfErr result (λ f. f ≢ AnswerFault.Memory
         → RefusesQuestion (unsigned w) p.keys at.now asked f) }
+    ensures allowed { let tells = TellsInside publisher.old.zone.apex (asked_of question.old) in
+        IfErr result (λ f. f ≢ AnswerFault.Memory → tells f) }
     ensures was { IsOrWasNoted at.now publisher.old.latest publisher.new.latest }
     ensures rest { publisher.new ≡ record publisher.old { latest = publisher.new.latest } }
 {

@@ -54,7 +54,8 @@ use Rattle.server_answers.specs.Table.{sign_by, verify_by}
 use Rattle.server_answers.proofs.Signing.{own_entries}
 use Rattle.server_answers.specs.Glued.{AnswersGlued}
 use Rattle.server_answers.specs.Responding.{IsMessage, Serving, is_for_keys}
-use Rattle.server_laws.specs.Heard.{ClientsAreShown, ClientsAreTold, IsJudgedAs, IsWhole, IsZone, ParametersJudgedAlike, ResponsesJudgedAlike, is_truncated}
+use Rattle.server_laws.specs.Heard.{ClientsAreShown, ClientsAreTold, IsJudgedAs, IsWhole, ParametersJudgedAlike, ResponsesJudgedAlike, is_truncated}
+use Rattle.server_answers.specs.Zones.{IsZone}
 use Rattle.server_laws.proofs.Alone.{IsOther, NoSignature, SignsOther, StandsAlone, groups_alone, groups_other}
 use Rattle.server_laws.proofs.Replied.{IsUnused}
 use Rattle.server_laws.proofs.Shown.{IsAlone, all_seen, all_where_clear, flags_told, in_message, message_read, none_covers, spelled_all, unasked, whole_all}

@@ -42,7 +42,8 @@ use Rattle.server_queries.specs.Queries.{Queried}
 use Rattle.server_responses.specs.Links.{is_authoritative, is_link_of, is_link_or_its_signature, shows_link}
 use Rattle.server_responses.specs.Responses.{answers_shown, authority_shown, counted, is_dnssec_ok, reply_octets, response_flags, response_of, whole_response}
 use Rattle.server_responses.specs.Sections.{all_shown, answer_section, authority_section, is_added, negative_ttl, shown, written_as_handed}
-use Rattle.server_laws.specs.Heard.{IsZone, asks_soa, has_link_in, is_link_shown, is_truncated}
+use Rattle.server_laws.specs.Heard.{asks_soa, has_link_in, is_link_shown, is_truncated}
+use Rattle.server_answers.specs.Zones.{IsZone}
 use Rattle.server_laws.proofs.Alone.{IsOf, IsRecordOf, SameButTtl, StandsAlone, piece_of, records_alike, records_of}
 use Rattle.server_laws.proofs.AnyQuestion.{answers_judged}
 use Rattle.server_laws.proofs.Heard.{answer_alone, no_glue, ok_is, type_unjudged, unjudged, zone_formed, zone_servable}

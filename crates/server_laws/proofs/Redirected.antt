@@ -54,7 +54,8 @@ use Rattle.server_queries.specs.Queries.{Queried}
 use Rattle.server_responses.specs.Links.{is_authoritative, is_link_of, shows_link}
 use Rattle.server_responses.specs.Redirects.{Redirected, is_dname_above, made_cname, redirect_flags, redirect_in, redirect_of, redirect_response, redirected, redirected_by_first, redirected_in, whole_redirect}
 use Rattle.server_responses.specs.Responses.{counted, error_response, is_dnssec_ok, reply_octets, response_flags}
-use Rattle.server_laws.specs.Heard.{IsZone, is_truncated}
+use Rattle.server_laws.specs.Heard.{is_truncated}
+use Rattle.server_answers.specs.Zones.{IsZone}
 use Rattle.server_laws.specs.Redirected.{IsRedirected, RedirectsAreMade, RedirectsJudgedAlike}
 use Rattle.server_laws.proofs.Alone.{IsOther, SignsOther}
 use Rattle.server_laws.proofs.Beside.{AreSpare, whole_judged}

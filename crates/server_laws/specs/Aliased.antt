@@ -8,7 +8,7 @@ use Rattle.messages.specs.Message.{Asked}
 use Rattle.answer_terms.specs.Asking.{is_allowed}
 use Rattle.server_answers.specs.Aliases.{alias_of, is_answered}
 use Rattle.server_answers.specs.World.{World, served_in}
-use Rattle.server_laws.specs.Heard.{IsZone}
+use Rattle.server_answers.specs.Zones.{IsZone}
 
 -- The question that an alias answers is one that the publisher answers: so no response refuses it.
 abbrev pub AliasesAreAnswered : Type 0

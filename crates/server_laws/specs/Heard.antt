@@ -1,25 +1,21 @@
 -- What a judge says of what a name server answers.
 use Rattle.std.specs.Prelude.{◌≡◌, ℕ, ◌<◌, ◌≤◌, Bool, true, false, ◌&&◌, ◌==◌, List, [], ◌∷◌, Option, Result, Ok, Err}
-use Rattle.std.specs.List.{AllByRecursion}
 use Rattle.definitions.specs.Limits.{pointer_limit}
-use Rattle.definitions.specs.Name.{IsName, Name, same}
+use Rattle.definitions.specs.Name.{Name, same}
 use Rattle.definitions.specs.Zone.{verdict}
 use Rattle.definitions.specs.ZoneChain.{Mode, optout_of}
 use Rattle.denial_laws.specs.Aliases.{is_alias_type}
-use Rattle.messages.specs.Handed.{IsHanded}
 use Rattle.messages.specs.HandedRr.{HandedRr, among}
 use Rattle.messages.specs.declared.error.MessageError.{MessageError}
 use Rattle.messages.specs.Message.{Asked, Message, message, pair}
 use Rattle.messages.specs.WrittenLaws.{IsQuestion}
 use Rattle.answer_scheme.specs.Answers.{Answers}
-use Rattle.answer_terms.specs.Accepting.{sorted_records, zone_of}
-use Rattle.answer_zone_records.specs.AliasFaults.{IsAcceptedWithAliases}
+use Rattle.answer_terms.specs.Accepting.{zone_of}
 use Rattle.answer_judge.specs.Judging.{Answer, JudgeInput, Says}
 use Rattle.answer_judge.specs.Judged.{AnswersAs, judged}
 use Rattle.answer_judge.specs.Meeting.{WasGiven}
 use Rattle.message_laws.specs.SeenAlike.{ProvesAlike, SeenAlike}
 use Rattle.message_laws.specs.Shown.{IsShown}
-use Rattle.server_answers.specs.World.{World}
 use Rattle.server_queries.specs.Headers.{has_flag}
 use Rattle.server_queries.specs.Queries.{Queried}
 use Rattle.server_responses.specs.Links.{shows_link}
@@ -30,14 +26,7 @@ use Rattle.server_answers.specs.Parameters.{IsParameters, is_for_parameters}
 use Rattle.server_answers.specs.Responding.{IsAnswered, IsMessage, Serving}
 use Rattle.server_answers.specs.Subset.{IsSubset, wants_signatures}
 use Rattle.server_answers.specs.Synthesized.{IsDenied}
-
--- the zone of a world is one of records that were handed in and accepted, aliases among them or not
-pub record IsZone (w : World) : Type 0 where
-  pub records : List HandedRr
-  pub apex_is : IsName w.zone.apex
-  pub records_are : AllByRecursion IsHanded records
-  pub accepted : IsAcceptedWithAliases w.answers.hash w.zone.apex w.zone.mode w.zone.limit records
-  pub sorted : w.zone.records ≡ sorted_records records
+use Rattle.server_answers.specs.Zones.{IsZone}
 
 -- TC: the message holds less than was asked for (RFC 1035, 4.1.1)
 abbrev pub is_truncated : List ℕ → Bool

@@ -13,7 +13,8 @@ use Rattle.server_answers.specs.Aliases.{alias_of}
 use Rattle.server_answers.specs.Responding.{IsMessage, Serving}
 use Rattle.server_answers.specs.Subset.{wants_signatures}
 use Rattle.server_answers.specs.World.{served_in}
-use Rattle.server_laws.specs.Heard.{HoldsAll, IsZone, SaysAlike}
+use Rattle.server_laws.specs.Heard.{HoldsAll, SaysAlike}
+use Rattle.server_answers.specs.Zones.{IsZone}
 
 -- the question is answered by a DNAME above its name (RFC 6672, 3.2), and this is the message for that DNAME
 pub record IsRedirected (s : Serving) (q : Queried) (alias : Asked) (m : List ℕ) : Type 0 where

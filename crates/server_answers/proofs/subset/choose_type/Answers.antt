@@ -6,8 +6,8 @@ use Rattle.messages.specs.Questions.{asked_of}
 use Rattle.server_answers.specs.Listed.{listed}
 use Rattle.server_answers.specs.Responding.{unsigned}
 use Rattle.answer_publisher.specs.Aliases.{for_type}
-use Rattle.server_answers.specs.Subset.{IsFirst, is_no_data}
-use Rattle.server_answers.proofs.Choosing.{chosen_where, memory_alone, noted_again, of_ok}
+use Rattle.server_answers.specs.Subset.{IsFirst, TellsInside, is_no_data}
+use Rattle.server_answers.proofs.Choosing.{chosen_where, memory_alone, noted_again, of_ok, tells_inside}
 use Rattle.server_answers.proofs.Making.{rest_of}
 use Rattle.server_answers.proofs.subset.choose_type.Goals as goal
 
@@ -38,6 +38,9 @@ returns-in-Ok-clause-fault g c =
     let p = c.args.publisher.now in
     memory_alone (RefusesQuestion (unsigned (world_of g.S.Scheme.signature_of g.S.Scheme.verifies g.S.Scheme.digest_of g.H.Nsec3Hasher.hash_of p)) p.keys c.args.at.now (for_type 65535 (asked_of c.args.question.now))) c.choose_listed.result c.choose_listed.ensures.memory
 
+pub returns-in-Ok-clause-allowed : goal.returns-in-Ok-clause-allowed
+returns-in-Ok-clause-allowed g c = memory_alone (TellsInside c.args.publisher.now.zone.apex (asked_of c.args.question.now)) c.choose_listed.result c.choose_listed.ensures.memory
+
 pub returns-in-Ok-clause-was : goal.returns-in-Ok-clause-was
 returns-in-Ok-clause-was g c = inr (ap (λ q. q.latest) c.choose_listed.ensures.same ∙ c.in-Ok.ensures.noted)
 
@@ -48,6 +51,10 @@ pub returns-in-Err-clause-fault : goal.returns-in-Err-clause-fault
 returns-in-Err-clause-fault g c =
     let p = c.args.publisher.now in
     λ other. subst (λ (k : ℕ). RefusesQuestion (unsigned (world_of g.S.Scheme.signature_of g.S.Scheme.verifies g.S.Scheme.digest_of g.H.Nsec3Hasher.hash_of p)) p.keys c.args.at.now (for_type k (asked_of c.args.question.now)) c.in-Err.fault) c.from_int-question.ensures c.in-Err.ensures.fault
+
+pub returns-in-Err-clause-allowed : goal.returns-in-Err-clause-allowed
+returns-in-Err-clause-allowed g c =
+    λ other. tells_inside c.args.publisher.now.zone.apex (asked_of c.args.question.now) c.from_int-question.result c.in-Err.fault c.from_int-question.ensures c.in-Err.ensures.allowed
 
 pub returns-in-Err-clause-was : goal.returns-in-Err-clause-was
 returns-in-Err-clause-was g c = inl c.in-Err.ensures.refused

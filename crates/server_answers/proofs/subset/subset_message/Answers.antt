@@ -25,4 +25,4 @@ pub returns-clause-made : goal.returns-clause-made
 returns-clause-made g c =
     let p = c.args.publisher.now in
     let s = serving_by (world_of g.S.Scheme.signature_of g.S.Scheme.verifies g.S.Scheme.digest_of g.H.Nsec3Hasher.hash_of p) p.keys c.args.server.now in
-    subset_unmade s (asked_of c.args.question) c.args.is_signed p.latest c.choose_type.new.publisher.latest c.in-Err.fault c.in-Err.ensures.fault c.in-Err.ensures.was
+    subset_unmade s (asked_of c.args.question) c.args.is_signed p.latest c.choose_type.new.publisher.latest c.in-Err.fault c.in-Err.ensures.fault c.in-Err.ensures.allowed c.in-Err.ensures.was
