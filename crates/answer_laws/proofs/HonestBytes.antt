@@ -195,7 +195,7 @@ some_version w [] rs h e = has_contained [] rs h
 some_version w (x ∷ all) rs h e = cc
 
 -- at one moment there was one version, or what the answer proves rests on one RRset
-settled_so : (w : World) (h : JudgeInput) (y : Story) (s : Sofar) (signed : List Signing) → AllByRecursion (IsOfRun y.signings) signed → h.one_moment ≡ true → (AreTimely y.times → OneBegins y.signings) → IsSettled w y s h
+settled_so : (w : World) (h : JudgeInput) (y : Story) (s : Sofar) (signed : List Signing) → AllByRecursion (IsOfRun y.signings) signed → h.one_moment ≡ true → (AreTimely y → OneBegins y.signings) → IsSettled w y s h
     → Settled w.answers pointer_limit h (published_by y.past s.keys) (map (version_of w) y.versions.all) signed
 settled_so w h y s signed of_run on one (inl e) = inl (length-map y.versions.all (version_of w) ∙ e)
 settled_so w h y s signed of_run on one (inr (inl timely)) = inr (inl (on, one_at_a_time y.signings signed (one timely) of_run))
@@ -206,7 +206,7 @@ of_run_versions : (versions : List Version) (signings signed : List Signing) →
 of_run_versions versions signings signed of = all_more (IsOfRun signings) (λ (s : Signing). Contains versions s.version) signed
     (λ s d. subst (Contains versions) (sym d.version_is) (all_at (λ (s : Signing). Contains versions s.version) signings d.given of (has_contained signings d.given d.there)))
 
-honestly : (w : World) (y : Story) (s : Sofar) (at : ℕ) (set : List Ds) (keys bytes : List ℕ) (asked : Asked) (j : Result Judgement Refused) → IsName w.zone.apex → AllByRecursion (IsVersionOf w) y.versions.all → (AreTimely y.times → OneBegins y.signings)
+honestly : (w : World) (y : Story) (s : Sofar) (at : ℕ) (set : List Ds) (keys bytes : List ℕ) (asked : Asked) (j : Result Judgement Refused) → IsName w.zone.apex → AllByRecursion (IsVersionOf w) y.versions.all → (AreTimely y → OneBegins y.signings)
     → IsSo w y.signings y.past y.versions s → IsQuestion asked → Judges w at set keys bytes asked j → SaysOneHonestly w y s at set keys bytes asked (answer_of j)
 honestly w y s at set keys bytes asked j apex all one known question judges honest apart settled = judges.honest (map (version_of w) y.versions.all) (record {
   published = published_by y.past s.keys;
@@ -229,7 +229,7 @@ question_at [] i asked bytes h e = cc
 question_at (x ∷ xs) zero asked bytes h e = subst HasQuestion (some_is x (things.OfZone asked bytes) e) h.0
 question_at (x ∷ xs) (suc i) asked bytes h e = question_at xs i asked bytes h.1 e
 
-pub spoken : (w : World) (y : Story) (s t : Sofar) (at : ℕ) (a : Act) (o : Outcome) → IsName w.zone.apex → AllByRecursion (IsVersionOf w) y.versions.all → (AreTimely y.times → OneBegins y.signings) → IsSo w y.signings y.past y.versions s → StepOf w s at a o t
+pub spoken : (w : World) (y : Story) (s t : Sofar) (at : ℕ) (a : Act) (o : Outcome) → IsName w.zone.apex → AllByRecursion (IsVersionOf w) y.versions.all → (AreTimely y → OneBegins y.signings) → IsSo w y.signings y.past y.versions s → StepOf w s at a o t
     → AtJudgement (SaysOneHonestly w y s at) s a o
 spoken w y s t at (act.JudgeBytes ds dnskey answer q) (outcome.Judged j) apex all one known is = λ set a.
     honestly w y s at set dnskey.items answer.items (asked_of q) j apex all one known is.1

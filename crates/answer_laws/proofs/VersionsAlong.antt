@@ -31,20 +31,20 @@ use Rattle.answer_laws.proofs.OneAtATime as moments
 pub record IsTold (w : World) (y : Story) (s : Sofar) : Type 0 where
   pub known : judgements.IsKnown w y.moments y.history y.past y.versions s
   pub so : honest.IsSo w y.signings y.past y.versions s
-  pub dated : moments.AreDatedSo w y.times y.versions y.signings s
+  pub dated : moments.AreDatedSo w y.times y.parting y.versions y.signings s
 
 stepped : (w : World) (y : Story) (s t : Sofar) (at : ℕ) (a : Act) (o : Outcome) → IsTold w y s → StepOf w s at a o t → IsTold w (story_with w y s.keys at a o) t
 stepped w y s t at a o h is = record {
   known = judgements.stepped w y.moments y.history y.past y.versions s t at a o h.known is;
   so = honest.stepped w y.signings y.past y.versions s t at a o h.so is;
-  dated = moments.stepped w y.times y.versions y.signings s t at a o h.dated is;
+  dated = moments.stepped w y.times y.parting y.versions y.signings s t at a o h.dated is;
 }
 
 spoken : (w : World) (y : Story) (s t : Sofar) (at : ℕ) (a : Act) (o : Outcome) → IsTold w y s → StepOf w s at a o t → SaysOfVersions w y s at a o
 spoken w y s t at a o h is = record {
   one_state = judgements.spoken_at w y.moments y.history y.past y.versions s t at a o h.known is;
   through_rolls = judgements.spoken_through w y.moments y.history y.past y.versions s t at a o h.known is;
-  no_false = honest.spoken w y s t at a o h.known.now_is.apex_is h.known.all_are (moments.one_begins w y.times s.latest y.versions.now y.signings h.dated) h.so is;
+  no_false = honest.spoken w y s t at a o h.known.now_is.apex_is h.known.all_are (moments.one_begins w y s.latest y.versions.now y.signings h.dated) h.so is;
 }
 
 along : (w : World) (y : Story) (s : Sofar) (es : List Event) (os : List Outcome) (u : Sofar) (run : Simulates w s es os u) → IsTold w y s → VersionsAlong w y s es os u run

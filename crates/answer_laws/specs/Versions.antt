@@ -1,5 +1,5 @@
 -- What judgements say of a zone whose records are replaced: of the records that an answer was of, and never of a mixture.
-use Rattle.std.specs.Prelude.{◌≡◌, ◌⊎◌, ℕ, ◌+◌, ◌<◌, ◌≤◌, List, [], ◌∷◌, ◌++◌, Contains, Some, Ok, length, map, slice_get}
+use Rattle.std.specs.Prelude.{◌≡◌, ◌⊎◌, ℕ, ◌+◌, ◌<◌, Bool, true, ◌&&◌, List, [], ◌∷◌, ◌++◌, Contains, Option, Some, None, Ok, length, map, nat_le, slice_get}
 use Rattle.std.specs.List.{AllByRecursion}
 use Rattle.definitions.specs.Dnskey.{Ds}
 use Rattle.definitions.specs.Limits.{pointer_limit}
@@ -11,7 +11,7 @@ use Rattle.answer_events.specs.declared.event.Act.TheVariants as act
 use Rattle.answer_events.specs.declared.event.Event.{Event}
 use Rattle.answer_judge.specs.Honest.{HasOneRrset, SaysOneOf, Signing}
 use Rattle.answer_judge.specs.Judging.{Answer, JudgeInput}
-use Rattle.answer_publisher.specs.Replacing.{whole_second}
+use Rattle.answer_publisher.specs.Replacing.{noted, whole_second}
 use Rattle.answer_publisher.specs.World.{World}
 use Rattle.answer_publisher_keys.specs.Bindings.{ZoneKeys}
 use Rattle.answer_outcomes.specs.declared.outcome.Outcome.{Outcome}
@@ -50,14 +50,37 @@ versions_with v act.ShowDnskey (outcome.Message place octets) = with_showing v
 versions_with v (act.Ask q) (outcome.Message place octets) = with_showing v
 versions_with v _ _ = v
 
+-- The greatest second of a replacement so far, and whether no answer was of a second before that of the replacements in front of it.
+-- Since no replacement comes too soon, the seconds in front of one lie then before all seconds behind it.
+pub record Parting : Type 0 where
+  pub since : Option ℕ
+  pub kept : Bool
+
+abbrev pub no_parting : Parting
+no_parting = record { since = None; kept = true }
+
+-- a moment's second is not before another
+abbrev pub is_behind : Option ℕ → ℕ → Bool
+is_behind None at = true
+is_behind (Some second) at = nat_le second (whole_second at)
+
+-- with one more event, at a moment
+abbrev pub parting_with : Parting → ℕ → Act → Outcome → Parting
+parting_with p at (act.Replace records) (outcome.Replaced (Ok u)) = record p { since = noted p.since at }
+parting_with p at (act.Key c) o = p
+parting_with p at (act.Judge ds dnskey answer) o = p
+parting_with p at (act.JudgeBytes ds dnskey answer q) o = p
+parting_with p at (act.Ask q) (outcome.Message place octets) = record p { kept = p.kept && is_behind p.since at }
+parting_with p at _ _ = p
+
 -- the world with a version of its zone
 abbrev pub in_version : World → List HandedRr → World
 in_version w rs = with_records w (sorted_records rs)
 
 -- ---- the events so far
 
--- the moments of all events, the showing of each thing in both ways, the keys that were passed, what was signed, and the
--- versions of the zone
+-- the moments of all events, the showing of each thing in both ways, the keys that were passed, what was signed, the versions of
+-- the zone, and how replacements part the seconds of answers
 pub record Story : Type 0 where
   pub times : List ℕ
   pub moments : List Moment
@@ -65,9 +88,10 @@ pub record Story : Type 0 where
   pub past : List ZoneKeys
   pub signings : List Signing
   pub versions : Versions
+  pub parting : Parting
 
 abbrev pub first_story : List HandedRr → Story
-first_story rs = record { times = []; moments = []; history = no_history; past = []; signings = []; versions = first_version rs }
+first_story rs = record { times = []; moments = []; history = no_history; past = []; signings = []; versions = first_version rs; parting = no_parting }
 
 -- with one more event, before which there are these keys
 abbrev pub story_with : World → Story → ZoneKeys → ℕ → Act → Outcome → Story
@@ -78,6 +102,7 @@ story_with w y keys at a o = record {
   past = past_with y.past keys a o;
   signings = signings_with y.signings w y.versions.now at a o;
   versions = versions_with y.versions a o;
+  parting = parting_with y.parting at a o;
 }
 
 -- ---- judgements
@@ -88,18 +113,15 @@ IsAbout v (act.Judge ds dnskey answer) rs = slice_get v.shown answer ≡ Some rs
 IsAbout v (act.JudgeBytes ds dnskey answer q) rs = Contains v.all rs
 IsAbout v _ rs = ⊥
 
-abbrev pub NeverBack : List ℕ → Type 0
-NeverBack [] = Unit {0}
-NeverBack (at ∷ later) = AllByRecursion (λ m. at ≤ m) later × NeverBack later
-
--- moments that never go back, whose whole seconds lie less than 2^32 apart
-pub record AreTimely (times : List ℕ) : Type 0 where
-  pub rising : NeverBack times
-  pub near : (m n : ℕ) → Contains times m → Contains times n → whole_second m < whole_second n + 4294967296
+-- The seconds of answers in front of a replacement lie before all those behind it, and all seconds less than 2^32 apart. Moments may
+-- go back otherwise, as where a clock is put right.
+pub record AreTimely (y : Story) : Type 0 where
+  pub parted : y.parting.kept ≡ true
+  pub near : (m n : ℕ) → Contains y.times m → Contains y.times n → whole_second m < whole_second n + 4294967296
 
 -- the zone never changed, or the events so far are timely, or one RRset of the zone answer is signed
 abbrev pub IsSettled : World → Story → Sofar → JudgeInput → Type 0
-IsSettled w y s h = (length y.versions.all ≡ 1) ⊎ (AreTimely y.times ⊎ HasOneRrset w.answers pointer_limit h (published_by y.past s.keys))
+IsSettled w y s h = (length y.versions.all ≡ 1) ⊎ (AreTimely y ⊎ HasOneRrset w.answers pointer_limit h (published_by y.past s.keys))
 
 -- A judgement of messages in which nothing is forged says the verdict of one version, in which the name is no alias, or refuses:
 -- a mixture of two is never taken for a zone.
