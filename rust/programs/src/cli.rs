@@ -26,6 +26,8 @@ pub enum Command {
     Judge(Judge),
     #[command(subcommand)]
     Forward(Forward),
+    #[command(subcommand)]
+    Shadow(Shadow),
     /// Print the completion script for a shell
     #[command(hide = true)]
     Completion,
@@ -165,6 +167,35 @@ pub enum Forward {
     Check {
         /// Configuration
         #[arg(long, value_name = "FILE", default_value = "/etc/zermuita/forward.toml")]
+        config: PathBuf,
+    },
+    /// Print a configuration with every setting at its default
+    Defaults,
+}
+
+/// Watch a validating resolver: judge what it validates, and tell where it says something else
+#[derive(Debug, Subcommand)]
+#[command(
+    long_about = "Judge what a validating resolver validates, beside it. The resolver logs by dnstap what servers sent and what it \
+answered. Where the judge says something else, a line of JSON has both, with the messages as a case of the corpus. Changes nothing, \
+and asks nobody unless it is told to.",
+    after_help = "Exit status: 0 if it was told to stop, its file has ended or the configuration is right, 1 if the configuration is \
+wrong or not all lines were written, 2 if the call is wrong, 3 if the socket cannot be opened"
+)]
+pub enum Shadow {
+    /// Run until told to stop; SIGHUP opens the file of disagreements again, SIGUSR1 writes counts
+    Run {
+        /// Configuration
+        #[arg(long, value_name = "FILE", default_value = "/etc/zermuita/shadow.toml")]
+        config: PathBuf,
+        /// Read a file of frames, as fstrm_capture writes it, in the place of the socket, and end
+        #[arg(long, value_name = "FILE")]
+        frames: Option<PathBuf>,
+    },
+    /// Check a configuration, and print every setting that is in effect
+    Check {
+        /// Configuration
+        #[arg(long, value_name = "FILE", default_value = "/etc/zermuita/shadow.toml")]
         config: PathBuf,
     },
     /// Print a configuration with every setting at its default

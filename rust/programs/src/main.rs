@@ -3,15 +3,20 @@
 #![cfg_attr(not(test), warn(clippy::unwrap_used))]
 
 mod anchor;
+mod bounded;
 mod cli;
 mod forward;
 mod judge;
+mod log;
 mod manual;
 mod net;
 mod out;
+mod page;
 mod root;
+mod shadow;
 mod text;
 mod trace;
+mod verified;
 mod way;
 
 use std::process::ExitCode;
@@ -27,6 +32,7 @@ fn main() -> ExitCode {
         cli::Command::Trace(options) => trace::run(&options),
         cli::Command::Judge(options) => judge::run(&options),
         cli::Command::Forward(command) => forward::run(&command),
+        cli::Command::Shadow(command) => shadow::run(&command),
         cli::Command::Completion => manual::completion(),
         cli::Command::Manual { page } => manual::page(page.as_deref()),
     };

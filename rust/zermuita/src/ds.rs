@@ -88,6 +88,12 @@ impl DsSet {
         &self.0
     }
 
+    /// The set without the records for which something does not hold; none if it has no others.
+    #[must_use]
+    pub fn retained(&self, mut keeps: impl FnMut(&[u8]) -> bool) -> Option<Self> {
+        DsSet::from_records(self.iter().filter(|it| keeps(it))).ok()
+    }
+
     /// The data of the records.
     pub fn iter(&self) -> impl Iterator<Item = &[u8]> {
         let mut rest = self.as_octets();
@@ -161,23 +167,50 @@ fn data_of_line(words: &mut std::iter::Peekable<std::str::SplitAsciiWhitespace<'
     data_of(&words.collect::<Vec<_>>().join(" "))
 }
 
+/// The zone and the data of each line's record, with the line.
+fn records_of(text: &str) -> Result<Vec<(usize, Name, Vec<u8>)>, DsError> {
+    let mut records = Vec::new();
+    for (line, text) in (1..).zip(text.lines()) {
+        let mut words = text.split(';').next().unwrap_or("").split_ascii_whitespace().peekable();
+        if let Some(word) = words.next() {
+            let zone = word.parse::<Name>().map_err(|error| DsError::BadName { line, error })?;
+            records.push((line, zone, data_of_line(&mut words).ok_or(DsError::BadLine(line))?));
+        }
+    }
+    Ok(records)
+}
+
+impl TrustAnchor {
+    /// Reads the lines of a file that may have DS records of several zones.
+    ///
+    /// # Errors
+    ///
+    /// [`DsError::Empty`], [`DsError::BadName`] or [`DsError::BadLine`].
+    pub fn all(text: &str) -> Result<Vec<Self>, DsError> {
+        let mut zones: Vec<(Name, Vec<Vec<u8>>)> = Vec::new();
+        for (_, zone, data) in records_of(text)? {
+            match zones.iter_mut().find(|it| it.0 == zone) {
+                Some(found) => found.1.push(data),
+                None => zones.push((zone, vec![data])),
+            }
+        }
+        if zones.is_empty() {
+            return Err(DsError::Empty);
+        }
+        zones.into_iter().map(|(zone, data)| Ok(TrustAnchor { zone, ds: DsSet::from_records(data)? })).collect()
+    }
+}
+
 impl FromStr for TrustAnchor {
     type Err = DsError;
 
     fn from_str(text: &str) -> Result<Self, DsError> {
-        let (mut zone, mut records) = (None, Vec::new());
-        for (line, text) in (1..).zip(text.lines()) {
-            let mut words = text.split(';').next().unwrap_or("").split_ascii_whitespace().peekable();
-            let owner = match words.next() {
-                Some(word) => word.parse::<Name>().map_err(|error| DsError::BadName { line, error })?,
-                None => continue,
-            };
-            if *zone.get_or_insert_with(|| owner.clone()) != owner {
-                return Err(DsError::OtherZone(line));
-            }
-            records.push(data_of_line(&mut words).ok_or(DsError::BadLine(line))?);
+        let records = records_of(text)?;
+        let zone = records.first().map(|it| it.1.clone()).ok_or(DsError::Empty)?;
+        match records.iter().find(|it| it.1 != zone) {
+            Some((line, ..)) => Err(DsError::OtherZone(*line)),
+            None => Ok(TrustAnchor { ds: DsSet::from_records(records.into_iter().map(|it| it.2))?, zone }),
         }
-        Ok(TrustAnchor { ds: DsSet::from_records(records)?, zone: zone.ok_or(DsError::Empty)? })
     }
 }
 
@@ -198,6 +231,18 @@ mod tests {
         ] {
             assert_eq!(text.parse::<TrustAnchor>(), Err(error), "{text}");
         }
+    }
+
+    #[test]
+    fn anchors_of_several_zones_are_read() {
+        let text = "test. IN DS 1 8 2 E0\n. IN DS 2 8 2 E1\nTEST. IN DS 3 8 2 E2\n";
+        let all: Vec<_> = TrustAnchor::all(text).unwrap().iter().map(|it| (it.zone.to_string(), it.ds.to_string())).collect();
+        let of = |zone: &str, ds: &str| (zone.to_owned(), ds.to_owned());
+        assert_eq!(all, [of("test.", "1 8 2 E0, 3 8 2 E2"), of(".", "2 8 2 E1")]);
+        assert_eq!(TrustAnchor::all("; none"), Err(DsError::Empty));
+        let set: DsSet = "1 8 2 E0, 2 8 1 E1".parse().unwrap();
+        assert_eq!(set.retained(|it| it[3] == 2).map(|it| it.to_string()), Some("1 8 2 E0".to_owned()));
+        assert_eq!(set.retained(|_| false), None);
     }
 
     #[test]

@@ -6,6 +6,7 @@ use std::path::{Path, PathBuf};
 use serde::{Deserialize, Serialize};
 use zermuita::{Name, TrustAnchor};
 
+use crate::log::{Format, Level};
 use crate::net::Server;
 use crate::out::{self, Failure};
 use crate::{anchor, root};
@@ -46,22 +47,6 @@ pub struct Log {
     pub format: Format,
     pub level: Level,
     pub queries: bool,
-}
-
-#[derive(Clone, Copy, Debug, PartialEq, Eq, Serialize, Deserialize)]
-#[serde(rename_all = "kebab-case")]
-pub enum Format {
-    Json,
-    Text,
-}
-
-#[derive(Clone, Copy, Debug, PartialEq, Eq, Serialize, Deserialize)]
-#[serde(rename_all = "kebab-case")]
-pub enum Level {
-    Error,
-    Warn,
-    Info,
-    Debug,
 }
 
 #[derive(Clone, Debug, Default, Serialize, Deserialize)]

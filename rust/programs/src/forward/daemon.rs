@@ -11,28 +11,15 @@ use tokio::net::{TcpListener, TcpStream, UdpSocket};
 use tokio::signal::unix::{signal, SignalKind};
 use tokio_openssl::SslStream;
 
-use super::config::{self, Format, Level, Log, Ready, Tls};
-use super::metrics::{self, Count, Metrics};
+use super::config::{self, Ready, Tls};
+use super::metrics::{Count, Metrics};
 use super::resolver::Resolver;
 use super::serve::{connections, datagrams, stream, Shared, Transport};
 use crate::out::Failure;
+use crate::{log, page};
 
 /// How long a handshake of TLS may take.
 const HANDSHAKE: Duration = Duration::from_secs(5);
-
-fn begin_log(log: &Log) {
-    let level = match log.level {
-        Level::Error => tracing::Level::ERROR,
-        Level::Warn => tracing::Level::WARN,
-        Level::Info => tracing::Level::INFO,
-        Level::Debug => tracing::Level::DEBUG,
-    };
-    let subscriber = tracing_subscriber::fmt().with_max_level(level).with_writer(std::io::stderr).with_target(false);
-    match log.format {
-        Format::Json => subscriber.json().init(),
-        Format::Text => subscriber.with_ansi(atty::is(atty::Stream::Stderr)).init(),
-    }
-}
 
 fn unopened(address: SocketAddr, what: &str, error: std::io::Error) -> Failure {
     let advice = match error.kind() {
@@ -89,7 +76,8 @@ async fn open(shared: &Arc<Shared>, ready: &Ready) -> Result<(), Failure> {
         }
     }
     if let Some(address) = ready.config.metrics.listen {
-        metrics::serve(address, shared.metrics.clone()).await.map_err(|error| unopened(address, "TCP", error))?;
+        let metrics = shared.metrics.clone();
+        page::serve(address, move || metrics.page()).await.map_err(|error| unopened(address, "TCP", error))?;
     }
     Ok(())
 }
@@ -136,7 +124,7 @@ async fn served(path: &Path, ready: Ready) -> Result<u8, Failure> {
 
 /// Runs until it is told to stop.
 pub fn run(path: &Path, ready: Ready) -> Result<u8, Failure> {
-    begin_log(&ready.config.log);
+    log::begin(ready.config.log.format, ready.config.log.level);
     let runtime = tokio::runtime::Builder::new_multi_thread().enable_all().build()?;
     let status = runtime.block_on(served(path, ready));
     runtime.shutdown_timeout(Duration::from_secs(1));

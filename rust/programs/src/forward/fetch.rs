@@ -8,9 +8,9 @@ use tokio::time::Instant;
 use zermuita::message::{flags, Message};
 use zermuita::{Name, Question, Rtype};
 
-use super::bounded::Bounded;
 use super::config::Ready;
 use super::metrics::{Count, Metrics};
+use crate::bounded::Bounded;
 use crate::net::{ask, Asked, Patience, Tracked};
 
 /// A message, when it came, and from where.

@@ -1,13 +1,8 @@
-//! Counts, and their page for Prometheus.
+//! Counts.
 
-use std::fmt::Write;
-use std::net::SocketAddr;
 use std::sync::atomic::{AtomicU64, Ordering};
-use std::sync::Arc;
-use std::time::Duration;
 
-use tokio::io::{AsyncReadExt, AsyncWriteExt};
-use tokio::net::{TcpListener, TcpStream};
+use crate::page::{self, Kind, Sample};
 
 macro_rules! counts {
     ($($name:ident $metric:literal $label:literal),* $(,)?) => {
@@ -55,46 +50,11 @@ impl Metrics {
         self.0[count as usize].fetch_add(more, Ordering::Relaxed);
     }
 
-    fn page(&self) -> String {
-        let mut page = String::new();
-        let mut last = "";
-        for ((metric, label), count) in METRICS.iter().zip(&self.0) {
-            if *metric != last {
-                let _ = writeln!(page, "# TYPE zermuita_forward_{metric} counter");
-                last = metric;
-            }
-            let label = if label.is_empty() { String::new() } else { format!("{{{label}}}") };
-            let _ = writeln!(page, "zermuita_forward_{metric}{label} {}", count.load(Ordering::Relaxed));
-        }
-        page
+    /// The page for Prometheus.
+    pub fn page(&self) -> String {
+        let counts = METRICS.iter().zip(&self.0);
+        page::text("zermuita_forward", counts.map(|((name, label), count)| {
+            Sample { name, label, kind: Kind::Counter, value: count.load(Ordering::Relaxed) }
+        }))
     }
-}
-
-async fn answer(mut stream: TcpStream, metrics: &Metrics) -> std::io::Result<()> {
-    let mut request = [0; 2048];
-    let len = stream.read(&mut request).await?;
-    let is_page = request[..len].starts_with(b"GET /metrics ");
-    let (status, body) = if is_page { ("200 OK", metrics.page()) } else { ("404 Not Found", "GET /metrics\n".to_owned()) };
-    let head = format!("HTTP/1.1 {status}\r\nContent-Type: text/plain; version=0.0.4\r\nContent-Length: {}\r\nConnection: close\r\n\r\n", body.len());
-    stream.write_all((head + &body).as_bytes()).await?;
-    stream.shutdown().await
-}
-
-/// Serves the page.
-pub async fn serve(address: SocketAddr, metrics: Arc<Metrics>) -> std::io::Result<()> {
-    let listener = TcpListener::bind(address).await?;
-    tokio::spawn(async move {
-        loop {
-            match listener.accept().await {
-                Ok((stream, _)) => {
-                    let metrics = metrics.clone();
-                    tokio::spawn(async move {
-                        let _ = tokio::time::timeout(Duration::from_secs(5), answer(stream, &metrics)).await;
-                    });
-                }
-                Err(_) => tokio::time::sleep(Duration::from_millis(100)).await,
-            }
-        }
-    });
-    Ok(())
 }

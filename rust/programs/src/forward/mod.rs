@@ -1,6 +1,5 @@
 //! `zermuita forward`: answers from validated answers alone.
 
-mod bounded;
 mod config;
 mod daemon;
 mod draft;
@@ -12,7 +11,6 @@ mod respond;
 mod serve;
 mod servers;
 mod unsigned;
-mod verified;
 mod walked;
 
 use std::io::Write;

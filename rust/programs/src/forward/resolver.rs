@@ -8,15 +8,15 @@ use std::time::Duration;
 use tokio::sync::OnceCell;
 use zermuita::{End, ExtendedError, Name, Outcome, Question, Refusal, Rtype, Wanted};
 
-use super::bounded::Bounded;
 use super::config::Ready;
 use super::draft::Draft;
 use super::fetch::{Fetched, Fetcher};
 use super::metrics::{Count, Metrics};
 use super::resolved::{Resolved, State};
 use super::unsigned::Unsigned;
-use super::verified::Verified;
 use super::walked::{NotWalked, Walked};
+use crate::bounded::Bounded;
+use crate::verified::Verified;
 use crate::way::Way;
 
 /// How many aliases are followed at most.

@@ -1,5 +1,6 @@
 //! Signatures that were checked before.
 
+use std::sync::atomic::{AtomicU64, Ordering};
 use std::time::Duration;
 
 use openssl::sha::Sha256;
@@ -7,7 +8,7 @@ use tokio::time::Instant;
 use zermuita::crypto::OpenSsl;
 use zermuita::{Algorithm, Ask, SignatureError, Signatures};
 
-use super::bounded::Bounded;
+use crate::bounded::Bounded;
 
 /// For how long it is kept what came of a signature: whether it holds at a moment is not asked here.
 const KEPT: Duration = Duration::from_secs(3600);
@@ -15,11 +16,17 @@ const KEPT: Duration = Duration::from_secs(3600);
 /// Checks signatures by OpenSSL, and keeps what came of them under the hash of all that they are.
 pub struct Verified {
     kept: Bounded<[u8; 32], bool>,
+    checked: AtomicU64,
 }
 
 impl Verified {
     pub fn new(room: usize) -> Self {
-        Verified { kept: Bounded::new(room) }
+        Verified { kept: Bounded::new(room), checked: AtomicU64::new(0) }
+    }
+
+    /// How many signatures were checked.
+    pub fn checked(&self) -> u64 {
+        self.checked.load(Ordering::Relaxed)
     }
 }
 
@@ -44,6 +51,7 @@ impl Signatures for Verified {
             return Ok(passes);
         }
         let passes = OpenSsl.verify(ask)?;
+        self.checked.fetch_add(1, Ordering::Relaxed);
         self.kept.insert(mark, passes, Instant::now() + KEPT);
         Ok(passes)
     }
