@@ -169,7 +169,7 @@ void zermuita_module_vouch(struct zermuita_module *module, const uint8_t *octets
 static bool disagrees(struct zermuita_module *module, struct event *event) {
     module->is_different = false;
     judging = module;
-    shadow_compare(&module->shadow, event, false);
+    shadow_compare(&module->shadow, event);
     judging = NULL;
     return module->is_different;
 }

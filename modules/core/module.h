@@ -2,7 +2,7 @@
  * The judge for a module of a resolver: takes the messages that the resolver has, judges what it is about to answer, and writes
  * the answer that it gives instead. A module calls it through a foreign function interface, so all types are plain.
  *
- * It is made of the parts of examples/shadow. Calls may be made in several threads: they wait for one another.
+ * Calls may be made in several threads: they wait for one another.
  */
 #ifndef MODULE_H
 #define MODULE_H

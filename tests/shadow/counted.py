@@ -3,8 +3,9 @@
 import re
 import subprocess
 
+import programs
 from recorded import Capture, record
-from resolvers import unanswered
+from resolvers import configured, unanswered
 
 # LuaJIT, of which Knot Resolver is made, writes code as it runs.
 VALGRIND = ["valgrind", "--tool=callgrind", "--callgrind-out-file=/dev/null", "--smc-check=all-non-file"]
@@ -56,6 +57,7 @@ async def of_resolver(kind, folder, address, key, questions, is_logging):
 async def of_shadow(program, anchor, kind, folder, address, key, questions):
     """How many instructions the shadow takes for what a resolver logs."""
     file = await record(kind, folder, address, key, questions)
-    words = [*VALGRIND, program, f"--anchors={anchor}", f"--file={file}"]
-    ran = subprocess.run(list(map(str, words)), stdin=subprocess.DEVNULL, capture_output=True, text=True, check=True)
+    words = [*VALGRIND, *program, "shadow", "run", "--config", configured(folder, anchor, {}), "--frames", file]
+    how = {"stdin": subprocess.DEVNULL, "capture_output": True, "text": True, "check": True, "env": programs.with_library()}
+    ran = subprocess.run(list(map(str, words)), **how)
     return collected(ran.stderr)

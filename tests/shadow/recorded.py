@@ -7,10 +7,12 @@ import os
 import pathlib
 import random
 import re
+import signal
 import subprocess
 import time
 
-from resolvers import Shadow, unanswered
+import programs
+from resolvers import Shadow, configured, unanswered
 from runners.programs import end
 
 CONTENT = "protobuf:dnstap.Dnstap"
@@ -80,10 +82,11 @@ def rename(file, times, seed):
     return write(file, "renamed", renamed, before, behind)
 
 
-def read(program, anchor, file, *more, environment=None):
+def read(program, anchor, file, room, settings=None, environment=None):
     """What the shadow says of a file: its disagreements, and its counts."""
-    words = [program, f"--anchors={anchor}", f"--file={file}", *more]
-    how = {"stdin": subprocess.DEVNULL, "capture_output": True, "text": True, "env": {**os.environ, **(environment or {})}}
+    room.mkdir(exist_ok=True)
+    words = [*program, "shadow", "run", "--config", configured(room, anchor, settings or {}), "--frames", file]
+    how = {"stdin": subprocess.DEVNULL, "capture_output": True, "text": True, "env": programs.with_library(**(environment or {}))}
     ran = subprocess.run(list(map(str, words)), **how)
     if ran.returncode:
         raise RuntimeError(f"{file}: status {ran.returncode}: {ran.stderr[-3000:]}")
@@ -91,10 +94,10 @@ def read(program, anchor, file, *more, environment=None):
     return lines[:-1], lines[-1]["counts"]
 
 
-def replay(program, folder, anchor, file, slowness):
+def replay(program, folder, anchor, file, slowness, liar):
     """What the shadow counts of a file that comes by its socket at full speed, while each judgement takes some milliseconds."""
     folder.mkdir()
-    shadow = Shadow(program, folder, anchor, ["--memory=8"], {"SLOW": str(slowness)})
+    shadow = Shadow(program, folder, anchor, {"memory-mib": 8}, {**liar, "SLOW": str(slowness)})
     try:
         subprocess.run(["fstrm_replay", "-t", CONTENT, "-u", shadow.socket, "-r", file], check=True, env={**os.environ})
         return shadow.end()[1]
@@ -115,7 +118,7 @@ SILENT = {
 }
 
 
-def unexplained(program, anchor, file, folder, lie):
+def unexplained(program, anchor, file, folder, environment):
     """Of each program that explains nothing, and of none: why it explained nothing, how often, and how long all took."""
     folder.mkdir()
     for name, (script, why) in {**SILENT, "is-not-there": (None, "failed")}.items():
@@ -123,27 +126,69 @@ def unexplained(program, anchor, file, folder, lie):
             (folder / name).write_text(f"#!/bin/sh\n{script}\n")
             (folder / name).chmod(0o755)
         begin = time.monotonic()
-        how = {"environment": {"LIE": lie}}
-        lines, counts = read(program, anchor, file, f"--explain={folder / name}", "--explanations=2", **how)
+        settings = {"explain.program": str(folder / name), "explain.per-minute": 2}
+        lines, counts = read(program, anchor, file, folder, settings, environment)
         told = collections.Counter(it["not explained"] for it in lines if it["explained"] is None)
         yield name, why, told, len(lines), counts, time.monotonic() - begin
 
 
-def refused(program, anchor, file, folder):
-    """Calls that can't be read, or whose files can't: those that end otherwise than they should."""
-    folder.mkdir()
+# Settings that are wrong, and those that are right: the status with each.
+SETTINGS = [
+    *((1, {name: value}) for name, value in (
+        ("socket-mode", "888"), ("socket-mode", "1777"), ("memory-mib", 7), ("memory-mib", -1), ("hold-seconds", 61),
+        ("nsec3-iterations", 65536), ("explain.per-minute", 0), ("ask", "localhost"), ("trust-anchors", "none"), ("other", 1),
+    )),
+    (0, {"ask": "::1"}), (0, {"ask": "[::1]:53"}), (0, {"hold-seconds": 0, "memory-mib": 8}),
+]
+
+
+def calls(anchor, file, folder):
+    """Calls that cannot be read, or whose files cannot, and the status of each."""
+    a = configured(folder, anchor, {})
+    run = ["shadow", "run", "--config"]
+    yield from ((2, words) for words in (["shadow"], ["shadow", "walk"], [*run], [*run, a, "more"], [*run, a, "--other"]))
+    yield from ((1, words) for words in ([*run, folder / "none"], [*run, a, "--frames", "none"], [*run, a, "--frames", anchor]))
+    for at, (status, settings) in enumerate(SETTINGS):
+        (folder / str(at)).mkdir()
+        it = configured(folder / str(at), anchor, settings)
+        yield status, [*run, it, "--frames", file]
+        yield status, ["shadow", "check", "--config", it]
+    for name, socket in (("far", f"{folder}/no/socket"), ("long", "x" * 200)):
+        (folder / name).mkdir()
+        yield 3, [*run, configured(folder / name, anchor, {"socket": socket})]
+    (folder / "log").mkdir()
+    yield 1, [*run, configured(folder / "log", anchor, {"disagreements.file": f"{folder}/no/log"}), "--frames", file]
     texts = {"empty": "", "words": "not a record\n", "odd": ". IN DS 1 13 2 ABC\n", "old": ". IN DS 1 5 1 ABCD\n", "tag": ". IN DS 70000 13 2 AB\n"}
     for name, text in texts.items():
-        (folder / name).write_text(text)
-    a, f = f"--anchors={anchor}", f"--file={file}"
-    calls = [
-        (2, []), (2, [a]), (2, [f]), (2, [a, f, "--socket=x"]), (2, [a, f, "more"]), (2, [a, f, "--mode=888"]), (2, [a, f, "--mode=1777"]),
-        (2, [a, f, "--memory=7"]), (2, [a, f, "--memory=-1"]), (2, [a, f, "--hold=61"]), (2, [a, f, "--iterations=65536"]), (2, [a, f, "--other"]), (2, [a, f, "--explanations=0"]),
-        (1, ["--anchors=none", f]), (1, [a, "--file=none"]), (1, [a, f"--file={anchor}"]), (1, [a, f"--socket={folder}/no/socket"]),
-        (1, [a, f"--socket={'x' * 200}"]), (1, [a, f, "--ask=localhost@53"]), (1, [a, f, f"--log={folder}/no/log"]),
-        *((1, [f"--anchors={folder / it}", f]) for it in texts), (0, [a, f, "--ask=::1@53"]), (0, [a, f, "--hold=0", "--memory=8"]),
-    ]
-    for status, words in calls:
-        ran = subprocess.run([program, *words], cwd=folder, stdin=subprocess.DEVNULL, capture_output=True, text=True, timeout=60)
+        (folder / name).mkdir()
+        (folder / name / "anchor").write_text(text)
+        yield 1, [*run, configured(folder / name, folder / name / "anchor", {}), "--frames", file]
+
+
+def refused(program, anchor, file, folder):
+    """Calls that end otherwise than they should."""
+    folder.mkdir()
+    for status, words in calls(anchor, file, folder):
+        how = {"stdin": subprocess.DEVNULL, "capture_output": True, "text": True, "timeout": 60, "env": programs.with_library()}
+        ran = subprocess.run(list(map(str, [*program, *words])), cwd=folder, **how)
         if ran.returncode != status or (status != 0) != bool(ran.stderr):
             yield f"{words}: status {ran.returncode}: {ran.stderr[-500:]}"
+
+
+def reopened(program, anchor, file, folder):
+    """A file of disagreements that is moved away, and opened again by SIGHUP: lines of counts in both."""
+    folder.mkdir()
+    shadow = Shadow(program, folder, anchor)
+    try:
+        shadow.counts()
+        shadow.log.rename(folder / "moved")
+        shadow.process.send_signal(signal.SIGHUP)
+        for _ in range(100):
+            if shadow.log.exists():
+                break
+            time.sleep(0.1)
+        subprocess.run(["fstrm_replay", "-t", CONTENT, "-u", shadow.socket, "-r", file], check=True, env={**os.environ})
+        _, counts = shadow.end()
+        return counts, (folder / "moved").read_text(), shadow.log.read_text()
+    finally:
+        shadow.kill()

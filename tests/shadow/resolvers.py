@@ -10,8 +10,9 @@ import subprocess
 import sys
 import time
 
-sys.path.insert(0, str(pathlib.Path(__file__).resolve().parents[1] / "validators"))
+sys.path[:0] = [str(pathlib.Path(__file__).resolve().parents[1] / it) for it in ("validators", "rust")]
 
+import programs
 import validators
 from runners.programs import end
 from validators import Client
@@ -33,14 +34,23 @@ class RootKey:
         return self.data
 
 
-class Shadow:
-    """The program, on a socket in a folder, and what it logs."""
+def configured(folder, anchor, settings):
+    """The file of a configuration: settings by their names, with a point behind that of their table."""
+    plain = {"trust-anchors": str(anchor), **settings}
+    file = folder / "shadow.toml"
+    file.write_text("".join(f"{name} = {json.dumps(value)}\n" for name, value in plain.items()))
+    return file
 
-    def __init__(self, program, folder, anchor, more=(), environment=None):
+
+class Shadow:
+    """`zermuita shadow`, on a socket in a folder, and what it logs."""
+
+    def __init__(self, program, folder, anchor, settings=None, environment=None):
         self.socket, self.log = folder / "dnstap.sock", folder / "shadow.log"
-        words = [program, f"--anchors={anchor}", f"--socket={self.socket}", f"--log={self.log}", "--mode=0666", *more]
+        own = {"socket": str(self.socket), "socket-mode": "0666", "disagreements.file": str(self.log)}
+        words = [*program, "shadow", "run", "--config", configured(folder, anchor, own | (settings or {}))]
         with open(folder / "shadow.stderr", "wb") as errors:
-            how = {"stdin": subprocess.DEVNULL, "stderr": errors, "env": {**os.environ, **(environment or {})}}
+            how = {"stdin": subprocess.DEVNULL, "stderr": errors, "env": programs.with_library(**(environment or {}))}
             self.process = subprocess.Popen(list(map(str, words)), **how)
         for _ in range(100):
             if self.socket.exists():
@@ -98,7 +108,7 @@ class Logging:
     """What a test may switch off: dnstap, and validation."""
 
     is_logging = is_validating = True
-    asks = ()
+    asks_at = ""
 
     def configuration(self):
         text = super().configuration() + self.NAMES
@@ -143,8 +153,8 @@ class Knot(Logging, validators.Knot):
         return f"trust_anchors.add_file('{self.folder}/anchor', true)", "trust_anchors.remove('.')"
 
     @property
-    def asks(self):
-        return (f"--ask={self.address}@53",)
+    def asks_at(self):
+        return f"{self.address}:53"
 
     def logging(self, text):
         return text + f"""
@@ -157,7 +167,7 @@ class PowerDns(Logging, validators.PowerDns):
 
     NAMES = ""
     VALIDATION = "dnssec=validate", "dnssec=process-no-validate"
-    asks = (f"--ask={DISTRIBUTOR}@53",)
+    asks_at = f"{DISTRIBUTOR}:53"
     distributor = None
 
     def logging(self, text):
@@ -210,14 +220,14 @@ async def unanswered(resolver, questions):
     return sum(it is None for it in await asyncio.gather(*map(ask, questions)))
 
 
-async def asked(kind, folder, address, key, questions, program, anchor, more=(), is_validating=True, environment=None):
+async def asked(kind, folder, address, key, questions, program, anchor, settings=None, is_validating=True, environment=None):
     """A shadow and a resolver in a folder: what the shadow wrote once the questions were asked, and how many had no answer.
     A resolver that doesn't validate asks for no keys, so that the shadow does."""
     folder.mkdir(parents=True)
     resolver = kind(folder, address, key)
     resolver.is_validating = is_validating
-    asks = resolver.asks or (() if is_validating else (f"--ask={address}@53",))
-    shadow = Shadow(program, resolver.folder, anchor, (*asks, *more), environment)
+    asks = resolver.asks_at or ("" if is_validating else f"{address}:53")
+    shadow = Shadow(program, resolver.folder, anchor, (settings or {}) | ({"ask": asks} if asks else {}), environment)
     try:
         missing = await unanswered(resolver, questions)
         await shadow.settled(len(questions) - missing)

@@ -23,7 +23,5 @@ void table_put(struct table *table, const struct name *name, uint16_t rtype, str
 bool table_get(struct table *table, const struct name *name, uint16_t rtype, uint64_t now, struct octets *value,
                uint64_t *until);
 void table_remove(struct table *table, const struct name *name, uint16_t rtype);
-/* How many were evicted, or not kept. */
-uint64_t table_evicted(const struct table *table);
 
 #endif

@@ -1,10 +1,5 @@
 #include "report.h"
 
-#include "session.h"
-
-#include <stdlib.h>
-#include <time.h>
-
 /* The members of a result, as corpus/schema.json has them. */
 struct shown {
     const char *result, *which;
@@ -132,109 +127,12 @@ static void put_results(FILE *log, const struct trial *trial, const struct told 
     fprintf(log, "\"reply\":\"%s\",\"ede\":%u},", verdict->reply, verdict->ede);
 }
 
-static bool close_text(FILE *text) {
-    return text != NULL && fclose(text) == 0;
-}
-
-/* Hands a disagreement over to be explained. Gives false where memory lacks. */
-static bool is_handed_over(struct shadow *shadow, const struct trial *trial, const struct told *told,
-                           const struct verdict *verdict) {
-    struct line line = {0};
-    FILE *head = open_memstream(&line.head, &line.head_len), *tail = open_memstream(&line.tail, &line.tail_len);
-    FILE *session = open_memstream(&line.session, &line.session_len);
-    bool is_made = head != NULL && tail != NULL && session != NULL;
-    if (is_made) {
-        put_results(head, trial, told, verdict);
-        put_case(tail, shadow, trial, shown_verdict(verdict), shown_told(told));
-        fputs("}\n", tail);
-        line.why = write_session(session, shadow->judge, trial);
-    }
-    is_made = close_text(head) && is_made;
-    is_made = close_text(tail) && is_made;
-    is_made = close_text(session) && is_made;
-    if (line.why != NULL || !is_made) {
-        free(line.session);
-        line.session = NULL;
-        line.session_len = 0;
-    }
-    if (!is_made) {
-        free(line.head);
-        free(line.tail);
-        return false;
-    }
-    explain(shadow->explainer, &line);
-    return true;
-}
-
 void report_disagreement(struct shadow *shadow, const struct trial *trial, const struct told *told,
                          const struct verdict *verdict) {
     FILE *log = shadow->log;
-    if (shadow->explainer == NULL || !is_handed_over(shadow, trial, told, verdict)) {
-        flockfile(log);
-        put_results(log, trial, told, verdict);
-        fputs(shadow->explainer != NULL ? "\"explained\":null,\"not explained\":\"memory\"," : "", log);
-        put_case(log, shadow, trial, shown_verdict(verdict), shown_told(told));
-        fputs("}\n", log);
-        fflush(log);
-        funlockfile(log);
-    }
-    shadow->lines++;
-}
-
-static void put_count(FILE *log, const char *name, uint64_t number) {
-    fprintf(log, ",\"%s\":%llu", name, (unsigned long long)number);
-}
-
-void report_counts(const struct shadow *shadow, const struct stream_counts *stream, uint64_t dropped, uint64_t waiting) {
-    static const char *const reasons[REASONS] = {
-        "alias",
-        "type",
-        "equal tags",
-        "iterations",
-        "refused",
-        "algorithms",
-        "checking disabled",
-        "cut off",
-        "response code",
-        "other fault",
-        "no anchor",
-        "message not seen: DS",
-        "message not seen: DNSKEY",
-        "message not seen: answer",
-        "message not seen: cut",
-        "memory",
-    };
-    const struct counts *counts = &shadow->counts;
-    FILE *log = shadow->log;
-    flockfile(log);
-    fprintf(log, "{\"moment\":%llu,\"counts\":{\"frames\":%llu", (unsigned long long)time(NULL),
-            (unsigned long long)stream->frames);
-    put_count(log, "unreadable frames", stream->unreadable_frames);
-    put_count(log, "connections", stream->connections);
-    put_count(log, "dropped", dropped);
-    put_count(log, "waiting", waiting);
-    put_count(log, "messages of servers", counts->server_messages);
-    put_count(log, "answers to clients", counts->client_answers);
-    put_count(log, "answers to own questions", counts->own_answers);
-    put_count(log, "unreadable messages", counts->unreadable);
-    put_count(log, "judged", counts->judged);
-    put_count(log, "agree: secure", counts->agree[SECURE]);
-    put_count(log, "agree: insecure", counts->agree[INSECURE]);
-    put_count(log, "agree: bogus", counts->agree[BOGUS]);
-    put_count(log, "agree: no proof asked for", counts->agree[UNTOLD]);
-    put_count(log, "disagree", counts->disagree);
-    for (size_t i = 0; i < REASONS; i++) {
-        fprintf(log, ",\"not judged: %s\":%llu", reasons[i], (unsigned long long)counts->not_judged[i]);
-    }
-    put_count(log, "signatures checked", judge_signatures(shadow->judge));
-    put_count(log, "evicted", table_evicted(shadow->answers) + chain_evicted(shadow->chain));
-    put_count(log, "asked", shadow->asker != NULL ? asker_asked(shadow->asker) : 0);
-    if (shadow->explainer != NULL) {
-        struct explain_counts explained = read_explain_counts(shadow->explainer);
-        put_count(log, "explained", explained.explained);
-        put_count(log, "not explained", explained.unexplained);
-    }
-    fputs("}}\n", log);
+    put_results(log, trial, told, verdict);
+    put_case(log, shadow, trial, shown_verdict(verdict), shown_told(told));
+    fputs("}\n", log);
     fflush(log);
-    funlockfile(log);
+    shadow->lines++;
 }

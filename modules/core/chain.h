@@ -38,6 +38,5 @@ void chain_learn(struct chain *chain, const struct message *message, uint64_t no
 void chain_descend(struct chain *chain, const struct name *name, uint16_t qtype, uint64_t now, struct place *place);
 /* The DNSKEY answer of a zone. It counts where a judgement with the zone's DS set says so. */
 bool chain_keys(struct chain *chain, const struct name *apex, uint64_t now, struct octets *message);
-uint64_t chain_evicted(const struct chain *chain);
 
 #endif

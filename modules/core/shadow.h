@@ -1,11 +1,9 @@
-/* Compares what a resolver said to its clients with what the judge says of the messages that the resolver had. */
+/* Compares what a resolver says to its clients with what the judge says of the messages that the resolver has. */
 #ifndef SHADOW_H
 #define SHADOW_H
 
-#include "asker.h"
 #include "chain.h"
-#include "explain.h"
-#include "queue.h"
+#include "event.h"
 #include "table.h"
 
 #include <stdio.h>
@@ -34,7 +32,7 @@ enum reason {
 };
 
 struct counts {
-    uint64_t server_messages, client_answers, own_answers, unreadable, judged, agree[UNTOLD + 1], disagree, not_judged[REASONS];
+    uint64_t judged, disagree;
 };
 
 /* What a resolver said to its client. */
@@ -59,9 +57,7 @@ struct verdict {
 struct shadow {
     struct judge *judge;
     struct chain *chain;
-    struct table *answers;       /* by question: the zone of the server, behind its length, and the message */
-    struct asker *asker;         /* null where nothing is asked */
-    struct explainer *explainer; /* null where no reasons are asked for */
+    struct table *answers; /* by question: the zone of the server, behind its length, and the message */
     struct counts counts;
     FILE *log;
     uint64_t lines;
@@ -69,10 +65,7 @@ struct shadow {
 
 /* Takes what a message tells: of keys and DS sets any, of answers one of a server. */
 void shadow_learn(struct shadow *shadow, const struct event *event);
-/*
- * Compares what the resolver said to a client. Gives false where something is missing that was asked for, and the answer may
- * wait for it: it is to be compared once more.
- */
-bool shadow_compare(struct shadow *shadow, const struct event *event, bool may_wait);
+/* Compares what the resolver says to a client. */
+void shadow_compare(struct shadow *shadow, const struct event *event);
 
 #endif

@@ -3,7 +3,7 @@
 #include "report.h"
 
 /* An answer of TTL 0 is of use for the question that it was asked for, and no longer. */
-enum { GRACE = 2, MOST_TRIES = 8, MOST_STEPS = 12 };
+enum { GRACE = 2, MOST_STEPS = 12 };
 
 /* Whether a server's message answers its question: another may be asked where it doesn't. */
 static bool is_answer(const struct message *message) {
@@ -22,9 +22,7 @@ static void keep_answer(struct shadow *shadow, const struct event *event, const 
 
 void shadow_learn(struct shadow *shadow, const struct event *event) {
     struct message message;
-    shadow->counts.server_messages += event->origin == FROM_SERVER;
     if (!read_message((struct octets){event->octets, event->len}, &message)) {
-        shadow->counts.unreadable++;
         return;
     }
     if ((message.flags & (FLAG_QR | FLAG_TC | MASK_OPCODE)) != FLAG_QR || message.qclass != CLASS_IN) {
@@ -241,36 +239,10 @@ static bool agrees(const struct told *told, const struct verdict *verdict) {
 
 static void count(struct shadow *shadow, const struct trial *trial, const struct told *told, const struct verdict *verdict) {
     shadow->counts.judged++;
-    if (agrees(told, verdict)) {
-        shadow->counts.agree[told->result]++;
-    } else {
+    if (!agrees(told, verdict)) {
         shadow->counts.disagree++;
         report_disagreement(shadow, trial, told, verdict);
     }
-}
-
-/*
- * Asks for what is missing, where that is wanted: keys; or DS sets of the names of which nothing is proved, down to the zone
- * that signed the answer, or all the way where none did. Gives false where nothing is asked for.
- */
-static bool asks_for_missing(struct shadow *shadow, const struct message *client, const struct trial *trial,
-                             const struct place *place, enum reason reason) {
-    struct name signer;
-    if (shadow->asker == NULL || (reason != REASON_NO_DNSKEY && reason != REASON_NO_DS && reason != REASON_NO_CUT)) {
-        return false;
-    }
-    if (reason == REASON_NO_DNSKEY) {
-        ask(shadow->asker, &place->apex, TYPE_DNSKEY);
-    }
-    size_t labels = label_count(&trial->qname), most = trial->qtype == TYPE_DS && labels > 0 ? labels - 1 : labels;
-    if (find_signer(client, &trial->qname, &signer)) {
-        most = label_count(&signer);
-    }
-    for (size_t next = label_count(&place->unseen); !place->is_whole && next <= most; next++) {
-        struct name at = last_labels(&trial->qname, next);
-        ask(shadow->asker, &at, TYPE_DS);
-    }
-    return true;
 }
 
 /* What is compared of an unsigned zone. What an alias of it leads to may fail, and is not sought. */
@@ -396,29 +368,17 @@ static bool find_verdict(struct shadow *shadow, const struct message *client, co
     return false;
 }
 
-bool shadow_compare(struct shadow *shadow, const struct event *event, bool may_wait) {
+void shadow_compare(struct shadow *shadow, const struct event *event) {
     struct message client;
     struct told told = {.result = UNTOLD};
     struct verdict verdict;
     struct place place;
-    enum reason reason = REASON_CODE;
+    enum reason reason;
     if (!read_message((struct octets){event->octets, event->len}, &client)) {
-        return true; /* it was counted when it came */
+        return;
     }
-    if (shadow->asker != NULL && event->tries == 0 && has_asked(shadow->asker, &client.qname, client.qtype)) {
-        shadow->counts.own_answers++;
-        return true;
-    }
-    shadow->counts.client_answers += event->tries == 0;
     struct trial trial = {.qname = client.qname, .qtype = client.qtype, .now = event->moment};
-    if (!is_told(&client, &told, &reason)) {
-        shadow->counts.not_judged[reason]++;
-    } else if (find_verdict(shadow, &client, &told, &place, &trial, &verdict, &reason)) {
+    if (is_told(&client, &told, &reason) && find_verdict(shadow, &client, &told, &place, &trial, &verdict, &reason)) {
         count(shadow, &trial, &told, &verdict);
-    } else if (may_wait && event->tries < MOST_TRIES && asks_for_missing(shadow, &client, &trial, &place, reason)) {
-        return false;
-    } else {
-        shadow->counts.not_judged[reason]++;
     }
-    return true;
 }

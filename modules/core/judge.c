@@ -6,7 +6,7 @@
 
 #include <stdlib.h>
 
-enum { RRSIG_FIELDS = 18, MOST_ROOM = 1 << 22, KEPT_ZONES = 4096, KEPT_OCTETS = 1 << 24 };
+enum { MOST_ROOM = 1 << 22, KEPT_ZONES = 4096, KEPT_OCTETS = 1 << 24 };
 
 /* Replies of a library that judges aliases, whose octets are names in wire form; its header names them. */
 enum { REPLY_ALIAS = 8, REPLY_WILDCARD_ALIAS, REPLY_DNAME, REPLY_REFERRAL };
@@ -19,7 +19,6 @@ struct room {
 
 struct judge {
     uint16_t most_iterations;
-    uint64_t signatures;
     struct room out, checked;
     struct table *keys; /* by zone: entries of signatures over keys, which serve every answer under the same keys */
 };
@@ -43,10 +42,6 @@ void free_judge(struct judge *judge) {
     free(judge->out.data);
     free(judge->checked.data);
     free(judge);
-}
-
-uint64_t judge_signatures(const struct judge *judge) {
-    return judge->signatures;
 }
 
 uint16_t judge_iterations(const struct judge *judge) {
@@ -98,7 +93,7 @@ static struct zermuita_octets name_as_theirs(const struct name *name) {
 static bool check(struct judge *judge, size_t len) {
     struct zermuita_ask ask;
     uint8_t *next = judge->out.data;
-    for (; zermuita_next_ask(&next, &len, &ask); judge->signatures++) {
+    while (zermuita_next_ask(&next, &len, &ask)) {
         zermuita_answer(&ask, signature_passes(&ask));
     }
     return append(&judge->checked, judge->out.data, (size_t)(next - judge->out.data));
@@ -145,26 +140,6 @@ static void keep_keys(struct judge *judge, const struct name *apex, size_t old) 
     }
     table_put(judge->keys, apex, TYPE_DNSKEY, (struct octets){kept.data, kept.len}, (struct octets){NULL, 0}, UINT64_MAX);
     free(kept.data);
-}
-
-static bool octets_equal(struct zermuita_octets one, struct octets other) {
-    return one.len == other.len && memcmp(one.data, other.data, other.len) == 0;
-}
-
-bool judge_passed(const struct judge *judge, struct octets data, struct octets signature, struct passed *passed) {
-    struct zermuita_ask ask;
-    uint8_t *next = judge->checked.data;
-    size_t len = judge->checked.len;
-    while (zermuita_next_ask(&next, &len, &ask)) {
-        bool is_same = octets_equal(ask.signature, signature) && ask.octets.len >= RRSIG_FIELDS && data.len >= RRSIG_FIELDS
-                       && memcmp(ask.octets.data, data.data, RRSIG_FIELDS) == 0;
-        if (is_same && *ask.passes == 1) {
-            passed->dnskey = (struct octets){ask.dnskey.data, ask.dnskey.len};
-            passed->octets = (struct octets){ask.octets.data, ask.octets.len};
-            return true;
-        }
-    }
-    return false;
 }
 
 static enum finding finding_of(uint32_t reply) {

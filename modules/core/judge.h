@@ -45,18 +45,6 @@ struct judge;
 struct judge *make_judge(uint16_t most_iterations);
 void free_judge(struct judge *judge);
 struct judgement judge(struct judge *judge, const struct trial *trial);
-/* What a signature that passed is of: the key's DNSKEY data, and what it is made over. */
-struct passed {
-    struct octets dnskey, octets;
-};
-
-/*
- * Finds the signature of an RRSIG record, of which data and signature are given, among those that the last judgement had
- * checked. Gives false where it was not, or did not pass.
- */
-bool judge_passed(const struct judge *judge, struct octets data, struct octets signature, struct passed *passed);
-/* How many signatures were checked. */
-uint64_t judge_signatures(const struct judge *judge);
 uint16_t judge_iterations(const struct judge *judge);
 /* Whether the library judges answers that give an alias. */
 bool judges_aliases(void);

@@ -14,7 +14,7 @@ struct table {
     struct entry **buckets, *newest, *oldest;
     struct bounds bounds;
     size_t mask, entries, octets;
-    uint64_t seed, evicted;
+    uint64_t seed;
 };
 
 struct key {
@@ -88,7 +88,6 @@ static void drop_oldest(struct table *table) {
         at = &(*at)->next;
     }
     drop(table, at);
-    table->evicted++;
 }
 
 void free_table(struct table *table) {
@@ -108,7 +107,6 @@ void table_put(struct table *table, const struct name *name, uint16_t rtype, str
     size_t len = first.len + second.len, all = sizeof(struct entry) + key.len + len;
     struct entry *entry = all <= table->bounds.octets ? malloc(all) : NULL;
     if (entry == NULL) {
-        table->evicted++;
         return;
     }
     while (table->oldest != NULL && (table->entries >= table->bounds.entries || table->octets + all > table->bounds.octets)) {
@@ -155,8 +153,4 @@ void table_remove(struct table *table, const struct name *name, uint16_t rtype) 
     if (*at != NULL) {
         drop(table, at);
     }
-}
-
-uint64_t table_evicted(const struct table *table) {
-    return table->evicted;
 }

@@ -36,10 +36,6 @@ void free_chain(struct chain *chain) {
     free(chain);
 }
 
-uint64_t chain_evicted(const struct chain *chain) {
-    return table_evicted(chain->keys) + table_evicted(chain->pending) + table_evicted(chain->cuts);
-}
-
 bool chain_keys(struct chain *chain, const struct name *apex, uint64_t now, struct octets *message) {
     return table_get(chain->keys, apex, TYPE_DNSKEY, now, message, NULL);
 }
