@@ -398,6 +398,8 @@ class Forward(Resolver):
     """This repository's forwarder, which asks the zones' own servers: the program that ZERMUITA names, or the one that is built."""
 
     NAME, FILE = "zermuita forward", "forward.toml"
+    # Whether denials of other questions answer is the matter of some cases alone.
+    denials = 0
 
     @classmethod
     def program(cls) -> str:
@@ -421,6 +423,7 @@ trust-anchor = "{self.folder}/root.ds"
 {self.added()}
 [cache]
 failure-ttl = 0
+denials = {self.denials}
 """
 
     @classmethod

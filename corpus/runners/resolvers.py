@@ -110,6 +110,10 @@ class Forward(Resolver, programs.Forward):
     more = ["nsec3-iterations = 50"]
 
 
+class CachingForward(Forward):
+    denials = 1000
+
+
 class CachingUnbound(Unbound):
     more = ['local-zone: "test." nodefault', "ede: yes", "trust-anchor-signaling: no", "root-key-sentinel: no"]
 
@@ -140,7 +144,7 @@ RESOLVERS: dict[str, type[Resolver]] = {
 }
 # For cases that ask other questions first: query minimisation and the use of NSEC from the cache are as Debian has them.
 CACHING: dict[type[Resolver], type[Resolver]] = {
-    Unbound: CachingUnbound, Named: CachingNamed, KnotResolver: CachingKnotResolver, PowerDns: CachingPowerDns, Forward: Forward,
+    Unbound: CachingUnbound, Named: CachingNamed, KnotResolver: CachingKnotResolver, PowerDns: CachingPowerDns, Forward: CachingForward,
 }
 
 

@@ -87,19 +87,28 @@ LIES = [addresses_forged, signatures_stripped, denied, proofs_dropped, aliases_f
 
 
 class Between:
-    """A server at an address, over a resolver. `made` makes what is sent by UDP, and `streamed` by TCP; None sends nothing."""
+    """A server at an address, over a resolver. `made` makes what is sent by UDP, and `streamed` by TCP; None sends nothing. If it
+    keeps what the resolver says it asks each question once."""
 
-    def __init__(self, address, server, made, streamed=None):
+    def __init__(self, address, server, made, streamed=None, keeps=False):
         self.server, self.made, self.streamed = server, made, streamed or made
+        self.kept = {} if keeps else None
         self.udp = socket.socket(socket.AF_INET, socket.SOCK_DGRAM)
         self.udp.bind((address, 53))
         self.tcp = socket.create_server((address, 53), backlog=64)
         for serve in (self.serve_udp, self.serve_tcp):
             threading.Thread(target=serve, daemon=True).start()
 
+    def exchanged(self, query):
+        if self.kept is None:
+            return exchanged(self.server, query)
+        if query[2:] not in self.kept:
+            self.kept[query[2:]] = exchanged(self.server, query)[2:]
+        return query[:2] + self.kept[query[2:]]
+
     def answer(self, query, made):
         try:
-            return made(exchanged(self.server, query))
+            return made(self.exchanged(query))
         except (OSError, ValueError):
             return None
 
@@ -152,10 +161,17 @@ def mutated(octets, drawn):
     return bytes(changed)
 
 
-def mutator(seed, share):
-    """Mutates a share of the answers."""
-    drawn = random.Random(seed)
-    return lambda octets: mutated(octets, drawn) if drawn.random() < share else octets
+class Mutator:
+    """Mutates a share of the answers, and counts them."""
+
+    def __init__(self, seed, share):
+        self.drawn, self.share, self.count = random.Random(seed), share, 0
+
+    def __call__(self, octets):
+        if self.drawn.random() >= self.share:
+            return octets
+        self.count += 1
+        return mutated(octets, self.drawn)
 
 
 def cut_off(octets):

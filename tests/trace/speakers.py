@@ -168,7 +168,7 @@ AS_SERVFAIL = ("TOO_MANY_CUTS", "TOO_MANY_ALIASES", "TOO_MANY_MESSAGES")
 
 
 class Trace:
-    """The program of examples/trace, or one that is called as it is, which is told the root's server, and finds those of other zones by the messages of the way."""
+    """`zermuita trace`, which is told the root's server, and finds those of other zones by the messages of the way."""
 
     def __init__(self, command, room):
         self.command, self.folder = command, room / "ways"

@@ -7,6 +7,9 @@ use clap::{Arg, Command, CommandFactory};
 use crate::cli::Cli;
 use crate::out::Failure;
 
+/// Commands that run as daemons, whose pages are in section 8.
+const DAEMONS: [&str; 3] = ["forward", "serve", "shadow"];
+
 /// Prints the completion for bash.
 pub fn completion() -> Result<u8, Failure> {
     let mut script = Vec::new();
@@ -22,7 +25,7 @@ pub fn page(name: Option<&str>) -> Result<u8, Failure> {
     let page = match name {
         None => written(&all, "zermuita", 1),
         Some(name) => {
-            let section = if name == "forward" { 8 } else { 1 };
+            let section = if DAEMONS.contains(&name) { 8 } else { 1 };
             let command = all.find_subcommand(name).filter(|it| !it.is_hide_set()).ok_or_else(unknown)?;
             written(command, &format!("zermuita-{name}"), section)
         }
@@ -63,6 +66,19 @@ fn options(command: &Command) -> String {
     text
 }
 
+/// The pages of the program and of its commands, without the page's own.
+fn see_also(own: &str) -> String {
+    let all = Cli::command();
+    let commands = all.get_subcommands().filter(|it| !it.is_hide_set() && it.get_name() != "help");
+    let page = |it: &Command| {
+        let name = it.get_name();
+        (format!("zermuita-{name}"), if DAEMONS.contains(&name) { 8 } else { 1 })
+    };
+    let pages = std::iter::once(("zermuita".to_owned(), 1)).chain(commands.map(page)).chain([("delv".to_owned(), 1)]);
+    let pages: Vec<_> = pages.filter(|it| it.0 != own).map(|(name, section)| format!("{}({section})", escaped(&name))).collect();
+    format!(".SH SEE ALSO\n{}\n", pages.join(", "))
+}
+
 fn written(command: &Command, name: &str, section: u8) -> String {
     let version = env!("CARGO_PKG_VERSION");
     let about = |it: &Command| it.get_about().map(|it| it.to_string()).unwrap_or_default();
@@ -89,5 +105,5 @@ fn written(command: &Command, name: &str, section: u8) -> String {
         let status = after.strip_prefix("Exit status: ").unwrap_or(&after).to_owned();
         page += &format!(".SH EXIT STATUS\n{}\n", escaped(&status));
     }
-    page + ".SH SEE ALSO\nzermuita(1), zermuita\\-trace(1), zermuita\\-judge(1), zermuita\\-forward(8), delv(1)\n"
+    page + &see_also(name)
 }

@@ -37,6 +37,7 @@ pub struct Cache {
     pub answers: usize,
     pub messages: usize,
     pub signatures: usize,
+    pub denials: usize,
     pub max_ttl: u32,
     pub failure_ttl: u32,
 }
@@ -87,7 +88,7 @@ impl Default for Config {
 
 impl Default for Cache {
     fn default() -> Self {
-        Cache { answers: 50_000, messages: 50_000, signatures: 50_000, max_ttl: 86_400, failure_ttl: 5 }
+        Cache { answers: 50_000, messages: 50_000, signatures: 50_000, denials: 50_000, max_ttl: 86_400, failure_ttl: 5 }
     }
 }
 

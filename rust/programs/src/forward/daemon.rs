@@ -6,6 +6,7 @@ use std::pin::Pin;
 use std::sync::Arc;
 use std::time::Duration;
 
+use listenfd::ListenFd;
 use openssl::ssl::{Ssl, SslAcceptor, SslFiletype, SslMethod};
 use tokio::net::{TcpListener, TcpStream, UdpSocket};
 use tokio::signal::unix::{signal, SignalKind};
@@ -56,12 +57,61 @@ async fn serve_tls(shared: Arc<Shared>, acceptor: SslAcceptor, tcp: TcpStream, c
     }
 }
 
+/// Sockets at which clients ask, by datagrams and by TCP.
+#[derive(Default)]
+struct Sockets {
+    udp: Vec<UdpSocket>,
+    tcp: Vec<TcpListener>,
+}
+
+impl Sockets {
+    /// Those that systemd hands in (sd_listen_fds(3)).
+    fn handed_in() -> std::io::Result<Self> {
+        let (mut handed, mut sockets) = (ListenFd::from_env(), Sockets::default());
+        for at in 0..handed.len() {
+            if let Ok(Some(tcp)) = handed.take_tcp_listener(at) {
+                tcp.set_nonblocking(true)?;
+                sockets.tcp.push(TcpListener::from_std(tcp)?);
+            } else if let Some(udp) = handed.take_udp_socket(at)? {
+                udp.set_nonblocking(true)?;
+                sockets.udp.push(UdpSocket::from_std(udp)?);
+            }
+        }
+        Ok(sockets)
+    }
+
+    /// Those of the configuration.
+    async fn opened(ready: &Ready) -> Result<Self, Failure> {
+        let mut sockets = Sockets::default();
+        for address in &ready.config.listen {
+            sockets.udp.push(UdpSocket::bind(address).await.map_err(|error| unopened(*address, "UDP", error))?);
+            sockets.tcp.push(TcpListener::bind(address).await.map_err(|error| unopened(*address, "TCP", error))?);
+        }
+        Ok(sockets)
+    }
+
+    /// Those that are handed in take the place of those of the configuration.
+    async fn all(ready: &Ready) -> Result<Self, Failure> {
+        let handed = Sockets::handed_in().map_err(|error| Failure::Socket {
+            place: "a socket that was handed in".to_owned(),
+            error,
+            advice: "the unit's sockets are of ListenDatagram= and ListenStream=",
+        })?;
+        if handed.udp.is_empty() && handed.tcp.is_empty() {
+            return Sockets::opened(ready).await;
+        }
+        tracing::info!("the sockets are those that were handed in, in the place of `listen`");
+        Ok(handed)
+    }
+}
+
 /// Opens all sockets, and serves them.
 async fn open(shared: &Arc<Shared>, ready: &Ready) -> Result<(), Failure> {
-    for address in &ready.config.listen {
-        let udp = UdpSocket::bind(address).await.map_err(|error| unopened(*address, "UDP", error))?;
-        let tcp = TcpListener::bind(address).await.map_err(|error| unopened(*address, "TCP", error))?;
+    let sockets = Sockets::all(ready).await?;
+    for udp in sockets.udp {
         tokio::spawn(datagrams(shared.clone(), Arc::new(udp)));
+    }
+    for tcp in sockets.tcp {
         tokio::spawn(connections(shared.clone(), tcp, |shared, tcp, client| async move {
             stream(&shared, tcp, client, Transport::Tcp).await;
         }));

@@ -60,6 +60,11 @@ impl Draft {
         Draft { answer: Vec::new(), authority: Vec::new(), rcode: Rcode::NOERROR, is_secure: true, ttl: u32::MAX, until: u64::MAX }
     }
 
+    /// The records beside the answer: those of denials and their SOA record.
+    pub fn authority(&self) -> &[Rr] {
+        &self.authority
+    }
+
     /// Takes over for how long something lasts whose oldest message is here for some seconds.
     pub fn lasts(&mut self, ttl: u32, until: u64, age: u32) {
         let left = u32::try_from(until.saturating_sub(crate::out::now())).unwrap_or(u32::MAX);

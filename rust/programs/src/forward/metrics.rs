@@ -30,6 +30,7 @@ counts! {
     Kept "cache_hits_total" "cache=\"answers\"",
     Missed "cache_misses_total" "cache=\"answers\"",
     MessageKept "cache_hits_total" "cache=\"messages\"",
+    Denied "cache_hits_total" "cache=\"denials\"",
     Asked "upstream_questions_total" "",
     Unanswered "upstream_failures_total" "",
     Replaced "upstream_replaced_total" "",

@@ -2,6 +2,7 @@
 
 mod config;
 mod daemon;
+mod denials;
 mod draft;
 mod fetch;
 mod metrics;

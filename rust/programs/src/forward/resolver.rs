@@ -6,9 +6,10 @@ use std::sync::{Arc, Mutex, PoisonError};
 use std::time::Duration;
 
 use tokio::sync::OnceCell;
-use zermuita::{End, ExtendedError, Name, Outcome, Question, Refusal, Rtype, Wanted};
+use zermuita::{End, ExtendedError, Name, Outcome, Question, Refusal, Rtype, Verdict, Wanted};
 
 use super::config::Ready;
+use super::denials::{Denials, Proved};
 use super::draft::Draft;
 use super::fetch::{Fetched, Fetcher};
 use super::metrics::{Count, Metrics};
@@ -43,6 +44,7 @@ pub struct Resolver {
     pub fetcher: Fetcher,
     pub servers: Bounded<Name, Arc<[SocketAddr]>>,
     answers: Bounded<Question, Arc<Resolved>>,
+    denials: Denials,
     running: Mutex<Running>,
 }
 
@@ -79,6 +81,7 @@ impl Resolver {
             fetcher: Fetcher::new(&ready, metrics.clone()),
             servers: Bounded::new(ready.config.cache.messages / 4),
             answers: Bounded::new(ready.config.cache.answers),
+            denials: Denials::new(ready.config.cache.denials),
             running: Mutex::default(),
             metrics,
             ready,
@@ -92,6 +95,10 @@ impl Resolver {
             return kept;
         }
         self.metrics.add(Count::Missed, 1);
+        if let Some(denied) = self.denied(question) {
+            self.metrics.add(Count::Denied, 1);
+            return Arc::new(denied);
+        }
         // Clients that ask the same meanwhile wait for one answer.
         let cell = self.with_running(|it| it.entry(question.clone()).or_default().clone());
         let resolved = cell.get_or_init(|| self.resolved_anew(question)).await.clone();
@@ -101,6 +108,27 @@ impl Resolver {
             }
         });
         resolved
+    }
+
+    /// The answer that denials of other names give (RFC 8198).
+    fn denied(&self, question: &Question) -> Option<Resolved> {
+        if self.is_negative(&question.name) {
+            return None;
+        }
+        self.denials.answer(question, &self.verified, self.ready.config.nsec3_iterations)
+    }
+
+    /// Remembers the denial in which a walk ended.
+    fn learn(&self, way: &Way<'_>, draft: &Draft, walked: &Walked, question: &Question) -> Option<()> {
+        let (step, judged) = way.answer_to(question)?;
+        let judgement = judged.judgement.as_ref().ok()?;
+        let is_denial = matches!(judgement.verdict, Verdict::Nxdomain | Verdict::Nodata(_) | Verdict::WildcardNodata);
+        let zone = &way.zones[step.zone.filter(|_| is_denial)?];
+        let dnskey = way.steps[zone.answer?].message;
+        let ttl = walked.end.ttl.saturating_sub(walked.age());
+        let (ds, until) = (zone.ds.as_ref()?, walked.end.until);
+        self.denials.learn(&Proved { zone: &zone.name, ds, dnskey, authority: draft.authority(), ttl, until });
+        Some(())
     }
 
     fn with_running<T>(&self, work: impl FnOnce(&mut Running) -> T) -> T {
@@ -196,7 +224,9 @@ impl Resolver {
     fn add_secure(&self, draft: &mut Draft, walked: &Walked, question: &Question) -> Result<(), NotResolved> {
         let way = Way::without_reasons(&walked.walk, &self.verified);
         for name in std::iter::once(&question.name).chain(&walked.end.aliases) {
-            draft.secure(&way, &self.verified, &Question::new(name.clone(), question.rtype), walked.age()).ok_or_else(unsaid)?;
+            let at = Question::new(name.clone(), question.rtype);
+            draft.secure(&way, &self.verified, &at, walked.age()).ok_or_else(unsaid)?;
+            self.learn(&way, draft, walked, &at);
         }
         draft.lasts(walked.end.ttl, walked.end.until, walked.age());
         Ok(())
