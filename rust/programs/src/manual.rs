@@ -52,18 +52,16 @@ fn called(arg: &Arg) -> String {
     }
 }
 
-fn options(command: &Command) -> String {
-    let mut text = String::new();
-    for arg in command.get_arguments().filter(|it| !it.is_hide_set()) {
+/// The options of a command, each with what it does.
+fn options(command: &Command) -> Vec<String> {
+    let option = |arg: &Arg| {
         let help = arg.get_long_help().or_else(|| arg.get_help()).map(|it| it.to_string()).unwrap_or_default();
-        text += &format!(".TP\n{}\n{}", called(arg), escaped(&help));
         let defaults: Vec<_> = arg.get_default_values().iter().map(|it| it.to_string_lossy()).collect();
-        if !defaults.is_empty() && arg.get_action().takes_values() {
-            text += &format!(". Default: {}", escaped(&defaults.join(" ")));
-        }
-        text.push('\n');
-    }
-    text
+        let is_told = !defaults.is_empty() && arg.get_action().takes_values();
+        let default = if is_told { format!(". Default: {}", escaped(&defaults.join(" "))) } else { String::new() };
+        format!(".TP\n{}\n{}{default}\n", called(arg), escaped(&help))
+    };
+    command.get_arguments().filter(|it| !it.is_hide_set()).map(option).collect()
 }
 
 /// The pages of the program and of its commands, without the page's own.
@@ -96,9 +94,15 @@ fn written(command: &Command, name: &str, section: u8) -> String {
             page += &format!(".TP\n\\fB{}\\fR\n{}\n", escaped(it.get_name()), escaped(&about(it)));
         }
     }
-    let own = options(command) + &below.iter().map(|it| options(it)).collect::<String>();
+    let mut own = options(command);
+    for it in below.iter().flat_map(|it| options(it)) {
+        // Several commands have the same one.
+        if !own.contains(&it) {
+            own.push(it);
+        }
+    }
     if !own.is_empty() {
-        page += &format!(".SH OPTIONS\n{own}");
+        page += &format!(".SH OPTIONS\n{}", own.concat());
     }
     if let Some(after) = command.get_after_help() {
         let after = after.to_string();
