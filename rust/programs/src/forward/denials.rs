@@ -168,9 +168,10 @@ impl Kept {
         }
     }
 
-    /// The denial of the lowest zone that is known.
+    /// The denial of the lowest zone that is known. A question for DS is answered by the zone above (RFC 4035, 3.1.4.1).
     fn made(&self, question: &Question, now: Instant) -> Option<Made> {
-        let ancestors = (0..=question.name.depth()).rev().map(|it| question.name.ancestor(it));
+        let above = u8::from(question.rtype == Rtype::DS);
+        let ancestors = (0..=question.name.depth().checked_sub(above.into())?).rev().map(|it| question.name.ancestor(it));
         let (apex, zone) = ancestors.filter_map(|it| self.zones.get_key_value(&it)).next()?;
         let (nsecs, rcode) = zone.denying(apex, &question.name, now)?;
         let sets: Vec<_> = std::iter::once(zone.soa.clone()).chain(nsecs.into_iter().map(|it| it.set)).collect();
@@ -313,6 +314,8 @@ mod tests {
         ] {
             assert_eq!(owners(text), told, "{text}");
         }
+        let ds = Question::new(name("z"), Rtype::DS);
+        assert!(denials.with(|it| it.made(&ds, Instant::now())).is_none());
         // Other keys or another DS set: what was kept is of no use.
         learnt(&denials, "2 13 2 E0", &[("c.z", "z")]);
         assert_eq!((denials.len(), owners("a.z")), (1, None));
