@@ -9,6 +9,7 @@ use tokio::time::Instant;
 use zermuita::message::{flags, Rcode, HEADER};
 use zermuita::{Case, DsSet, Name, Parent, Question, Rtype, Signatures, UnixTime, Verdict};
 
+use super::draft::is_of_apex;
 use super::resolved::{Resolved, Rr, State};
 
 /// What was proved beside a denial: the zone's DS set, its answer for its keys, the denial's records, and how long all of it lasts.
@@ -244,6 +245,10 @@ impl Denials {
         let mut case = Case::new(&made.zone, Parent::Ds(&made.ds), &made.dnskey, &octets, question, clock);
         case.limits.nsec3_iterations = iterations;
         let judgement = case.judge(signatures).ok()?;
+        // At a delegation that is of the zone below (RFC 6840, 4.4).
+        if question.rtype == Rtype::DS && records.iter().any(|it| it.owner == question.name && is_of_apex(it.rtype, &it.data)) {
+            return None;
+        }
         let rcode = match judgement.verdict {
             Verdict::Nxdomain => Rcode::NXDOMAIN,
             Verdict::Nodata(_) | Verdict::WildcardNodata => Rcode::NOERROR,

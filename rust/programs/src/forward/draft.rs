@@ -232,6 +232,35 @@ impl Draft {
     }
 }
 
+/// The bitmap of types of an NSEC or NSEC3 record (RFC 4034, 4.1; RFC 5155, 3.2).
+fn bitmap(rtype: Rtype, data: &[u8]) -> Option<&[u8]> {
+    let behind = |at: usize| Some(at + 1 + usize::from(*data.get(at)?));
+    match rtype {
+        Rtype::NSEC => data.get(Name::take(data).ok()?.1..),
+        Rtype::NSEC3 => data.get(behind(behind(4)?)?..),
+        _ => None,
+    }
+}
+
+/// Whether data of a denial record have SOA among their types, as at the apex of a zone.
+pub fn is_of_apex(rtype: Rtype, data: &[u8]) -> bool {
+    bitmap(rtype, data).map_or(false, |it| text::types(it).contains(&Rtype::SOA))
+}
+
+/// Whether a way denies DS by a record of the zone below the delegation (RFC 6840, 4.4), which the library allows.
+pub fn is_denied_from_below(way: &Way<'_>, question: &Question) -> bool {
+    let (step, judged) = match way.answer_to(question) {
+        Some(it) if question.rtype == Rtype::DS => it,
+        _ => return false,
+    };
+    let (judgement, message) = match (&judged.judgement, Message::read(step.message)) {
+        (Ok(judgement), Ok(message)) => (judgement, message),
+        _ => return false,
+    };
+    let is_nodata = matches!(judgement.verdict, Verdict::Nodata(_)) && question.name != step.wanted.zone;
+    is_nodata && message.records().any(|it| judgement.places.contains(&it.place) && is_of_apex(it.rtype, it.data))
+}
+
 /// The CNAME record that is made of a DNAME record (RFC 6672, 3.1).
 fn cname(owner: &Name, target: &Name) -> Rr {
     Rr { owner: owner.clone(), rtype: Rtype::CNAME, ttl: u32::MAX, data: target.as_wire().to_vec() }

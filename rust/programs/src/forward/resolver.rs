@@ -10,7 +10,7 @@ use zermuita::{End, ExtendedError, Name, Outcome, Question, Refusal, Rtype, Verd
 
 use super::config::Ready;
 use super::denials::{Denials, Proved};
-use super::draft::Draft;
+use super::draft::{is_denied_from_below, Draft};
 use super::fetch::{Fetched, Fetcher};
 use super::metrics::{Count, Metrics};
 use super::resolved::{Resolved, State};
@@ -225,6 +225,9 @@ impl Resolver {
         let way = Way::without_reasons(&walked.walk, &self.verified);
         for name in std::iter::once(&question.name).chain(&walked.end.aliases) {
             let at = Question::new(name.clone(), question.rtype);
+            if is_denied_from_below(&way, &at) {
+                return Err((State::Bogus, Some(ExtendedError::DNSSEC_BOGUS), format!("{at} is denied by a record of the zone below")));
+            }
             draft.secure(&way, &self.verified, &at, walked.age()).ok_or_else(unsaid)?;
             self.learn(&way, draft, walked, &at);
         }
