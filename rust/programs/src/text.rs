@@ -190,6 +190,12 @@ pub fn data_in(rtype: Rtype, octets: &[u8], at: usize, len: usize) -> String {
     })
 }
 
+/// Whether data without pointers are of their type's form. Those of a type that has none here are.
+pub fn has_form(rtype: Rtype, octets: &[u8]) -> bool {
+    let mut reading = Reading { octets, at: 0, end: octets.len() };
+    form_of(rtype).map_or(true, |form| reading.parts(form).is_some())
+}
+
 /// A record's data that have no pointers.
 pub fn data(rtype: Rtype, octets: &[u8]) -> String {
     data_in(rtype, octets, 0, octets.len())
@@ -213,6 +219,7 @@ mod tests {
             (Rtype::DNSKEY, b"\x01\x01\x03\x0dk", "257 3 13 aw=="),
         ] {
             assert_eq!(data(rtype, octets), text);
+            assert_eq!(has_form(rtype, octets), !text.starts_with("\\#") || rtype == Rtype::CAA);
         }
     }
 

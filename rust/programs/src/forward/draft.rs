@@ -24,6 +24,11 @@ fn rr(message: &Message<'_>, record: &Record<'_>) -> Option<Rr> {
     Some(Rr { owner: record.owner.clone(), rtype: record.rtype, ttl: record.ttl, data: record.expanded(message)? })
 }
 
+/// The same of a record that nothing vouches for: none if its data are not of its type's form.
+pub fn unsigned_rr(message: &Message<'_>, record: &Record<'_>) -> Option<Rr> {
+    rr(message, record).filter(|it| text::has_form(it.rtype, &it.data))
+}
+
 /// The signatures over an RRset of a message that were checked and passed.
 fn passed<'a>(message: &'a Message<'a>, owner: &'a Name, covered: Rtype, checked: &'a Checked) -> impl Iterator<Item = Rr> + 'a {
     message.records().filter(move |it| it.owner == *owner).filter_map(move |record| {
@@ -199,17 +204,17 @@ impl Draft {
         self.rcode = message.rcode();
         let soa = message.records().find(|it| it.rtype == Rtype::SOA && question.name.is_at_or_below(&it.owner));
         self.ttl = self.ttl.min(soa.as_ref().map_or(0, |it| it.ttl.min(minimum(it)).saturating_sub(age)));
-        self.authority.extend(soa.and_then(|it| rr(&message, &it)));
+        self.authority.extend(soa.and_then(|it| unsigned_rr(&message, &it)));
         None
     }
 
     /// Adds records of an unsigned answer, and signatures that cover them, unchecked.
     fn take(&mut self, message: &Message<'_>, records: &[Record<'_>], age: u32) {
         self.ttl = self.ttl.min(records.iter().map(|it| it.ttl.saturating_sub(age)).min().unwrap_or(0));
-        self.answer.extend(records.iter().filter_map(|it| rr(message, it)));
+        self.answer.extend(records.iter().filter_map(|it| unsigned_rr(message, it)));
         if let Some(first) = records.first() {
             let covers = |it: &Record<'_>| it.owner == first.owner && it.rrsig().map_or(false, |it| it.covered == first.rtype);
-            self.answer.extend(message.records().filter(covers).filter_map(|it| rr(message, &it)));
+            self.answer.extend(message.records().filter(covers).filter_map(|it| unsigned_rr(message, &it)));
         }
     }
 

@@ -11,6 +11,7 @@ use tokio::time::timeout;
 use zermuita::message::{Message, Rcode, Section};
 use zermuita::Rtype;
 
+use super::draft::unsigned_rr;
 use super::fetch::Fetched;
 use super::metrics::{Count, Metrics};
 use super::resolved::{Resolved, Rr, State};
@@ -55,7 +56,7 @@ fn unchecked(fetched: &Fetched) -> Option<Resolved> {
     let message = Message::read(&fetched.octets).ok()?;
     let of = |section| -> Vec<Rr> {
         let records = message.records().filter(|it| it.section == section && it.class == 1 && it.rtype != Rtype::OPT);
-        records.filter_map(|it| Some(Rr { owner: it.owner.clone(), rtype: it.rtype, ttl: it.ttl, data: it.expanded(&message)? })).collect()
+        records.filter_map(|it| unsigned_rr(&message, &it)).collect()
     };
     let (answer, authority) = (of(Section::Answer), of(Section::Authority));
     let (rcode, made) = (message.rcode(), fetched.arrived);
