@@ -206,6 +206,11 @@ impl ZoneReplied {
     pub(crate) fn octets(&self) -> &[u8] {
         &self.out[..self.report.len.min(self.out.len())]
     }
+
+    pub(crate) fn into_octets(mut self) -> Vec<u8> {
+        self.out.truncate(self.report.len);
+        self.out
+    }
 }
 
 /// What a zone's call writes its report to.
@@ -229,9 +234,14 @@ fn zone_replied(mut call: impl FnMut(&mut [u8], &mut ZoneReport) -> u32) -> Zone
     }
 }
 
+/// How many octets the buffer of a zone has at first: all but large answers fit.
+const ZONE_ROOM: usize = 65_536;
+
 /// A zone of the library, which is closed when it is dropped. It stays with the thread that made it: it is neither `Send` nor `Sync`.
 pub(crate) struct ZoneHandle {
     zone: sys::zermuita_zone,
+    /// What calls write to: one buffer for all, since some are many in a second.
+    room: Vec<u8>,
     stays: PhantomData<*mut ()>,
 }
 
@@ -248,43 +258,49 @@ pub(crate) struct RequestOctets<'a> {
 
 impl ZoneHandle {
     pub(crate) fn closed() -> Self {
-        ZoneHandle { zone: sys::zermuita_zone::CLOSED, stays: PhantomData }
+        ZoneHandle { zone: sys::zermuita_zone::CLOSED, room: vec![0; ZONE_ROOM], stays: PhantomData }
+    }
+
+    /// The reply of a call, with what it wrote to the buffer.
+    fn replied(&self, reply: u32, report: &ZoneReport) -> ZoneReplied {
+        let report = report.held;
+        ZoneReplied { reply, report, out: self.room[..report.len.min(self.room.len())].to_vec() }
     }
 
     /// Opens it. The call of the library says all, whether there is room for what it tells or not; so that it needs no second call the
     /// room is large.
     pub(crate) fn open(&mut self, journal: &[u8]) -> ZoneReplied {
-        let (mut out, mut report) = (vec![0; 65_536], zone_report());
+        let mut report = zone_report();
         // SAFETY: the zone is closed or open, is borrowed here alone, and was opened by this thread if it is open, since it is not `Send`.
-        // `journal` is borrowed until the call returns; pointers of slices are not null. `out` and `report` are borrowed here alone.
+        // `journal` is borrowed until the call returns; pointers of slices are not null. The buffer and `report` are borrowed here alone.
         let reply = unsafe {
             sys::zermuita_zone_open(
                 &mut self.zone,
                 journal.as_ptr(),
                 journal.len(),
-                out.as_mut_ptr(),
-                out.len(),
+                self.room.as_mut_ptr(),
+                self.room.len(),
                 report.as_mut_ptr(),
             )
         };
-        ZoneReplied { reply, report: report.held, out }
+        self.replied(reply, &report)
     }
 
     /// Applies a line. It is accepted whether there is room for what it tells or not, so this is called once.
     pub(crate) fn apply(&mut self, line: &[u8]) -> ZoneReplied {
-        let (mut out, mut report) = (vec![0; 65_536], zone_report());
+        let mut report = zone_report();
         // SAFETY: as in `open`.
         let reply = unsafe {
             sys::zermuita_zone_apply(
                 &mut self.zone,
                 line.as_ptr(),
                 line.len(),
-                out.as_mut_ptr(),
-                out.len(),
+                self.room.as_mut_ptr(),
+                self.room.len(),
                 report.as_mut_ptr(),
             )
         };
-        ZoneReplied { reply, report: report.held, out }
+        self.replied(reply, &report)
     }
 
     pub(crate) fn forget(&mut self) -> u32 {
@@ -343,12 +359,19 @@ impl ZoneHandle {
             limit: request.limit,
             udp_size: request.udp_size,
         });
-        let zone = &mut self.zone;
-        zone_replied(|out, report| {
+        loop {
+            let mut report = zone_report();
             // SAFETY: as in `open`; the request has room of 128 octets and more with zeros behind it, and its octets are borrowed until
             // the call returns.
-            unsafe { sys::zermuita_zone_respond_to(zone, handed.as_ptr(), out.as_mut_ptr(), out.len(), report.as_mut_ptr()) }
-        })
+            let reply = unsafe {
+                let (out, len) = (self.room.as_mut_ptr(), self.room.len());
+                sys::zermuita_zone_respond_to(&mut self.zone, handed.as_ptr(), out, len, report.as_mut_ptr())
+            };
+            if reply != sys::ZERMUITA_ZONE_BUFFER_TOO_SMALL || report.held.len <= self.room.len() {
+                return self.replied(reply, &report);
+            }
+            self.room = vec![0; report.held.len];
+        }
     }
 }
 

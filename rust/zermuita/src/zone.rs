@@ -146,17 +146,17 @@ words! {
     /// A roll of keys, by the word that its lines have.
     Roll:
     /// Of a key that signs keys, by two of them in the DNSKEY set.
-    Ksk = ZERMUITA_KSK_ROLL "ksk_roll",
+    Ksk = ZERMUITA_KSK_ROLL "ksk-roll",
     /// Of a key that signs keys, by two DS records.
-    KskDoubleDs = ZERMUITA_KSK_DOUBLE_DS_ROLL "ksk_double_ds_roll",
+    KskDoubleDs = ZERMUITA_KSK_DOUBLE_DS_ROLL "ksk-double-ds-roll",
     /// Of a key that signs records, published before it signs.
-    Zsk = ZERMUITA_ZSK_ROLL "zsk_roll",
+    Zsk = ZERMUITA_ZSK_ROLL "zsk-roll",
     /// Of a key that signs records, by two signatures.
-    ZskDoubleSignature = ZERMUITA_ZSK_DOUBLE_SIGNATURE_ROLL "zsk_double_signature_roll",
+    ZskDoubleSignature = ZERMUITA_ZSK_DOUBLE_SIGNATURE_ROLL "zsk-double-signature-roll",
     /// Of a key that signs all.
-    Csk = ZERMUITA_CSK_ROLL "csk_roll",
+    Csk = ZERMUITA_CSK_ROLL "csk-roll",
     /// Of the algorithm.
-    Algorithm = ZERMUITA_ALGORITHM_ROLL "algorithm_roll",
+    Algorithm = ZERMUITA_ALGORITHM_ROLL "algorithm-roll",
 }
 
 words! {
@@ -272,7 +272,7 @@ impl Zone {
     pub fn lines_of(master: &[u8], origin: &str, chain: &str, apex: &str) -> Result<Vec<u8>, MasterError> {
         let replied = ffi::lines_of(master, origin.as_bytes(), chain.as_bytes(), apex.as_bytes());
         match replied.reply {
-            sys::ZERMUITA_ZONE_DONE => Ok(replied.octets().to_vec()),
+            sys::ZERMUITA_ZONE_DONE => Ok(replied.into_octets()),
             sys::ZERMUITA_ZONE_REFUSED => Err(MasterError { line: replied.report.line, reason: text(replied.octets()) }),
             reply => Err(MasterError { line: 0, reason: ZoneError::Unexpected(reply).to_string() }),
         }
@@ -407,7 +407,7 @@ impl Zone {
                 udp_size: UDP_SIZE,
             });
             match replied.reply {
-                sys::ZERMUITA_ZONE_RESPONSE => return Ok(Response::Octets(replied.octets().to_vec())),
+                sys::ZERMUITA_ZONE_RESPONSE => return Ok(Response::Octets(replied.into_octets())),
                 sys::ZERMUITA_ZONE_NO_RESPONSE => return Ok(Response::None),
                 // Handed in with all signatures the request is not answered so again.
                 sys::ZERMUITA_ZONE_SIGN if made.is_empty() => made = signed(replied.octets(), signer)?,
