@@ -1,5 +1,7 @@
 //! What the command line has. The man pages and the completion are made of this, too.
 
+use std::ffi::OsString;
+use std::net::{IpAddr, SocketAddr};
 use std::path::PathBuf;
 
 use clap::{Parser, Subcommand};
@@ -28,6 +30,7 @@ pub enum Command {
     Forward(Forward),
     #[command(subcommand)]
     Shadow(Shadow),
+    Serve(Serve),
     /// Print the completion script for a shell
     #[command(hide = true)]
     Completion,
@@ -200,4 +203,120 @@ pub enum Shadow {
     },
     /// Print a configuration with every setting at its default
     Defaults,
+}
+
+/// Serve a signed zone: a name server that signs as it answers, and whose keys roll
+#[derive(Debug, Subcommand)]
+#[command(
+    long_about = "Serve a signed zone. Answers by UDP and TCP, and signs as it answers with keys in PEM files. Lines of a journal have the \
+zone, its keys and their rolls; commands add to it by a socket in the zone's folder. If the reports of a roll are true, old and new \
+answers that caches may still have are valid together.",
+    after_help = "Exit status: 0 if the server was told to stop, a command was done or the configuration is right; 1 if it does not start, \
+a command was not done or the configuration is wrong; 2 if the call is wrong"
+)]
+pub enum Serve {
+    /// Run until told to stop; SIGHUP opens the log again, and reads the configuration and the zone's file again
+    Run(ServeRun),
+    /// Check a configuration, and print every setting that is in effect
+    Check(ServeRun),
+    /// Print a configuration with every setting at its default
+    Defaults,
+    /// Send a command to the server of a folder: status, due, ds, cds, dnskey, key, start, report1, wait1, report2, wait2, done, delete,
+    /// reload, stop
+    Ctl {
+        /// Folder of the zone
+        folder: PathBuf,
+        /// Command, as "status" or "key csk second"
+        #[arg(required = true, trailing_var_arg = true, allow_hyphen_values = true)]
+        command: Vec<OsString>,
+    },
+    /// Look at the servers of the zone and of its parent, beside a server
+    #[command(hide = true)]
+    Look(ServeLook),
+}
+
+/// What the command line says of a server, in the place of its configuration.
+#[derive(Clone, Debug, Parser)]
+#[command(args_override_self = true)]
+pub struct ServeRun {
+    /// Configuration; the defaults if it is left out
+    #[arg(long, value_name = "FILE")]
+    pub config: Option<PathBuf>,
+    /// Address to answer at, in the place of those of the configuration
+    #[arg(long, value_name = "ADDRESS")]
+    pub address: Option<IpAddr>,
+    /// Port to answer at
+    #[arg(long, value_name = "PORT", value_parser = clap::value_parser!(u16).range(1..))]
+    pub port: Option<u16>,
+    /// Threads that answer; 0: one for each processor
+    #[arg(long, value_name = "NUMBER")]
+    pub threads: Option<usize>,
+    /// Let other processes with the same folder answer at the same address
+    #[arg(long)]
+    pub share: bool,
+    /// Seconds that all times are behind the clock
+    #[arg(long, value_name = "SECONDS")]
+    pub backdate: Option<u32>,
+    /// Seconds that times of answers are rounded down to
+    #[arg(long, value_name = "SECONDS")]
+    pub step: Option<u32>,
+    /// How often a network gets the same response by UDP in a second; 0: any number
+    #[arg(long, value_name = "NUMBER")]
+    pub rate: Option<u32>,
+    /// How many responses of any kind a network gets by UDP in a second; 0: any number
+    #[arg(long, value_name = "NUMBER")]
+    pub rate_all: Option<u32>,
+    /// Responses that are kept
+    #[arg(long, value_name = "NUMBER")]
+    pub responses: Option<usize>,
+    /// For a new journal: NSEC or NSEC3, and the lifetime of signatures, as "nsec3 0 - 0 604800"
+    #[arg(long, value_name = "WORDS")]
+    pub chain: Option<String>,
+    /// Origin of relative names in the master file
+    #[arg(long, value_name = "NAME")]
+    pub origin: Option<String>,
+    /// For a new journal: make a key of P-256, which signs the zone
+    #[arg(long)]
+    pub make_key: bool,
+    /// Make each wait of a roll when it is over
+    #[arg(long)]
+    pub auto: bool,
+    /// Server of the zone: reports are made once all show a change. May be repeated
+    #[arg(long, value_name = "HOST:PORT")]
+    pub watch: Vec<SocketAddr>,
+    /// Server of the zone's parent. May be repeated
+    #[arg(long, value_name = "HOST:PORT")]
+    pub parent: Vec<SocketAddr>,
+    /// Seconds between two looks at these
+    #[arg(long, value_name = "SECONDS")]
+    pub look: Option<u32>,
+    /// File of the log; standard error if it is left out
+    #[arg(long, value_name = "FILE")]
+    pub log: Option<PathBuf>,
+    /// Seconds between two counts in the log; 0: none
+    #[arg(long, value_name = "SECONDS")]
+    pub every: Option<u32>,
+    /// Address of a page for Prometheus
+    #[arg(long, value_name = "HOST:PORT")]
+    pub metrics: Option<SocketAddr>,
+    /// Folder of the zone: its journal, its socket for commands, and private keys in keys/
+    pub folder: Option<PathBuf>,
+    /// Master file that a new journal begins with
+    pub zone_file: Option<PathBuf>,
+}
+
+/// What the process that watches is told.
+#[derive(Clone, Debug, Parser)]
+pub struct ServeLook {
+    #[arg(long)]
+    pub own: SocketAddr,
+    #[arg(long)]
+    pub look: u32,
+    #[arg(long)]
+    pub watch: Vec<SocketAddr>,
+    #[arg(long)]
+    pub parent: Vec<SocketAddr>,
+    #[arg(long)]
+    pub log: Option<PathBuf>,
+    pub folder: PathBuf,
 }

@@ -14,6 +14,7 @@ mod out;
 mod page;
 mod root;
 mod shadow;
+mod serve;
 mod text;
 mod trace;
 mod verified;
@@ -33,6 +34,7 @@ fn main() -> ExitCode {
         cli::Command::Judge(options) => judge::run(&options),
         cli::Command::Forward(command) => forward::run(&command),
         cli::Command::Shadow(command) => shadow::run(&command),
+        cli::Command::Serve(command) => serve::run(&command),
         cli::Command::Completion => manual::completion(),
         cli::Command::Manual { page } => manual::page(page.as_deref()),
     };
