@@ -70,7 +70,7 @@ def check_refused(program, room):
     file = room / "no_origin.zone"
     file.write_text(READ)
     for words in (["--chain=nsec5 0 1", folder, EXAMPLE / "example.zone"], [folder, file], ["--origin=a..b", folder, file]):
-        ran = run(program, f"--port={FIRST_PORT}", *words)
+        ran = run(*program.words, f"--port={FIRST_PORT}", *words)
         if ran.returncode == 0 or (folder / "journal").exists():
             fail("a first start that is none:", words, ran.returncode, ran.stderr[-2000:])
     server = Server(program, folder, "--origin=example.")

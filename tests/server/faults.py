@@ -11,7 +11,7 @@ import subprocess
 import time
 
 import rolls
-from served import EXAMPLE, PORT, SECURE, Server, build, delv, dig, fail, first_key, is_logged, logged, run, zone_of
+from served import EXAMPLE, PORT, SECURE, Server, delv, dig, fail, first_key, is_logged, logged, run, zone_of
 
 HERE = pathlib.Path(__file__).resolve().parent
 
@@ -137,15 +137,12 @@ def check_records_logged(server):
     print("a replacement of 503 records is one line of the log")
 
 
-def check_clock(prefix, room, compiler):
+def check_clock(program, room, compiler):
     """A wall clock that jumps a day ahead ends no wait; the time that has passed does."""
     library, ahead = room / "clock.so", room / "ahead"
     if run(compiler, "-shared", "-fPIC", "-o", library, HERE / "clock.c", "-ldl").returncode != 0:
         fail("clock.c")
     ahead.write_text("0")
-    # Sanitizers and what is preloaded do not go together.
-    (room / "plain").mkdir()
-    program = build(room, prefix, compiler, EXAMPLE / "server.c", "plain/server", sanitizers=())
     server = Server(program, room / "clock", "--step=1", "--auto")
     os.environ.update(LD_PRELOAD=str(library), AHEAD=str(ahead))
     try:

@@ -7,7 +7,7 @@ import struct
 import subprocess
 import time
 
-from served import PORT, dig, fail, logged
+from served import PORT, cargo, dig, fail, logged
 
 
 def queries():
@@ -89,13 +89,22 @@ def check_mutated(server, count):
 
 
 def check_in_process(server, program, count):
-    """Mutated queries that the server's code gets without sockets, on the folder of a server that does not run."""
+    """Mutated queries that the code of examples/server gets without sockets, on the folder of a server that does not run."""
     server.stop()
     ran = subprocess.run([program, server.folder, str(count), "1"], capture_output=True, text=True)
     if ran.returncode != 0:
         fail(ran.stdout, ran.stderr[-4000:])
     print(f"in a process without sockets, {ran.stdout.strip()}")
     server.start()
+
+
+def check_serve_in_process(count):
+    """Mutated queries that the code of zermuita serve gets without sockets, by a test of its own."""
+    ran = cargo(["test", "mutated", "--", "--nocapture"], env={"ZERMUITA_MUTATED": str(count)}, capture_output=True, text=True)
+    said = [it for it in ran.stdout.splitlines() if "mutated queries" in it]
+    if ran.returncode != 0 or not said:
+        fail(ran.stdout[-4000:], ran.stderr[-4000:])
+    print(f"in a process without sockets, {said[0]}")
 
 
 def connected():

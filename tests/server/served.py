@@ -1,10 +1,11 @@
-"""The server of examples/server over a folder, and what dig and delv say of it."""
+"""A name server over a folder, and what dig and delv say of it."""
 
 import atexit
 import json
 import os
 import pathlib
 import re
+import shlex
 import socket
 import subprocess
 import sys
@@ -34,7 +35,7 @@ SANITIZERS = ("-fsanitize=address,undefined", "-fno-sanitize-recover=all")
 
 
 def build(room, prefix, compiler, source, name, sanitizers=SANITIZERS):
-    """A program."""
+    """A program in C."""
     libs = os.environ.get("ZERMUITA_LIBS")
     if libs is None:
         env = {**os.environ, "PKG_CONFIG_PATH": f"{prefix}/lib/pkgconfig"}
@@ -46,8 +47,33 @@ def build(room, prefix, compiler, source, name, sanitizers=SANITIZERS):
     return room / name
 
 
+class Program:
+    """A server's program: the words that run it, and a folder for its log."""
+
+    def __init__(self, words, room):
+        self.words, self.log, self.anchors = [str(it) for it in words], room / "log", room / "anchors"
+
+
+def cargo(words, **how):
+    """Runs Debian's cargo on the programs in Rust, optimised."""
+    program = os.environ.get("CARGO", "/usr/bin/cargo")
+    env = {"RUSTC": "/usr/bin/rustc"} | os.environ | how.pop("env", {})
+    return subprocess.run([program, words[0], "--offline", "--release", "-p", "zermuita-programs", *words[1:]], cwd=TOP / "rust", env=env, **how)
+
+
+def serve(room, prefix, words):
+    """zermuita serve, over the library that was installed below a folder; or what other words run."""
+    if prefix is not None:
+        os.environ["PKG_CONFIG_PATH"] = f"{prefix}/lib/pkgconfig"
+        os.environ["LD_LIBRARY_PATH"] = ":".join(filter(None, (f"{prefix}/lib", os.environ.get("LD_LIBRARY_PATH"))))
+    if words == "serve":
+        cargo(["build"], check=True)
+        words = f"{TOP}/rust/target/release/zermuita serve run"
+    return Program(shlex.split(words), room)
+
+
 class Server:
-    """The example server over a folder."""
+    """A server over a folder."""
 
     def __init__(self, program, folder, *options):
         self.program, self.folder, self.options, self.process = program, folder, options, None
@@ -63,11 +89,11 @@ class Server:
             fail(made.stderr)
 
     def log(self):
-        return self.program.with_name("log")
+        return self.program.log
 
     def launch(self, *options):
         """A process that serves the folder."""
-        words = [self.program, f"--port={self.port}", *self.options, *options, self.folder, self.zone]
+        words = [*self.program.words, f"--port={self.port}", *self.options, *options, self.folder, self.zone]
         with open(self.log(), "a") as log:
             how = {"stdin": subprocess.DEVNULL, "stdout": subprocess.DEVNULL, "stderr": log}
             process = subprocess.Popen([str(it) for it in words], **how)
@@ -136,7 +162,7 @@ def records_of(said):
 
 def delv(server, name, rtype):
     """What delv says, from the DS set that the server says."""
-    anchors = server.program.with_name("anchors")
+    anchors = server.program.anchors
     lines = [it.split() for it in server.tell("ds").splitlines()]
     anchors.write_text("trust-anchors {\n" + "".join(f'"example." static-ds {t} {a} {d} "{h}";\n' for _, t, a, d, h in lines) + "};\n")
     return run("delv", "@127.0.0.1", "-p", PORT, "-a", anchors, "+root=example.", name, rtype).stdout
