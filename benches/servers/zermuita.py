@@ -28,6 +28,10 @@ class Zermuita:
     def title(self):
         return self.NAME
 
+    def control(self):
+        """The words that send a command."""
+        return [*self.program, "--ctl"]
+
     def __enter__(self):
         Zermuita.count = getattr(Zermuita, "count", 0) + 1
         folder = self.room / f"server-{Zermuita.count}"
@@ -37,7 +41,7 @@ class Zermuita:
             self.start(folder)
             roll = "report1 algorithm-roll 0", "wait1 algorithm-roll", "report2 algorithm-roll 0", "wait2 algorithm-roll"
             for command in ("key csk first", "start algorithm-roll - first", *roll, "done algorithm-roll"):
-                subprocess.run([self.program, "--ctl", folder, *command.split()], check=True, capture_output=True)
+                subprocess.run([*self.control(), folder, *command.split()], check=True, capture_output=True)
             for _ in range(1, self.threads):
                 self.start(folder)
         except BaseException:
@@ -47,7 +51,7 @@ class Zermuita:
 
     def start(self, folder):
         options = "--share", "--rate=0", f"--port={self.PORT}", f"--chain={self.chain}", f"--log={folder}/log", *self.MORE
-        words = [self.program, *options, folder, self.room / "zone"]
+        words = [*self.program, *options, folder, self.room / "zone"]
         self.processes.append(subprocess.Popen([*map(str, words)], stdout=subprocess.PIPE))
         self.processes[-1].stdout.readline()
 
@@ -70,3 +74,25 @@ class ZermuitaWithoutResponses(Zermuita):
     """The same without responses that are kept."""
 
     NAME, PORT, MORE = "examples/server, no responses kept", 5406, ("--responses=0",)
+
+
+class Serve(Zermuita):
+    """`zermuita serve`, with as many threads: its words are those of ZERMUITA_SERVER in the environment."""
+
+    NAME, PORT, MORE = "zermuita serve", 5407, ()
+
+    def control(self):
+        return [*self.program[: self.program.index("run")], "ctl"]
+
+    def start(self, folder):
+        if not self.processes:
+            words = [*self.program, f"--threads={self.threads}", "--rate=0", f"--port={self.PORT}", f"--chain={self.chain}", f"--log={folder}/log"]
+            words += [*self.MORE, folder, self.room / "zone"]
+            self.processes.append(subprocess.Popen([*map(str, words)], stdout=subprocess.PIPE))
+            self.processes[-1].stdout.readline()
+
+
+class ServeWithoutResponses(Serve):
+    """The same without responses that are kept."""
+
+    NAME, PORT, MORE = "zermuita serve, no responses kept", 5408, ("--responses=0",)

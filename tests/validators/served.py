@@ -1,8 +1,9 @@
-"""The name server of examples/server, as a process in a folder of its own at an address of its own. Its commands bring key calls and
+"""A name server, that of examples/server or another, as a process in a folder of its own at an address of its own. Its commands bring key calls and
 replacements."""
 
 import os
 import pathlib
+import shlex
 import shutil
 import socket
 import struct
@@ -31,11 +32,13 @@ def libraries(room, prefix=None):
 
 
 def build(room, prefix=None):
-    """The server's program."""
+    """The words that run the server: those of ZERMUITA_SERVER in the environment, or the program of examples/server."""
+    if "ZERMUITA_SERVER" in os.environ:
+        return shlex.split(os.environ["ZERMUITA_SERVER"])
     source, program = TOP / "examples/server/server.c", room / "server"
     libs = libraries(room, prefix)
     subprocess.run(["cc", "-std=gnu11", "-O2", "-o", program, source, *libs, "-lcrypto"], check=True)
-    return program
+    return [program]
 
 
 class Workshop:
@@ -64,7 +67,7 @@ class Server:
 
     def start(self, backdate=BEHIND, chain="", records=None):
         """Starts it. A new one has a chain and records: owner, type, TTL and data."""
-        words = [self.program, f"--address={dotted(self.address)}", "--port=53", "--rate=0", f"--backdate={backdate}"]
+        words = [*self.program, f"--address={dotted(self.address)}", "--port=53", "--rate=0", f"--backdate={backdate}"]
         if records is not None:
             words.append(f"--chain={chain}")
         words.append(self.folder)
