@@ -30,6 +30,7 @@ pub enum Command {
     Forward(Forward),
     #[command(subcommand)]
     Shadow(Shadow),
+    #[command(subcommand)]
     Serve(Serve),
     /// Print the completion script for a shell
     #[command(hide = true)]
