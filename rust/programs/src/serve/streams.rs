@@ -248,10 +248,11 @@ mod tests {
         // Of its own network the one that was idle longest.
         let third = taken(&all, "192.0.1.9", &refused);
         third.last.store(20, Ordering::Relaxed);
-        assert!(!all.table().entries.contains_key(&held[3].number) && all.table().entries.contains_key(&third.number));
+        let is_held = |it: &Place| all.table().entries.contains_key(&it.number);
+        assert_eq!((is_held(&held[3]), is_held(&third)), (false, true));
         // A new network gets a place, too: one of a network that has most gives it.
         let other = taken(&all, "198.51.100.1", &refused);
-        assert!(all.table().entries.contains_key(&other.number));
+        assert!(is_held(&other));
         assert_eq!((all.table().entries.len(), refused.load(Ordering::Relaxed)), (8, 2));
         drop((third, other));
         assert_eq!(all.table().entries.len(), 6);
