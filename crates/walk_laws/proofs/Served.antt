@@ -37,7 +37,7 @@ use Rattle.walk_laws.proofs.Keys.{keys_shown}
 use Rattle.walk_laws.proofs.KeysTold.{cut_told_trusting, nothing_trusting, told_trusting}
 use Rattle.walk_laws.proofs.Saying.{cut_nothing, proper, told_nothing}
 use Rattle.walk_laws.proofs.Stuck.{OnlyForMemory, keys_refused, never_at_end, only_one, stuck_for}
-use Rattle.message_laws.proofs.Whether.{TellsDs}
+use Rattle.message_laws.proofs.Whether.{TellsDs, delegation_told}
 use Rattle.walk_laws.proofs.WhetherFound.{whether_found}
 
 -- ---- a zone's answers

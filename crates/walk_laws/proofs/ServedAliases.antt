@@ -47,7 +47,7 @@ use Rattle.walk_laws.proofs.Leads.{led_by_cname, led_by_dname}
 use Rattle.walk_laws.proofs.Saying.{cut_nothing, proper, told_nothing}
 use Rattle.walk_laws.proofs.Served.{never_refused, show_keys}
 use Rattle.walk_laws.proofs.Stuck.{OnlyForMemory, keys_refused, only_one, stuck_for}
-use Rattle.message_laws.proofs.Whether.{TellsDs}
+use Rattle.message_laws.proofs.Whether.{TellsDs, delegation_told}
 use Rattle.walk_laws.proofs.WhetherFound.{whether_found}
 
 or_true : (b : Bool) → (b || true) ≡ true

@@ -145,4 +145,4 @@ shown_trees_are_walked one resolve_one passes e asked limits zones anchor said n
 pub shown_trees_come_to_verdicts : TreesSayOne → TreesResolveToOne → ShownTreesComeToVerdicts
 shown_trees_come_to_verdicts one resolve_one c asked limits most walks from zones anchor said names k shown =
     comes Never one c asked limits most walks from zones anchor said names k
-    (λ calls e reached walk. shown_trees_are_walked one resolve_one c.passes e asked limits zones anchor said names (walks e).walk walk (shown calls e reached))
+    (λ calls e reached walk. shown_trees_are_walked one resolve_one c.passes e asked limits zones anchor said names (walks e) walk (shown calls e reached))

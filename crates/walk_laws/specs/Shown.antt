@@ -14,7 +14,7 @@ use Rattle.evidence_laws.specs.Truth.{IsAnchored, SignedZone}
 use Rattle.resolution_walk.specs.declared.ending.Walk.{Walk}
 use Rattle.resolution_walk.specs.declared.walk.Limits.{Limits}
 use Rattle.walk_laws.specs.Ending.{EndsInTree, IsTreesWalk, Never}
-use Rattle.walk_laws.specs.Loop.{Caller, Reaches, Walks}
+use Rattle.walk_laws.specs.Loop.{Caller, Reaches}
 use Rattle.walk_laws.specs.Served.{AnswersItself, asking}
 use Rattle.walk_laws.specs.Verdict.{Comes, IsTreesLoop, wanted_on_way}
 
@@ -42,7 +42,7 @@ ShownTreesAreWalked =
 -- So a loop comes to what the tree says, but for the limit of signatures.
 abbrev pub ShownTreesComeToVerdicts : Type 0
 ShownTreesComeToVerdicts =
-    (c : Caller) (asked : Asked) (limits : Limits) (most : ℕ) (walks : (e : Given) → Walks asked limits e) (from : Given) (zones : List SignedZone) (anchor : SignedZone) (said : Said) (names : List Name)
+    (c : Caller) (asked : Asked) (limits : Limits) (most : ℕ) (walks : Given → Walk) (from : Given) (zones : List SignedZone) (anchor : SignedZone) (said : Said) (names : List Name)
     → IsTreesLoop c asked limits most walks from zones anchor said names
-    → ((calls : ℕ) (e : Given) → Reaches c asked limits most walks from calls e → AreShown c.passes e asked zones anchor)
+    → ((calls : ℕ) (e : Given) → Reaches c asked most walks from calls e → AreShown c.passes e asked zones anchor)
     → Comes Never (wanted_on_way asked limits from zones anchor names) c asked limits most walks from said names
