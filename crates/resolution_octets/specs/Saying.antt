@@ -98,9 +98,9 @@ is_empty _ = false
 
 -- the error of signatures that do not hold now, and else another
 abbrev pub untimely_or : ExtendedError → ExtendedError → ExtendedError
-untimely_or other x.SignatureExpired = x.SignatureExpired
-untimely_or other x.SignatureNotYetValid = x.SignatureNotYetValid
-untimely_or other _ = other
+untimely_or named x.SignatureExpired = x.SignatureExpired
+untimely_or named x.SignatureNotYetValid = x.SignatureNotYetValid
+untimely_or named _ = named
 
 -- The error that is told of a refused answer: its own. Of one that says nothing, that of signatures of the zone's answer to the
 -- question, where these do not hold now, since that is why DS was asked for.
