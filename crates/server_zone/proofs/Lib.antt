@@ -4,5 +4,3 @@ pub mod JournalLemmas
 pub mod ReadLemmas
 pub mod OpeningLemmas
 pub mod HasReadLemmas
-pub mod ReopeningLemmas
-pub mod TtlLemmas
