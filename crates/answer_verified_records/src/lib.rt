@@ -1,4 +1,4 @@
-//! Which records of an answer are verified, by their index in the message (RFC 4035, 5.3).
+//! The verified records of an answer, by their index in the message (RFC 4035, 5.3).
 #![tactic(auto)]
 
 mod answer;

@@ -12,8 +12,9 @@ pub fn more_facts_decide_as_fewer()
     ensures { MoreFactsDecide }
 {}
 
-/// Of the facts of a zone's own answer some are enough: beside a wildcard's RRset that opt-out
-/// leaves open the record for the next closer name, as servers answer (RFC 5155, 7.2.6).
+/// A part of a zone's own answer decides what the whole decides. With a wildcard's RRset that
+/// opt-out leaves open, only the record for the next closer name is needed, and servers send no
+/// other (RFC 5155, 7.2.6).
 pub fn due_facts_decide()
     ensures own { OwnIncludesDue }
     ensures decide { DueFactsDecide }
