@@ -1,5 +1,5 @@
-//! Which owners of a zone have records of its denial chain, and which types those records list (RFC
-//! 4034, 4; RFC 5155, 7.1).
+//! The owners of a zone that have records of its denial chain, and the types that those records
+//! list (RFC 4034, 4; RFC 5155, 7.1).
 #![tactic(auto)]
 
 pub mod conditions;
