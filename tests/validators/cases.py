@@ -2,6 +2,7 @@
 
 import asyncio
 import contextlib
+import itertools
 import multiprocessing.pool
 import random
 import time
@@ -193,12 +194,24 @@ class Clocked(Zoned):
 
 
 class Late(Clocked):
-    """A zone whose roll comes late in a second: right before the report both servers have the change, and right before that resolvers
+    """A zone whose roll comes late in a second: right before a report both servers have the change, and right before that resolvers
     ask for the first time. The wait is made as soon as it is accepted, and what resolvers hold then meets what they ask for anew."""
 
+    def __init__(self, source, below_key, questions, wait, reported):
+        """`wait` is the step that is made as soon as it is accepted."""
+        super().__init__(source, below_key, questions, [], reported)
+        self.at = STEPS.index(wait)
+
+    def start(self):
+        super().start()
+        # Up to the change nobody has asked, so a TTL of nothing is true.
+        for step in STEPS[: self.at - 2]:
+            for server, command in itertools.product(self.running, self.source.commands(step, 0)):
+                server.do(command)
+
     async def keep(self, begin):
-        """Goes up to the first wait, whose report is of this moment."""
-        for step, moment in zip(STEPS, (begin - CHANGE, begin, begin + self.reported - 1)):
+        """Makes the change, the report, which is of this moment, and the wait."""
+        for step, moment in zip(STEPS[self.at - 2 :], (begin - CHANGE, begin, begin + self.reported - 1)):
             await until(moment)
             await asyncio.gather(*(self.step(it, step) for it in self.running))
 
