@@ -1,5 +1,5 @@
 """What a case proves, decided from its messages alone, as the standards have it: RFC 4035, 5; RFC 5155, 8; RFC 6840, 4 and 5;
-RFC 4592; RFC 6672; RFC 9276.
+RFC 4592; RFC 6672; RFC 9276; and of signers that make NSEC records for each question RFC 4470 and RFC 9824.
 
 It is plain and slow, and shares no code with the maker. Each rule has the section that it follows.
 
@@ -20,7 +20,7 @@ from cryptography.hazmat.primitives import hashes
 from cryptography.hazmat.primitives.asymmetric import ec, ed25519, padding, rsa, utils
 
 Name = tuple[bytes, ...]
-NS, CNAME, SOA, DNAME, DS, RRSIG, NSEC, DNSKEY, NSEC3 = 2, 5, 6, 39, 43, 46, 47, 48, 50
+NS, CNAME, SOA, DNAME, DS, RRSIG, NSEC, DNSKEY, NSEC3, NXNAME = 2, 5, 6, 39, 43, 46, 47, 48, 50, 128
 DIGESTS = {1: hashlib.sha1, 2: hashlib.sha256, 4: hashlib.sha384}
 ALGORITHMS = {8, 13, 15}
 # Types whose data begin with so many octets, and so many names behind them (RFC 4034, 6.2; RFC 6840, 5.1). NAPTR and A6, whose names
@@ -326,12 +326,32 @@ class Link:
         is_below = name[: len(self.owner)] == self.owner
         return is_between and name != self.owner and not (is_below and hides_below(self.types))
 
+    @property
+    def is_denial(self) -> bool:
+        """Whether it says that its owner does not exist (RFC 9824, 3.1)."""
+        return NXNAME in self.types
+
+    @property
+    def has_types(self) -> bool:
+        """Whether its types are those of a name that exists. An owner that was made up for a question has RRSIG and NSEC alone (RFC 4470, 4),
+        and NXNAME beside them (RFC 9824, 3.1); that of a chain has some other type (RFC 4035, 2.3)."""
+        return not self.is_denial and not self.types <= {RRSIG, NSEC}
+
+    @property
+    def speaks_of_owner(self) -> bool:
+        """Whether it says which types its owner has. One without types of its own does where a name below it is next, as that of an
+        empty non-terminal is (RFC 9824, 3.2); else its owner may be made up, and have records by a wildcard (RFC 4470, 4)."""
+        is_next_below = len(self.next) > len(self.owner) and self.next[: len(self.owner)] == self.owner
+        return not self.is_denial and (self.has_types or is_next_below)
+
     def encloser(self, name: Name) -> Name:
-        """The longest name above, or at, that owner or next show to exist (RFC 4592, 2.2)."""
+        """The longest name above, or at, that owner or next show to exist (RFC 4592, 2.2); an owner that may be made up shows those
+        above it alone."""
         def shared(other: Name) -> int:
             return next((at for at, (one, two) in enumerate(zip(name, other)) if one != two), min(len(name), len(other)))
 
-        return name[: max(shared(self.owner), shared(self.next))]
+        shown = self.owner if self.has_types else self.owner[:-1]
+        return name[: max(shared(shown), shared(self.next))]
 
 
 class ByNames:
@@ -348,22 +368,32 @@ class ByNames:
 
     def has_no_type(self, name: Name, rtype: int) -> bool:
         """At the name itself; an empty non-terminal has no record, but the one in front of it goes to a name below it."""
-        link = self.at(name)
+        link = self.speaking_of(name)
         if link:
             return denies_type(link.types, rtype)
         covering = self.covering(name)
         return bool(covering and covering.encloser(name) == name)
 
+    def speaking_of(self, name: Name) -> Link | None:
+        """The record that says which types a name has."""
+        link = self.at(name)
+        return link if link and link.speaks_of_owner else None
+
+    def is_denied(self, name: Name) -> bool:
+        """Whether the record at a name says that there is no such name: that is so of all types, and beside no wildcard (RFC 9824, 3.1)."""
+        link = self.at(name)
+        return bool(link and link.is_denial)
+
     def denied(self, name: Name, rtype: int) -> Verdict | None:
         if self.has_no_type(name, rtype):
             return Verdict("secure", "nodata")
         link = self.covering(name)
-        if self.at(name) or not link or link.encloser(name) == name:
+        if self.speaking_of(name) or not link or link.encloser(name) == name:
             return None
         star = (*link.encloser(name), STAR)
         if self.has_no_type(star, rtype):
             return Verdict("secure", "wildcard-nodata")
-        return Verdict("secure", "nxdomain") if self.covering(star) else None
+        return Verdict("secure", "nxdomain") if self.covering(star) or self.is_denied(star) else None
 
     def expanded(self, name: Name, labels: int) -> Verdict | None:
         """Whether nothing stands closer than the wildcard (RFC 4035, 5.3.4)."""
@@ -608,6 +638,7 @@ class Judge:
 
     def denials(self, name: Name, rtype: int) -> Iterator[Verdict | None]:
         apex = self.case.apex
+        yield Verdict("secure", "nxdomain") if self.by_names.is_denied(name) else None
         yield self.signed_delegation(name, rtype)
         for it in self.by_hashes:
             if rtype != DS:
