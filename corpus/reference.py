@@ -333,14 +333,14 @@ class Link:
 
     @property
     def has_types(self) -> bool:
-        """Whether its types are those of a name that exists. An owner that was made up for a question has RRSIG and NSEC alone (RFC 4470, 4),
+        """Whether its types are those of a name that exists. An owner that was made up for a question has RRSIG and NSEC alone (RFC 4470, 3),
         and NXNAME beside them (RFC 9824, 3.1); that of a chain has some other type (RFC 4035, 2.3)."""
         return not self.is_denial and not self.types <= {RRSIG, NSEC}
 
     @property
     def speaks_of_owner(self) -> bool:
         """Whether it says which types its owner has. One without types of its own does where a name below it is next, as that of an
-        empty non-terminal is (RFC 9824, 3.2); else its owner may be made up, and have records by a wildcard (RFC 4470, 4)."""
+        empty non-terminal is (RFC 9824, 3.2); else its owner may be made up, and have records by a wildcard (RFC 4470, 3)."""
         is_next_below = len(self.next) > len(self.owner) and self.next[: len(self.owner)] == self.owner
         return not self.is_denial and (self.has_types or is_next_below)
 
@@ -430,6 +430,11 @@ class HashLink:
     types: set[int]
     opts_out: bool
 
+    @property
+    def is_denial(self) -> bool:
+        """Whether it says that the name whose hash it has does not exist (RFC 9824, 4)."""
+        return NXNAME in self.types
+
     def covers(self, digest: bytes) -> bool:
         if self.owner < self.next:
             return self.owner < digest < self.next
@@ -454,7 +459,7 @@ class ByHashes:
         """The closest encloser, and the record that covers the next closer name (8.3)."""
         for depth in range(len(name) - 1, len(self.apex) - 1, -1):
             link = self.at(name[:depth])
-            if link:
+            if link and not link.is_denial:
                 covering = self.covering(name[: depth + 1])
                 return (name[:depth], covering[0]) if covering and not hides_below(link.types) else None
         return None
@@ -471,9 +476,10 @@ class ByHashes:
             # 8.6
             return Verdict("insecure", "optout")
         star = self.at((*encloser, STAR))
-        if star and denies_type(star.types, rtype):
+        is_missing = bool(star and star.is_denial)
+        if star and not is_missing and denies_type(star.types, rtype):
             return self.open_or(covering, "wildcard-nodata")
-        if not star and self.covering((*encloser, STAR)):
+        if is_missing or not star and self.covering((*encloser, STAR)):
             return self.open_or(covering, "nxdomain")
         return None
 
@@ -638,7 +644,8 @@ class Judge:
 
     def denials(self, name: Name, rtype: int) -> Iterator[Verdict | None]:
         apex = self.case.apex
-        yield Verdict("secure", "nxdomain") if self.by_names.is_denied(name) else None
+        if self.by_names.is_denied(name) or any(link and link.is_denial for link in (it.at(name) for it in self.by_hashes)):
+            yield Verdict("secure", "nxdomain")
         yield self.signed_delegation(name, rtype)
         for it in self.by_hashes:
             if rtype != DS:

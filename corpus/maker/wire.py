@@ -15,10 +15,11 @@ from collections.abc import Iterable, Iterator, Sequence
 Name = tuple[bytes, ...]
 
 A, NS, CNAME, SOA, PTR, MX, TXT, AAAA, SRV, DNAME = 1, 2, 5, 6, 12, 15, 16, 28, 33, 39
-DS, RRSIG, NSEC, DNSKEY, NSEC3, NSEC3PARAM = 43, 46, 47, 48, 50, 51
+DS, RRSIG, NSEC, DNSKEY, NSEC3, NSEC3PARAM, NXNAME = 43, 46, 47, 48, 50, 51, 128
 TYPES = {
     "A": A, "NS": NS, "CNAME": CNAME, "SOA": SOA, "PTR": PTR, "MX": MX, "TXT": TXT, "AAAA": AAAA, "SRV": SRV, "DNAME": DNAME,
     "DS": DS, "RRSIG": RRSIG, "NSEC": NSEC, "DNSKEY": DNSKEY, "NSEC3": NSEC3, "NSEC3PARAM": NSEC3PARAM,
+    "NXNAME": NXNAME,
 }
 TYPE_NAMES = {number: name for name, number in TYPES.items()}
 # Octets in front of the names in data of these types, and how many names there are (RFC 4034, 6.2).

@@ -87,6 +87,9 @@ def made(rtype: int, owner: Name, apex: Name, number: int) -> bytes:
 class Zone:
     """A zone of a text such as `a:A,MX *.w:TXT sub:NS safe:NS,DS x:CNAME=a`."""
 
+    # The response code for a name that does not exist.
+    RCODE_OF_NONE = wire.NXDOMAIN
+
     def __init__(self, apex: Name, text: str, chain: Nsec | Nsec3 = Nsec(), keys: Keys | None = None, first: int = 1) -> None:
         self.apex, self.text, self.chain, self.keys = apex, text, chain, keys or pair_of_keys()
         self.times = INCEPTION, EXPIRATION
@@ -381,4 +384,4 @@ def honest(zone: Zone, name: Name, rtype: int) -> Shown:
     if says.rrset:
         return positive([says.rrset], unique(says.needs.values()))
     is_missing = wire.lower(name) not in zone.names and (b"*", *zone.encloser(name)) not in zone.names
-    return negative(zone, says.needs.values(), wire.NXDOMAIN if is_missing else 0)
+    return negative(zone, says.needs.values(), zone.RCODE_OF_NONE if is_missing else 0)

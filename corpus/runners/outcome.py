@@ -22,6 +22,7 @@ SEEN = {
     "alias-nxdomain": {"alias"},
     "records": {"answer", "wildcard", "alias", "delegated"},
     "none": {"nodata", "wildcard-nodata"},
+    # Which denial it is, is not told, or only by a record that is passed on.
     "denied": {"nodata", "wildcard-nodata", "nxdomain"},
 }
 

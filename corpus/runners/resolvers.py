@@ -14,6 +14,9 @@ import pathlib
 import struct
 import subprocess
 import time
+from collections.abc import Iterator
+
+import reference
 
 from . import programs
 from .outcome import BOGUS, INSECURE, SECURE, Case, Said
@@ -48,8 +51,30 @@ def said(answer: bytes | None) -> Said:
     rcode, why = flags & 15, extended_error(answer)
     if rcode not in (0, 3, YXDOMAIN):
         return Said(BOGUS if rcode == 2 else f"RCODE {rcode}", "", why)
-    which = ("alias-nxdomain" if answers else "nxdomain") if rcode == 3 else "records" if answers else "none"
+    which = ("alias-nxdomain" if answers else "nxdomain") if rcode == 3 else "records" if answers else "denied" if has_nxname(answer) else "none"
     return Said(SECURE if flags & AD else INSECURE, which, why)
+
+
+def has_nxname(answer: bytes) -> bool:
+    """Whether the record of the name, which is passed on, says that there is no such name: a client that sets DO and not CO sees it by
+    that alone (RFC 9824, 5)."""
+    try:
+        message = reference.read(answer)
+        return any(reference.NXNAME in types for it in message.records for types in types_at(message.name, it))
+    except (reference.Unreadable, IndexError, struct.error):
+        return False
+
+
+def types_at(name: reference.Name, record: reference.Record) -> Iterator[set[int]]:
+    """The types in an NSEC or NSEC3 record of a name."""
+    data = record.data
+    if record.rtype == reference.NSEC and record.owner == name:
+        yield reference.types_of(data[reference.name_at(data, 0)[1] :])
+    if record.rtype == reference.NSEC3:
+        salt_end = 5 + data[4]
+        digest = reference.Parameters(int.from_bytes(data[2:4], "big"), data[5:salt_end]).hash(name)
+        if reference.unhex32(record.owner[-1]) == digest:
+            yield reference.types_of(data[salt_end + 1 + data[salt_end] :])
 
 
 def extended_error(answer: bytes) -> str:
