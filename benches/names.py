@@ -22,7 +22,7 @@ def text(wire):
 
 def order_names():
     """The names of the table of canonical order: pairs of neighbours, a line each behind lines that say so."""
-    lines = (TOP / "crates/test_names/stdin").read_text(encoding="utf-8")
+    lines = (TOP / "crates/test_rdata/stdin").read_text(encoding="utf-8")
     pairs = re.search(r"^# names in canonical order.*\n(?:#.*\n)*((?:pair .*\n)+)", lines, re.MULTILINE)[1]
     return [text(bytes.fromhex(it)) for it in dict.fromkeys(re.findall(r"\b(?:[0-9a-f]{2})+\b", pairs))]
 

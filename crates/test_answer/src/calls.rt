@@ -1,138 +1,108 @@
-//! Calls on the keys of a publisher.
+//! Calls on the keys of a publisher. None is made of a line that cannot be read.
 
 use crate::desk::TestPublisher;
-use crate::words::{moment, octets_of, text_of};
-use answer::{Action, Available, KeyFault, RollType, SecurityAlgorithm, UnixTime};
-use std::alloc::Global;
+use crate::words::{octets_at, text_at};
+use answer::{Action, Available, KeyFault, SecurityAlgorithm, UnixTime};
 use std::time::Duration;
-use test_lines::{listed, refused, text};
+use test_keyset::{moment_at, roll_at};
+use test_lines::Line;
 
-/// Adds a key of algorithm 13, made at 0 and available.
-pub fn add(
-    alloc: Global,
-    publisher: &mut TestPublisher,
-    kind: &str,
-    words: &[&str],
-) -> Option<String> {
-    let [reference, private, octets] = words else {
-        return None;
-    };
-    let reference = text(alloc, reference)?;
-    let private = match *private {
-        "-" => None,
-        private => Some(text_of(alloc, private)?),
-    };
-    let octets = octets_of(alloc, octets)?;
-    match added(publisher, kind, reference, private, octets)? {
-        Ok(()) => text(alloc, "ok"),
-        Err(fault) => refused(alloc, &fault),
+/// Says what a call answered.
+pub fn made(line: &mut Line<'_>, answered: Result<(), KeyFault>) {
+    match answered {
+        Ok(()) => line.say("ok"),
+        Err(fault) => line.refused(&fault),
     }
 }
 
-/// What an add answers; none for a key that is longer than its data may be.
-fn added(
-    publisher: &mut TestPublisher,
-    kind: &str,
-    reference: String,
-    private: Option<String>,
-    octets: Vec<u8>,
-) -> Option<Result<(), KeyFault>> {
-    if octets.len() > 65_531 {
-        return None;
+/// Adds a key of algorithm 13, made at 0 and available; none that is longer than its data may be.
+pub fn add(line: &mut Line<'_>, publisher: &mut TestPublisher) {
+    let (reference, octets) = (line.text(line.word(1)), octets_at(line, 3));
+    let private = if line.word(2) == "-" {
+        None
+    } else {
+        Some(text_at(line, 2))
+    };
+    if line.is_lost() || octets.len() > 65_531 {
+        line.lose();
+        return;
     }
     let ecdsa = SecurityAlgorithm::ECDSAP256SHA256;
-    let (made, is_there) = (UnixTime::new(Duration::ZERO), Available::Available);
-    Some(match kind {
-        "ksk" => publisher.add_key_ksk(reference, private, ecdsa, octets, made, is_there),
-        _ => publisher.add_key_zsk(reference, private, ecdsa, octets, made, is_there),
-    })
+    let (time, is_there) = (UnixTime::new(Duration::ZERO), Available::Available);
+    let answered = match line.word(0) {
+        "ksk" => publisher.add_key_ksk(reference, private, ecdsa, octets, time, is_there),
+        _ => publisher.add_key_zsk(reference, private, ecdsa, octets, time, is_there),
+    };
+    made(line, answered);
 }
 
 /// How many actions a call of a roll asks for.
-fn owed(alloc: Global, answered: Result<Vec<Action>, KeyFault>) -> Option<String> {
+fn owed(line: &mut Line<'_>, answered: Result<Vec<Action>, KeyFault>) {
     match answered {
         Ok(actions) => {
-            let count = actions.len();
-            format!(in alloc; "{count} actions").ok()
+            line.value(&actions.len());
+            line.say("actions");
         }
-        Err(fault) => refused(alloc, &fault),
+        Err(fault) => line.refused(&fault),
     }
 }
 
-fn roll(word: &str) -> Option<RollType> {
-    word.parse::<RollType>().ok()
+pub fn start(line: &mut Line<'_>, publisher: &mut TestPublisher) {
+    let (roll, now) = (roll_at(line, 1), moment_at(line, 4));
+    let (old, new) = (line.list(2), line.list(3));
+    if !line.is_lost() {
+        owed(line, publisher.start_roll(roll, &old, &new, &now));
+    }
 }
 
-pub fn start(alloc: Global, publisher: &mut TestPublisher, words: &[&str]) -> Option<String> {
-    let [name, old, new, now] = words else {
-        return None;
-    };
-    let (old, new) = (listed(alloc, old)?, listed(alloc, new)?);
-    let answered = publisher.start_roll(roll(name)?, &old, &new, &moment(now)?);
-    owed(alloc, answered)
+pub fn report(line: &mut Line<'_>, publisher: &mut TestPublisher) {
+    let (roll, ttl, now) = (roll_at(line, 1), line.u32_at(2), moment_at(line, 3));
+    if !line.is_lost() {
+        let answered = match line.word(0) {
+            "report1" => publisher.propagation1_complete(roll, ttl, &now),
+            _ => publisher.propagation2_complete(roll, ttl, &now),
+        };
+        owed(line, answered);
+    }
 }
 
-pub fn report(
-    alloc: Global,
-    publisher: &mut TestPublisher,
-    turn: &str,
-    words: &[&str],
-) -> Option<String> {
-    let [name, ttl, now] = words else {
-        return None;
-    };
-    let (roll, ttl, now) = (roll(name)?, ttl.parse::<u32>().ok()?, moment(now)?);
-    let answered = match turn {
-        "report1" => publisher.propagation1_complete(roll, ttl, &now),
-        _ => publisher.propagation2_complete(roll, ttl, &now),
-    };
-    owed(alloc, answered)
+pub fn wait(line: &mut Line<'_>, publisher: &mut TestPublisher) {
+    let (roll, now) = (roll_at(line, 1), moment_at(line, 2));
+    if !line.is_lost() {
+        let answered = match line.word(0) {
+            "wait1" => publisher.cache_expired1(roll, &now),
+            _ => publisher.cache_expired2(roll, &now),
+        };
+        owed(line, answered);
+    }
 }
 
-pub fn wait(
-    alloc: Global,
-    publisher: &mut TestPublisher,
-    turn: &str,
-    words: &[&str],
-) -> Option<String> {
-    let [name, now] = words else {
-        return None;
-    };
-    let (roll, now) = (roll(name)?, moment(now)?);
-    let answered = match turn {
-        "wait1" => publisher.cache_expired1(roll, &now),
-        _ => publisher.cache_expired2(roll, &now),
-    };
-    owed(alloc, answered)
-}
-
-pub fn end(alloc: Global, publisher: &mut TestPublisher, words: &[&str]) -> Option<String> {
-    let [name] = words else {
-        return None;
-    };
-    let answered = publisher.roll_done(roll(name)?);
-    owed(alloc, answered)
+pub fn end(line: &mut Line<'_>, publisher: &mut TestPublisher) {
+    let roll = roll_at(line, 1);
+    if !line.is_lost() {
+        owed(line, publisher.roll_done(roll));
+    }
 }
 
 /// How many actions the last step of a roll asked for.
-pub fn still_owed(alloc: Global, publisher: &TestPublisher, words: &[&str]) -> Option<String> {
-    let [name] = words else {
-        return None;
-    };
-    match publisher.key_set().actions(roll(name)?) {
-        Ok(actions) => owed(alloc, Ok(actions)),
-        Err(error) => refused(alloc, &error),
+pub fn still_owed(line: &mut Line<'_>, publisher: &TestPublisher) {
+    let roll = roll_at(line, 1);
+    match publisher.key_set().actions(roll) {
+        Ok(actions) => owed(line, Ok(actions)),
+        Err(error) => line.refused(&error),
     }
 }
 
 /// Whether a key is there, and how long its private reference is.
-pub fn key(alloc: Global, publisher: &TestPublisher, words: &[&str]) -> Option<String> {
-    let [reference] = words else {
-        return None;
-    };
-    let Some(key) = publisher.key_set().key(reference) else {
-        return text(alloc, "no key");
-    };
-    let (tag, private) = (key.key_tag(), key.privref().map_or(0, |text| text.len()));
-    format!(in alloc; "tag {tag}, private reference of {private} letters").ok()
+pub fn key(line: &mut Line<'_>, publisher: &TestPublisher) {
+    match publisher.key_set().key(line.word(1)) {
+        Some(key) => {
+            line.say("tag");
+            line.value(&key.key_tag());
+            line.mark(", private reference of");
+            line.value(&key.privref().map_or(0, |text| text.len()));
+            line.say("letters");
+        }
+        None => line.say("no key"),
+    }
 }

@@ -7,24 +7,32 @@ use answer::{AnswerFault, HashError, KeyFault, KeyKind, Refusal, SchemeError, Zo
 use messages::MessageError;
 use session_grammar::line_error::LineFault;
 use session_grammar::session::SessionError;
-use std::alloc::Global;
-use test_lines::joined;
+use std::fmt::Display;
+use test_lines::Line;
 
 /// The texts of the faults of a kind, in the order in which its enum has them.
-pub fn faults(alloc: Global, kind: &str) -> Option<String> {
-    match kind {
-        "zone" => joined(alloc, &zone_faults(), "; "),
-        "chain" => joined(alloc, &chain_faults(), "; "),
-        "hash" => joined(alloc, &[HashError::Failed, HashError::Memory], "; "),
-        "scheme" => joined(alloc, &[SchemeError::Failed, SchemeError::Memory], "; "),
-        "data" => joined(alloc, &[LongRecordData], "; "),
-        "answer" => joined(alloc, &answer_faults(), "; "),
-        "key" => joined(alloc, &key_faults(), "; "),
-        "judge" => joined(alloc, &refusals(), "; "),
-        "message" => joined(alloc, &message_errors(), "; "),
-        "session" => joined(alloc, &session_errors(), "; "),
-        _ => None,
+pub fn faults(line: &mut Line<'_>) {
+    match line.word(1) {
+        "zone" => texts(line, &zone_faults()),
+        "chain" => texts(line, &chain_faults()),
+        "hash" => texts(line, &[HashError::Failed, HashError::Memory]),
+        "scheme" => texts(line, &[SchemeError::Failed, SchemeError::Memory]),
+        "data" => texts(line, &[LongRecordData]),
+        "answer" => texts(line, &answer_faults()),
+        "key" => texts(line, &key_faults()),
+        "judge" => texts(line, &refusals()),
+        "message" => texts(line, &message_errors()),
+        "session" => texts(line, &session_errors()),
+        _ => line.lose(),
     }
+}
+
+fn texts<F: Display>(line: &mut Line<'_>, faults: &[F]) {
+    let mut texts = line.aside("; ");
+    for fault in faults {
+        texts.value(fault);
+    }
+    line.append(texts);
 }
 
 fn zone_faults() -> [ZoneFault; 9] {
@@ -103,12 +111,9 @@ fn session_errors() -> [SessionError; 2] {
 
 /// The flags of a key signing key, of a zone signing key, of a key that signs both and of one of
 /// another owner.
-pub fn flags(alloc: Global) -> Option<String> {
-    let (ksk, zsk, csk, include) = (
-        KeyKind::Ksk.flags(),
-        KeyKind::Zsk.flags(),
-        KeyKind::Csk.flags(),
-        KeyKind::Include.flags(),
-    );
-    format!(in alloc; "{ksk} {zsk} {csk} {include}").ok()
+pub fn flags(line: &mut Line<'_>) {
+    line.value(&KeyKind::Ksk.flags());
+    line.value(&KeyKind::Zsk.flags());
+    line.value(&KeyKind::Csk.flags());
+    line.value(&KeyKind::Include.flags());
 }

@@ -1,5 +1,9 @@
-//! Answers lines about zones, key calls, messages and judgements, so that the output is compared
-//! with results worked out by hand.
+//! Answers lines about messages, zones, keys, answers and judgements, so that the output is
+//! compared with the standards, the tables of rolls and results worked out by hand.
+//!
+//! A line begins with what is asked for. A line `section NAME` says which lines follow: those of
+//! `messages` are told in the crate `test_messages`, of `keys` in `test_keyset`, of `answers` below. Each line is printed,
+//! and the answer behind it. Lines that begin with `#` and empty ones are printed alone.
 //!
 //! Names are texts, octets hexadecimal digits (`07*3` for `070707`, `-` for none), lists are joined
 //! by commas, moments are seconds. A signature is a copy of the octets that it is made over, and a
@@ -37,95 +41,88 @@
 //!   `sessions COUNT LINE`: makes one with so many times the line.
 //! - `faults KIND`: the texts of faults; `flags`: those of keys.
 //!
-//! Each line is printed, and the answer behind it; octets that are more than 1000 are counted.
-//! Lines that begin with `#` and empty ones are printed alone.
+//! Octets that are more than 1000 are counted.
 #![tactic(auto)]
 
+mod answers;
+mod asked;
 mod calls;
 mod counting;
 mod desk;
 mod faults;
-mod given;
 mod judged;
 mod scheme;
 mod sessions;
 mod settings;
-mod shown;
 mod validity;
 mod words;
-mod zone;
 
 use desk::Desk;
 use std::alloc::Global;
 use std::io;
-use test_lines::words;
+use test_lines::{Form, Line};
 
-/// What is printed behind a line, if it can be read.
-fn reply(alloc: Global, desk: &mut Desk, line: &str) -> Option<String> {
-    let (name, rest) = line.split_once(' ').unwrap_or((line, ""));
-    match name {
-        "session" => sessions::session(alloc, rest),
-        "session-octets" => sessions::session_of_octets(alloc, rest),
-        "sessions" => sessions::many(alloc, rest),
-        "faults" => faults::faults(alloc, rest),
-        "flags" => faults::flags(alloc),
-        "zone" | "soa" | "rr" | "addresses" | "publish" | "publish-hashed" => {
-            desk.zone_line(alloc, name, &words(alloc, rest)?)
-        }
-        "keys" => desk.take_keys(alloc, &words(alloc, rest)?),
-        "message" => desk.take_answer(alloc, &words(alloc, rest)?),
-        "dnskey" => desk.dnskey(alloc, &words(alloc, rest)?),
-        "answer" => desk.ask(alloc, &words(alloc, rest)?),
-        "judge" => judged::judged(alloc, desk, &words(alloc, rest)?),
-        "judge-by" => judged::judged_by(alloc, desk, rest),
-        "judge-any-moments" => judged::judged_any(alloc, desk, &words(alloc, rest)?),
-        "judge-any-question" => judged::judged_other(alloc, desk, &words(alloc, rest)?),
-        "cuts" => judged::cuts(alloc, desk, &words(alloc, rest)?),
-        "lasts" => validity::lasts(alloc, desk, &words(alloc, rest)?),
-        "allowed" => judged::allowed(alloc, &words(alloc, rest)?),
-        _ => on_keys(alloc, desk, name, &words(alloc, rest)?),
-    }
+/// Which lines follow.
+#[derive(Clone, Copy)]
+enum Section {
+    Messages,
+    Keys,
+    Answers,
 }
 
-/// A line that speaks of the keys of the publisher.
-fn on_keys(alloc: Global, desk: &mut Desk, name: &str, words: &[&str]) -> Option<String> {
-    let publisher = desk.publisher.as_mut()?;
-    match name {
-        "ksk" | "zsk" => calls::add(alloc, publisher, name, words),
-        "start" => calls::start(alloc, publisher, words),
-        "report1" | "report2" => calls::report(alloc, publisher, name, words),
-        "wait1" | "wait2" => calls::wait(alloc, publisher, name, words),
-        "done" => calls::end(alloc, publisher, words),
-        "include" => settings::include(alloc, publisher, words),
-        "set-present" => settings::set_present(alloc, publisher, words),
-        "set-decoupled" | "set-signer" | "set-at-parent" => {
-            settings::set_flag(alloc, publisher, name, words)
+/// What the lines so far made.
+#[derive(Drop)]
+struct State {
+    section: Section,
+    accepted: test_messages::Zone,
+    keys: Option<test_keyset::Zone>,
+    desk: Desk,
+}
+
+impl State {
+    fn new(alloc: Global) -> State {
+        State {
+            section: Section::Messages,
+            accepted: test_messages::Zone::new(alloc),
+            keys: None,
+            desk: Desk::new(alloc),
         }
-        "set-visible" | "set-ds-visible" | "set-rrsig-visible" => {
-            settings::set_stamp(alloc, publisher, name, words)
+    }
+
+    /// Begins a section.
+    fn begin(&mut self, line: &mut Line<'_>) {
+        match line.word(1) {
+            "messages" => self.section = Section::Messages,
+            "keys" => self.section = Section::Keys,
+            "answers" => self.section = Section::Answers,
+            _ => line.lose(),
         }
-        "set-stale" | "delete" => settings::leave(alloc, publisher, name, words),
-        "bound" => settings::bound(alloc, publisher, words),
-        "owed" => calls::still_owed(alloc, publisher, words),
-        "key" => calls::key(alloc, publisher, words),
-        "ds" => shown::ds_set(alloc, publisher),
-        "apex" => publisher.apex().to_string(alloc).ok(),
-        _ => None,
+    }
+
+    fn answer(&mut self, line: &mut Line<'_>) {
+        if line.is_section() {
+            self.begin(line);
+            return;
+        }
+        match self.section {
+            Section::Messages => test_messages::answer(line, &mut self.accepted),
+            Section::Keys => test_keyset::answer(line, &mut self.keys),
+            Section::Answers => answers::answer(line, &mut self.desk),
+        }
     }
 }
 
 fn main(rt: HostRuntime) -> io::Result<()> {
-    let mut desk = Desk::new(rt.alloc());
-    for line in rt.lines(rt.alloc()) {
-        let line = line?;
-        println!(rt; "{line}")?;
-        if line.is_empty() || line.starts_with('#') {
-            continue;
+    let alloc = rt.alloc();
+    let mut state = State::new(alloc);
+    for text in rt.lines(alloc) {
+        let text = text?;
+        let mut line = Line::new(alloc, &text);
+        if !line.is_comment() {
+            state.answer(&mut line);
         }
-        match reply(rt.alloc(), &mut desk, line.as_str()) {
-            Some(said) => println!(rt; "{said}")?,
-            None => println!(rt; "cannot be read")?,
-        }
+        let (before, said, behind) = line.printed(Form::Below);
+        print!(rt; "{text}{before}{said}{behind}")?;
     }
     Ok(())
 }

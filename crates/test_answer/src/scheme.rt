@@ -3,6 +3,7 @@ ghost use Rattle.std.specs.Prelude.{◌≡◌, ◌++◌, IfOk};
 
 use answer::{DigestAlgorithm, Dnskey, HashError, Nsec3Hasher, Scheme, SchemeError};
 use std::alloc::{AllocError, Global};
+use test_lines::Line;
 
 /// A signature is a copy of the octets that it is made over, the digest of the one known type is
 /// the octet 7, and so is each hash.
@@ -55,15 +56,18 @@ const ONE_HASH: &TestScheme = &TestScheme {
     hashes: true,
 };
 
-/// The scheme of a word.
-pub fn scheme_of(word: &str) -> Option<&'static TestScheme> {
-    match word {
-        "well" => Some(WELL),
-        "no-digest" => Some(NO_DIGEST),
-        "no-signature" => Some(NO_SIGNATURE),
-        "keyed" => Some(KEYED),
-        "one-hash" => Some(ONE_HASH),
-        _ => None,
+/// The scheme of the word at a place.
+pub fn scheme_at(line: &mut Line<'_>, place: usize) -> &'static TestScheme {
+    match line.word(place) {
+        "well" => WELL,
+        "no-digest" => NO_DIGEST,
+        "no-signature" => NO_SIGNATURE,
+        "keyed" => KEYED,
+        "one-hash" => ONE_HASH,
+        _ => {
+            line.lose();
+            WELL
+        }
     }
 }
 

@@ -1,108 +1,93 @@
-//! What is set of a publisher's keys by hand, and what its references are bound to.
+//! What is set of a publisher's keys by hand, what its references are bound to, and its DS set.
 
+use crate::calls::made;
 use crate::desk::TestPublisher;
-use crate::words::{moment, octets_of};
-use answer::{KeyFault, SecurityAlgorithm, UnixTime};
-use std::alloc::Global;
+use crate::words::octets_at;
+use answer::{SecurityAlgorithm, UnixTime};
 use std::time::Duration;
-use test_lines::{is_yes, refused, text};
-
-fn answered(alloc: Global, answered: Result<(), KeyFault>) -> Option<String> {
-    match answered {
-        Ok(()) => text(alloc, "ok"),
-        Err(fault) => refused(alloc, &fault),
-    }
-}
+use test_keyset::moment_at;
+use test_lines::Line;
 
 /// Adds a key of another owner, of algorithm 13 and made at 0.
-pub fn include(alloc: Global, publisher: &mut TestPublisher, words: &[&str]) -> Option<String> {
-    let [reference, octets, available] = words else {
-        return None;
-    };
-    let reference = text(alloc, reference)?;
-    let octets = octets_of(alloc, octets)?;
-    if octets.len() > 65_531 {
-        return None;
+pub fn include(line: &mut Line<'_>, publisher: &mut TestPublisher) {
+    let (reference, octets) = (line.text(line.word(1)), octets_at(line, 2));
+    let is_there = line.is_yes(3);
+    if line.is_lost() || octets.len() > 65_531 {
+        line.lose();
+        return;
     }
-    let (ecdsa, made) = (
+    let (ecdsa, time) = (
         SecurityAlgorithm::ECDSAP256SHA256,
         UnixTime::new(Duration::ZERO),
     );
-    let added = publisher.add_public_key(reference, ecdsa, octets, made, is_yes(available)?);
-    answered(alloc, added)
+    made(
+        line,
+        publisher.add_public_key(reference, ecdsa, octets, time, is_there),
+    );
 }
 
 /// Sets a flag of a key.
-pub fn set_flag(
-    alloc: Global,
-    publisher: &mut TestPublisher,
-    flag: &str,
-    words: &[&str],
-) -> Option<String> {
-    let [reference, value] = words else {
-        return None;
-    };
-    let value = is_yes(value)?;
-    let set = match flag {
-        "set-decoupled" => publisher.set_decoupled(reference, value),
-        "set-signer" => publisher.set_signer(reference, value),
-        _ => publisher.set_at_parent(reference, value),
-    };
-    answered(alloc, set)
+pub fn set_flag(line: &mut Line<'_>, publisher: &mut TestPublisher) {
+    let (reference, value) = (line.word(1), line.is_yes(2));
+    if !line.is_lost() {
+        let answered = match line.word(0) {
+            "set-decoupled" => publisher.set_decoupled(reference, value),
+            "set-signer" => publisher.set_signer(reference, value),
+            _ => publisher.set_at_parent(reference, value),
+        };
+        made(line, answered);
+    }
 }
 
 /// Puts a key into the DNSKEY RRset or takes it out.
-pub fn set_present(alloc: Global, publisher: &mut TestPublisher, words: &[&str]) -> Option<String> {
-    let [reference, value, now] = words else {
-        return None;
-    };
-    let set = publisher.set_present(reference, is_yes(value)?, &moment(now)?);
-    answered(alloc, set)
+pub fn set_present(line: &mut Line<'_>, publisher: &mut TestPublisher) {
+    let (reference, value, now) = (line.word(1), line.is_yes(2), moment_at(line, 3));
+    if !line.is_lost() {
+        made(line, publisher.set_present(reference, value, &now));
+    }
 }
 
 /// Sets a stamp of a key.
-pub fn set_stamp(
-    alloc: Global,
-    publisher: &mut TestPublisher,
-    stamp: &str,
-    words: &[&str],
-) -> Option<String> {
-    let [reference, time] = words else {
-        return None;
-    };
-    let time = moment(time)?;
-    let set = match stamp {
-        "set-visible" => publisher.set_visible(reference, time),
-        "set-ds-visible" => publisher.set_ds_visible(reference, time),
-        _ => publisher.set_rrsig_visible(reference, time),
-    };
-    answered(alloc, set)
+pub fn set_stamp(line: &mut Line<'_>, publisher: &mut TestPublisher) {
+    let (reference, time) = (line.word(1), moment_at(line, 2));
+    if !line.is_lost() {
+        let answered = match line.word(0) {
+            "set-visible" => publisher.set_visible(reference, time),
+            "set-ds-visible" => publisher.set_ds_visible(reference, time),
+            _ => publisher.set_rrsig_visible(reference, time),
+        };
+        made(line, answered);
+    }
 }
 
 /// Takes a key out of use, or deletes it.
-pub fn leave(
-    alloc: Global,
-    publisher: &mut TestPublisher,
-    name: &str,
-    words: &[&str],
-) -> Option<String> {
-    let [reference] = words else {
-        return None;
+pub fn leave(line: &mut Line<'_>, publisher: &mut TestPublisher) {
+    let answered = match line.word(0) {
+        "set-stale" => publisher.set_stale(line.word(1)),
+        _ => publisher.delete_key(line.word(1)),
     };
-    let left = match name {
-        "set-stale" => publisher.set_stale(reference),
-        _ => publisher.delete_key(reference),
-    };
-    answered(alloc, left)
+    made(line, answered);
 }
 
 /// The DNSKEY record's data that a reference is bound to.
-pub fn bound(alloc: Global, publisher: &TestPublisher, words: &[&str]) -> Option<String> {
-    let [reference] = words else {
-        return None;
-    };
-    match publisher.dnskey_of(reference) {
-        Some(key) => key.to_string(alloc).ok(),
-        None => text(alloc, "no key"),
+pub fn bound(line: &mut Line<'_>, publisher: &TestPublisher) {
+    match publisher.dnskey_of(line.word(1)) {
+        Some(key) => line.value(key),
+        None => line.say("no key"),
+    }
+}
+
+/// The DS set, as its records are printed; of none `-`.
+pub fn ds_set(line: &mut Line<'_>, publisher: &TestPublisher) {
+    match publisher.ds_set() {
+        Ok(set) => {
+            let mut texts = line.aside(", ");
+            for ds in &set {
+                texts.value(ds);
+            }
+            texts.say_if_empty("-");
+            line.append(texts);
+        }
+        Err(_) => line.lose(),
     }
 }

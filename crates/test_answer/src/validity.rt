@@ -1,13 +1,13 @@
 //! How long verdicts last.
 
+use crate::asked::Asked;
 use crate::desk::Desk;
-use crate::judged::Asked;
 use answer::{
     DigestAlgorithm, Dnskey, HashError, Nsec3Hasher, Scheme, SchemeError, UnixTime, Validity,
     judge_with,
 };
 use std::alloc::Global;
-use test_lines::{refused, text};
+use test_lines::Line;
 
 /// A scheme under which each signature passes, whose digest of type 2 is the octet 7; no name is
 /// hashed.
@@ -67,19 +67,27 @@ impl Nsec3Hasher for Passing {
 
 /// How long the verdict lasts that the messages have which are held, where each of their signatures
 /// passes.
-pub fn lasts(alloc: Global, desk: &Desk, words: &[&str]) -> Option<String> {
-    let asked = Asked::read(alloc, words)?;
-    let case = asked.of_any_moments(&desk.keys, &desk.answer);
-    match judge_with(alloc, &Passing, &Passing, &case) {
-        Ok(judgement) => told(alloc, judgement.validity, case.moment),
-        Err(answer) => refused(alloc, &answer.refusal),
+pub fn lasts(line: &mut Line<'_>, desk: &Desk) {
+    if let Some(asked) = Asked::read(line, 1) {
+        let mut case = asked.of(&desk.keys, &desk.answer);
+        case.one_moment = false;
+        match judge_with(line.alloc(), &Passing, &Passing, &case) {
+            Ok(judgement) => told(line, judgement.validity, case.moment),
+            Err(answer) => line.refused(&answer.refusal),
+        }
     }
 }
 
-fn told(alloc: Global, validity: Option<Validity>, moment: UnixTime) -> Option<String> {
-    let Some(validity) = validity else {
-        return text(alloc, "nothing is verified");
-    };
-    let (ttl, seconds, until) = (validity.ttl, validity.seconds, validity.until(moment));
-    format!(in alloc; "ttl {ttl}, {seconds} seconds, until {until}").ok()
+fn told(line: &mut Line<'_>, validity: Option<Validity>, moment: UnixTime) {
+    match validity {
+        Some(validity) => {
+            line.say("ttl");
+            line.value(&validity.ttl);
+            line.mark(",");
+            line.value(&validity.seconds);
+            line.say("seconds, until");
+            line.value(&validity.until(moment));
+        }
+        None => line.say("nothing is verified"),
+    }
 }

@@ -1,57 +1,57 @@
 //! Words of a line.
 
-use answer::{Name, UnixTime};
-use std::alloc::Global;
-use std::time::Duration;
+use answer::Name;
+use test_lines::Line;
 
 /// The most octets that are printed each; of more, only how many they are.
 const MOST_PRINTED: usize = 1000;
 
-/// A name of its text (RFC 1035, 5.1).
-pub fn name_of(alloc: Global, text: &str) -> Option<Name<Vec<u8>>> {
-    Name::vec_from_str(alloc, text).ok()
-}
-
-/// A moment as whole seconds.
-pub fn moment(word: &str) -> Option<UnixTime> {
-    let seconds = word.parse::<u64>().ok()?;
-    Some(UnixTime::new(Duration::from_secs(seconds)))
-}
-
-/// What a word says once, and how often: `TEXT*COUNT`, or a text that stands once.
-fn repeated(word: &str) -> Option<(&str, usize)> {
-    match word.split_once('*') {
-        Some((text, count)) => Some((text, count.parse::<usize>().ok()?)),
-        None => Some((word, 1)),
+/// The name of the text at a place (RFC 1035, 5.1).
+pub fn name_at(line: &mut Line<'_>, place: usize) -> Option<Name<Vec<u8>>> {
+    match Name::vec_from_str(line.alloc(), line.word(place)) {
+        Ok(name) => Some(name),
+        Err(_) => {
+            line.lose();
+            None
+        }
     }
 }
 
-/// A text, `p*3` for `ppp`.
-pub fn text_of(alloc: Global, word: &str) -> Option<String> {
-    let (part, count) = repeated(word)?;
-    let mut text = String::new(alloc);
+/// What the word at a place says once, and how often: `TEXT*COUNT`, or a text that stands once.
+fn repeated<'l>(line: &mut Line<'l>, place: usize) -> (&'l str, u64) {
+    match line.word(place).split_once('*') {
+        Some((text, count)) => (text, line.read_number(count)),
+        None => (line.word(place), 1),
+    }
+}
+
+/// The text at a place, `p*3` for `ppp`.
+pub fn text_at(line: &mut Line<'_>, place: usize) -> String {
+    let (part, count) = repeated(line, place);
+    let mut text = String::new(line.alloc());
     for _ in 0..count {
-        text.push_str(part).ok()?;
+        line.must(text.push_str(part));
     }
-    Some(text)
+    text
 }
 
-/// The octets of hexadecimal digits, `07*3` for `070707`; `-` is no octet.
-pub fn octets_of(alloc: Global, word: &str) -> Option<Vec<u8>> {
-    let (digits, count) = repeated(word)?;
-    let part = test_lines::octets_of(alloc, digits)?;
-    let mut octets = Vec::new(alloc);
+/// The octets of the digits at a place, `07*3` for `070707`; `-` is no octet.
+pub fn octets_at(line: &mut Line<'_>, place: usize) -> Vec<u8> {
+    let (digits, count) = repeated(line, place);
+    let part = line.read_octets(digits);
+    let mut octets = Vec::new(line.alloc());
     for _ in 0..count {
-        octets.extend_from_slice(&part).ok()?;
+        line.must(octets.extend_from_slice(&part));
     }
-    Some(octets)
+    octets
 }
 
-/// The hexadecimal digits of octets; of none `-`, of many how many they are.
-pub fn printed(alloc: Global, octets: &[u8]) -> Option<String> {
-    let count = octets.len();
-    if count > MOST_PRINTED {
-        return format!(in alloc; "{count} octets").ok();
+/// Says the hexadecimal digits of octets; of none `-`, of many how many they are.
+pub fn say_octets(line: &mut Line<'_>, octets: &[u8]) {
+    if octets.len() > MOST_PRINTED {
+        line.value(&octets.len());
+        line.say("octets");
+    } else {
+        line.hex(octets);
     }
-    test_lines::printed(alloc, octets)
 }

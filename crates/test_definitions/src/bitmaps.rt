@@ -1,29 +1,33 @@
 //! Bitmaps of types.
 
 use definitions::reference::bitmap::{bitmap, bitmap_has, is_bitmap};
-use std::alloc::Global;
-use test_lines::{joined, numbers_of, octets_of, printed, text};
+use test_lines::Line;
 
 /// The types below this are looked for.
 const TYPES: u16 = 2000;
 
 /// The bitmap of types, joined by commas.
-pub fn bitmap_of(alloc: Global, list: &str) -> Option<String> {
-    let types = numbers_of(alloc, list)?;
-    printed(alloc, &bitmap(alloc, &types).ok()?)
+pub fn bitmap_of(line: &mut Line<'_>) {
+    let types = line.numbers(1);
+    match bitmap(line.alloc(), &types) {
+        Ok(octets) => line.hex(&octets),
+        Err(_) => line.lose(),
+    }
 }
 
 /// The types below 2000 that octets have as a bitmap.
-pub fn types_of(alloc: Global, word: &str) -> Option<String> {
-    let octets = octets_of(alloc, word)?;
+pub fn types_of(line: &mut Line<'_>) {
+    let octets = line.octets(1);
     if !is_bitmap(&octets) {
-        return text(alloc, "no bitmap");
+        line.say("no bitmap");
+        return;
     }
-    let mut types = Vec::new(alloc);
+    let mut types = line.aside(",");
     for rtype in 0..TYPES {
         if bitmap_has(&octets, rtype) {
-            types.push(rtype).ok()?;
+            types.value(&rtype);
         }
     }
-    joined(alloc, &types, ",")
+    types.say_if_empty("-");
+    line.append(types);
 }

@@ -1,23 +1,23 @@
 //! A zone, and what it says.
 
-use crate::words::labels_of;
+use crate::labels::labels_at;
 use definitions::reference::Octets;
 use definitions::reference::verdict::PlainVerdict;
 use definitions::reference::zone::{PlainRecord, PlainZone};
-use std::alloc::Global;
-use test_lines::{joined, octets_of, printed, push_word, text, words, yes_or_no};
+use std::alloc::{AllocError, Global};
+use test_lines::Line;
 
 /// The records of a zone while its lines are read, and the zone.
 #[derive(Drop)]
-pub struct Section {
+pub struct Zone {
     apex: Vec<Octets>,
     records: Vec<PlainRecord>,
     zone: Option<PlainZone>,
 }
 
-impl Section {
-    pub fn new(alloc: Global) -> Section {
-        Section {
+impl Zone {
+    pub fn new(alloc: Global) -> Zone {
+        Zone {
             apex: Vec::new(alloc),
             records: Vec::new(alloc),
             zone: None,
@@ -25,107 +25,112 @@ impl Section {
     }
 
     /// A line of a zone, or one that asks something of it.
-    pub fn reply(&mut self, alloc: Global, name: &str, rest: &str) -> Option<String> {
-        let words = words(alloc, rest)?;
-        match name {
-            "zone" => self.begin(alloc, &words),
-            "rr" => self.put(alloc, &words),
-            "made" => self.make(alloc),
-            "says" => self.says(alloc, false, &words),
-            "says-opt-out" => self.says(alloc, true, &words),
-            "exists" => self.exists(alloc, &words),
-            "nsec" => self.nsec_types(alloc, &words),
-            "nsec3" => self.nsec3_types(alloc, &words),
-            _ => None,
+    pub fn answer(&mut self, line: &mut Line<'_>) {
+        match line.word(0) {
+            "zone" => self.begin(line),
+            "rr" => self.put(line),
+            "made" => self.make(line),
+            _ => match &self.zone {
+                Some(zone) => answer(line, zone),
+                None => line.lose(),
+            },
         }
     }
 
     /// Begins a zone without records.
-    fn begin(&mut self, alloc: Global, words: &[&str]) -> Option<String> {
-        let [apex] = words else {
-            return None;
-        };
-        self.apex = labels_of(alloc, apex)?;
+    fn begin(&mut self, line: &mut Line<'_>) {
+        self.apex = labels_at(line, 1);
         self.records.clear();
-        text(alloc, "ok")
+        line.say("ok");
     }
 
-    fn put(&mut self, alloc: Global, words: &[&str]) -> Option<String> {
-        let [owner, rtype, octets] = words else {
-            return None;
-        };
-        let (owner, octets) = (labels_of(alloc, owner)?, octets_of(alloc, octets)?);
-        let octets = Octets::from_slice(alloc, &octets).ok()?;
-        let record = PlainRecord::new(alloc, &owner, rtype.parse::<u16>().ok()?, octets);
-        self.records.push(record.ok()?).ok()?;
-        text(alloc, "ok")
+    fn put(&mut self, line: &mut Line<'_>) {
+        let (owner, rtype, octets) = (labels_at(line, 1), line.u16_at(2), line.octets(3));
+        match Octets::from_slice(line.alloc(), &octets) {
+            Ok(octets) => match PlainRecord::new(line.alloc(), &owner, rtype, octets) {
+                Ok(record) => line.must(self.records.push(record)),
+                Err(_) => line.lose(),
+            },
+            Err(_) => line.lose(),
+        }
+        line.say("ok");
     }
 
     /// Makes the zone of the records so far.
-    fn make(&mut self, alloc: Global) -> Option<String> {
-        let records = std::mem::replace(&mut self.records, Vec::new(alloc));
-        self.zone = Some(PlainZone::new(alloc, &self.apex, records).ok()?);
-        text(alloc, "ok")
-    }
-
-    fn says(&self, alloc: Global, opt_out: bool, words: &[&str]) -> Option<String> {
-        let [name, rtype] = words else {
-            return None;
-        };
-        let (labels, rtype) = (labels_of(alloc, name)?, rtype.parse::<u16>().ok()?);
-        let said = self
-            .zone
-            .as_ref()?
-            .verdict(alloc, opt_out, &labels, rtype)
-            .ok()?;
-        verdict(alloc, &said)
-    }
-
-    fn exists(&self, alloc: Global, words: &[&str]) -> Option<String> {
-        let [name] = words else {
-            return None;
-        };
-        let labels = labels_of(alloc, name)?;
-        text(alloc, yes_or_no(self.zone.as_ref()?.exists(&labels)))
-    }
-
-    /// The types that the NSEC record of an owner tells of.
-    fn nsec_types(&self, alloc: Global, words: &[&str]) -> Option<String> {
-        let [keys, name] = words else {
-            return None;
-        };
-        let (zone, labels) = (self.zone.as_ref()?, labels_of(alloc, name)?);
-        let types = zone.nsec_types(alloc, *keys == "keys", &labels);
-        joined(alloc, &types.ok()?, ",")
-    }
-
-    /// The types that the NSEC3 record of a name tells of.
-    fn nsec3_types(&self, alloc: Global, words: &[&str]) -> Option<String> {
-        let [keys, name] = words else {
-            return None;
-        };
-        let (zone, labels) = (self.zone.as_ref()?, labels_of(alloc, name)?);
-        let types = zone.nsec3_types(alloc, *keys == "keys", &labels);
-        joined(alloc, &types.ok()?, ",")
+    fn make(&mut self, line: &mut Line<'_>) {
+        let records = std::mem::replace(&mut self.records, Vec::new(line.alloc()));
+        match PlainZone::new(line.alloc(), &self.apex, records) {
+            Ok(zone) => {
+                self.zone = Some(zone);
+                line.say("ok");
+            }
+            Err(_) => line.lose(),
+        }
     }
 }
 
-fn verdict(alloc: Global, verdict: &PlainVerdict) -> Option<String> {
+/// What a zone says.
+fn answer(line: &mut Line<'_>, zone: &PlainZone) {
+    match line.word(0) {
+        "says" | "says-opt-out" => says(line, zone),
+        "exists" => {
+            let labels = labels_at(line, 1);
+            line.yes(zone.exists(&labels));
+        }
+        "nsec" => {
+            let (alloc, has_keys, labels) = keys_and_labels(line);
+            types(line, zone.nsec_types(alloc, has_keys, &labels));
+        }
+        "nsec3" => {
+            let (alloc, has_keys, labels) = keys_and_labels(line);
+            types(line, zone.nsec3_types(alloc, has_keys, &labels));
+        }
+        _ => line.lose(),
+    }
+}
+
+fn keys_and_labels(line: &mut Line<'_>) -> (Global, bool, Vec<Octets>) {
+    (line.alloc(), line.word(1) == "keys", labels_at(line, 2))
+}
+
+fn says(line: &mut Line<'_>, zone: &PlainZone) {
+    let (labels, rtype) = (labels_at(line, 1), line.u16_at(2));
+    match zone.verdict(line.alloc(), line.word(0) == "says-opt-out", &labels, rtype) {
+        Ok(verdict) => say_verdict(line, &verdict),
+        Err(_) => line.lose(),
+    }
+}
+
+/// The types that a record of a chain tells of.
+fn types(line: &mut Line<'_>, types: Result<Vec<u16>, AllocError>) {
+    match types {
+        Ok(types) => {
+            let mut numbers = line.aside(",");
+            for rtype in &types {
+                numbers.value(rtype);
+            }
+            numbers.say_if_empty("-");
+            line.append(numbers);
+        }
+        Err(_) => line.lose(),
+    }
+}
+
+fn say_verdict(line: &mut Line<'_>, verdict: &PlainVerdict) {
     match verdict {
-        PlainVerdict::Records(found) => with_data(alloc, "records", found),
-        PlainVerdict::NoType => text(alloc, "no type"),
-        PlainVerdict::NoName => text(alloc, "no name"),
-        PlainVerdict::StarRecords(found) => with_data(alloc, "records of a wildcard", found),
-        PlainVerdict::StarNoType => text(alloc, "no type at a wildcard"),
-        PlainVerdict::Delegated => text(alloc, "delegated"),
-        PlainVerdict::Open => text(alloc, "open"),
+        PlainVerdict::Records(found) => say_with_data(line, "records", found),
+        PlainVerdict::NoType => line.say("no type"),
+        PlainVerdict::NoName => line.say("no name"),
+        PlainVerdict::StarRecords(found) => say_with_data(line, "records of a wildcard", found),
+        PlainVerdict::StarNoType => line.say("no type at a wildcard"),
+        PlainVerdict::Delegated => line.say("delegated"),
+        PlainVerdict::Open => line.say("open"),
     }
 }
 
-fn with_data(alloc: Global, word: &str, list: &[Octets]) -> Option<String> {
-    let mut said = text(alloc, word)?;
+fn say_with_data(line: &mut Line<'_>, word: &str, list: &[Octets]) {
+    line.say(word);
     for octets in list {
-        push_word(&mut said, &printed(alloc, octets.as_slice())?)?;
+        line.hex(octets.as_slice());
     }
-    Some(said)
 }

@@ -1,92 +1,20 @@
-//! The calls on a key set, as lines say them.
+//! The calls on a key set, as lines say them. None is made of a line that cannot be read.
 
-use crate::words::{at, keys_of, moment, roll};
-use keyset::{Action, Available, Error, KeySet, RollType, UnixTime};
+use crate::words::{at, keys_at, moment_at};
+use keyset::{Available, Error, KeySet, UnixTime};
 use numbers::algorithm::SecurityAlgorithm;
-use std::alloc::Global;
-use test_lines::{first_word, is_yes, text, words};
+use test_lines::Line;
 
-/// What a call answered.
-#[derive(Drop)]
-pub enum Reply {
-    /// A step of a roll was made, and this is to be done.
-    Rolled(&'static str, Vec<Action>),
-    /// Another call was made.
-    Made,
-    /// The call was refused.
-    Refused(Error),
-}
-
-impl Reply {
-    fn rolled(step: &'static str, answered: Result<Vec<Action>, Error>) -> Reply {
-        match answered {
-            Ok(actions) => Reply::Rolled(step, actions),
-            Err(error) => Reply::Refused(error),
-        }
+/// Says what a call answered.
+fn made(line: &mut Line<'_>, answered: Result<(), Error>) {
+    match answered {
+        Ok(()) => line.say("ok"),
+        Err(error) => line.refused(&error),
     }
-
-    fn made(answered: Result<(), Error>) -> Reply {
-        match answered {
-            Ok(()) => Reply::Made,
-            Err(error) => Reply::Refused(error),
-        }
-    }
-}
-
-/// Makes the call of this name, if its words can be read.
-pub fn call(alloc: Global, set: &mut KeySet, name: &str, line: &str) -> Option<Reply> {
-    let (first, rest) = first_word(line);
-    match name {
-        "start" | "report1" | "wait1" | "report2" | "wait2" | "done" => {
-            call_of_roll(alloc, set, name, roll(first)?, rest)
-        }
-        "ksk" | "zsk" | "csk" => {
-            let key = NewKey::plain(text(alloc, first)?, rest.parse().ok()?);
-            Some(Reply::made(put_key(set, name, key)))
-        }
-        "new" => add(alloc, set, line),
-        "include" => include(alloc, set, first, rest),
-        "many" => add_many(set, keys_of(alloc, first)?, rest.parse().ok()?),
-        _ => set_by_hand(set, name, first, rest),
-    }
-}
-
-/// Makes a call of a roll.
-fn call_of_roll(
-    alloc: Global,
-    set: &mut KeySet,
-    name: &str,
-    roll: RollType,
-    line: &str,
-) -> Option<Reply> {
-    match name {
-        "start" => start(alloc, set, roll, line),
-        "report1" => {
-            let (ttl, now) = line.split_once(' ')?;
-            let answered = set.propagation1_complete(roll, ttl.parse().ok()?, &moment(now)?);
-            Some(Reply::rolled("report 1", answered))
-        }
-        "wait1" => Some(Reply::rolled("wait 1", set.cache_expired1(roll, &moment(line)?))),
-        "report2" => {
-            let (ttl, now) = line.split_once(' ')?;
-            let answered = set.propagation2_complete(roll, ttl.parse().ok()?, &moment(now)?);
-            Some(Reply::rolled("report 2", answered))
-        }
-        "wait2" => Some(Reply::rolled("wait 2", set.cache_expired2(roll, &moment(line)?))),
-        _ => Some(Reply::rolled("done", set.roll_done(roll))),
-    }
-}
-
-/// Starts a roll: the keys of two lists, and a moment.
-fn start(alloc: Global, set: &mut KeySet, roll: RollType, line: &str) -> Option<Reply> {
-    let (old, rest) = line.split_once(' ')?;
-    let (new, now) = rest.split_once(' ')?;
-    let now = moment(now)?;
-    let (old, new) = (keys_of(alloc, old)?, keys_of(alloc, new)?);
-    Some(Reply::rolled("start", set.start_roll(roll, &old, &new, &now)))
 }
 
 /// A key that is to be added.
+#[derive(Drop)]
 pub struct NewKey {
     reference: String,
     private: Option<String>,
@@ -108,88 +36,118 @@ impl NewKey {
             is_there: Available::Available,
         }
     }
+
+    /// Adds it, as a key of a kind.
+    pub fn put(self, set: &mut KeySet, kind: &str) -> Result<(), Error> {
+        let NewKey {
+            reference,
+            private,
+            algorithm,
+            key_tag,
+            made,
+            is_there,
+        } = self;
+        match kind {
+            "ksk" => set.add_key_ksk(reference, private, algorithm, key_tag, made, is_there),
+            "zsk" => set.add_key_zsk(reference, private, algorithm, key_tag, made, is_there),
+            _ => set.add_key_csk(reference, private, algorithm, key_tag, made, is_there),
+        }
+    }
 }
 
-/// Adds a key of a kind.
-pub fn put_key(set: &mut KeySet, kind: &str, key: NewKey) -> Result<(), Error> {
-    let NewKey {
-        reference,
-        private,
-        algorithm,
-        key_tag,
-        made,
-        is_there,
-    } = key;
-    match kind {
-        "ksk" => set.add_key_ksk(reference, private, algorithm, key_tag, made, is_there),
-        "zsk" => set.add_key_zsk(reference, private, algorithm, key_tag, made, is_there),
-        _ => set.add_key_csk(reference, private, algorithm, key_tag, made, is_there),
+/// Adds a key of algorithm 13, made at 0 and available.
+pub fn add(line: &mut Line<'_>, set: &mut KeySet) {
+    let (kind, reference) = (line.word(0), line.text(line.word(1)));
+    let tag = line.u16_at(2);
+    if !line.is_lost() {
+        made(line, NewKey::plain(reference, tag).put(set, kind));
     }
 }
 
 /// Adds a key of which everything is said.
-fn add(alloc: Global, set: &mut KeySet, line: &str) -> Option<Reply> {
-    let words = words(alloc, line)?;
-    let [kind, reference, private, algorithm, key_tag, made, is_there] = words.as_slice() else {
-        return None;
-    };
-    let algorithm = SecurityAlgorithm::from_int(algorithm.parse::<u8>().ok()?);
-    let (key_tag, made) = (key_tag.parse::<u16>().ok()?, moment(made)?);
-    let is_there = if is_yes(is_there)? {
-        Available::Available
-    } else {
-        Available::NotAvailable
-    };
+pub fn add_any(line: &mut Line<'_>, set: &mut KeySet) {
+    let (kind, is_there) = (line.word(1), line.is_yes(7));
     let key = NewKey {
-        reference: text(alloc, reference)?,
-        private: Some(text(alloc, private)?),
-        algorithm,
-        key_tag,
-        made,
-        is_there,
+        reference: line.text(line.word(2)),
+        private: Some(line.text(line.word(3))),
+        algorithm: SecurityAlgorithm::from_int(line.u8_at(4)),
+        key_tag: line.u16_at(5),
+        made: moment_at(line, 6),
+        is_there: if is_there {
+            Available::Available
+        } else {
+            Available::NotAvailable
+        },
     };
-    Some(Reply::made(put_key(set, kind, key)))
+    if !line.is_lost() {
+        made(line, key.put(set, kind));
+    }
 }
 
 /// Adds a key of another owner, which is available.
-fn include(alloc: Global, set: &mut KeySet, reference: &str, line: &str) -> Option<Reply> {
-    let (algorithm, rest) = line.split_once(' ')?;
-    let (key_tag, made) = rest.split_once(' ')?;
-    let algorithm = SecurityAlgorithm::from_int(algorithm.parse::<u8>().ok()?);
-    let (key_tag, made) = (key_tag.parse::<u16>().ok()?, moment(made)?);
-    let reference = text(alloc, reference)?;
-    let added = set.add_public_key(reference, algorithm, key_tag, made, true);
-    Some(Reply::made(added))
+pub fn include(line: &mut Line<'_>, set: &mut KeySet) {
+    let algorithm = SecurityAlgorithm::from_int(line.u8_at(2));
+    let (reference, tag, now) = (line.text(line.word(1)), line.u16_at(3), moment_at(line, 4));
+    if !line.is_lost() {
+        made(
+            line,
+            set.add_public_key(reference, algorithm, tag, now, true),
+        );
+    }
 }
 
 /// Adds zone signing keys, with tags that follow one another; ends where one is refused.
-fn add_many(set: &mut KeySet, references: Vec<String>, first: u16) -> Option<Reply> {
-    let mut key_tag = first;
+pub fn add_many(line: &mut Line<'_>, set: &mut KeySet) {
+    let (references, mut tag) = (keys_at(line, 1), line.u16_at(2));
+    let (mut answered, is_read) = (Ok(()), !line.is_lost());
     for reference in references {
-        let added = put_key(set, "zsk", NewKey::plain(reference, key_tag));
-        if let Err(error) = added {
-            return Some(Reply::Refused(error));
+        if is_read && answered.is_ok() {
+            answered = NewKey::plain(reference, tag).put(set, "zsk");
+            tag = tag.wrapping_add(1);
         }
-        key_tag = key_tag.wrapping_add(1);
     }
-    Some(Reply::Made)
+    made(line, answered);
 }
 
-/// Makes a call that sets something of a key by hand, or deletes it.
-fn set_by_hand(set: &mut KeySet, name: &str, reference: &str, line: &str) -> Option<Reply> {
-    Some(Reply::made(match name {
-        "present" => {
-            let (value, now) = line.split_once(' ')?;
-            set.set_present(reference, is_yes(value)?, &moment(now)?)
-        }
-        "decoupled" => set.set_decoupled(reference, is_yes(line)?),
-        "signer" => set.set_signer(reference, is_yes(line)?),
-        "parent" => set.set_at_parent(reference, is_yes(line)?),
-        "visible" => set.set_visible(reference, moment(line)?),
-        "ds-visible" => set.set_ds_visible(reference, moment(line)?),
-        "rrsig-visible" => set.set_rrsig_visible(reference, moment(line)?),
-        "stale" => set.set_stale(reference),
-        "delete" => set.delete_key(reference),
-        _ => return None,
-    }))
+/// Puts a key into the DNSKEY RRset or takes it out.
+pub fn set_present(line: &mut Line<'_>, set: &mut KeySet) {
+    let (reference, value, now) = (line.word(1), line.is_yes(2), moment_at(line, 3));
+    if !line.is_lost() {
+        made(line, set.set_present(reference, value, &now));
+    }
+}
+
+/// Sets a flag of a key.
+pub fn set_flag(line: &mut Line<'_>, set: &mut KeySet) {
+    let (reference, value) = (line.word(1), line.is_yes(2));
+    if !line.is_lost() {
+        let answered = match line.word(0) {
+            "decoupled" => set.set_decoupled(reference, value),
+            "signer" => set.set_signer(reference, value),
+            _ => set.set_at_parent(reference, value),
+        };
+        made(line, answered);
+    }
+}
+
+/// Sets a stamp of a key.
+pub fn set_stamp(line: &mut Line<'_>, set: &mut KeySet) {
+    let (reference, time) = (line.word(1), moment_at(line, 2));
+    if !line.is_lost() {
+        let answered = match line.word(0) {
+            "visible" => set.set_visible(reference, time),
+            "ds-visible" => set.set_ds_visible(reference, time),
+            _ => set.set_rrsig_visible(reference, time),
+        };
+        made(line, answered);
+    }
+}
+
+/// Takes a key out of use, or deletes it.
+pub fn leave(line: &mut Line<'_>, set: &mut KeySet) {
+    let answered = match line.word(0) {
+        "stale" => set.set_stale(line.word(1)),
+        _ => set.delete_key(line.word(1)),
+    };
+    made(line, answered);
 }

@@ -1,100 +1,30 @@
 //! A roll drawn against time (SVG 1.1): what is shown behind each call, how long it may be in use
 //! once it is replaced, and the waits.
 
-use crate::lives::{Thing, in_report1, in_report2};
-use crate::rows::{Column, keys_in};
-use crate::words::at;
-use keyset::{Error, KeySet, RollState, RollType};
-use std::alloc::Global;
+use crate::lives::{in_report1, in_report2};
+use crate::scenes::{Scene, Thing};
 use std::fmt::Display;
-
-/// What is shown behind a call of a roll.
-#[derive(Drop)]
-pub struct Scene {
-    roll: RollType,
-    step: &'static str,
-    now: u64,
-    /// The wait that begins with this step, where it is a report.
-    wait: Option<Wait>,
-    ds: String,
-    dnskey: String,
-    signatures: String,
-}
-
-/// A wait for what caches may hold.
-#[derive(Clone, Copy)]
-struct Wait {
-    ttl: u64,
-    /// The moment from which on the key set accepts that the wait is over.
-    end: u64,
-}
-
-impl Scene {
-    /// What a set shows behind an accepted call of a roll.
-    pub fn new(
-        alloc: Global,
-        set: &KeySet,
-        keys: &[String],
-        roll: RollType,
-        step: &'static str,
-        now: u64,
-    ) -> Option<Scene> {
-        let mut dnskey = keys_in(alloc, set, keys, Column::Present);
-        dnskey.mark(", signed by");
-        dnskey.append(keys_in(alloc, set, keys, Column::SignsKeys));
-        Some(Scene {
-            roll,
-            step,
-            now,
-            wait: wait_of(set.clone().ok()?, roll, now),
-            ds: keys_in(alloc, set, keys, Column::AtParent).done()?,
-            dnskey: dnskey.done()?,
-            signatures: keys_in(alloc, set, keys, Column::SignsZone).done()?,
-        })
-    }
-
-    fn content(&self, thing: Thing) -> &str {
-        match thing {
-            Thing::DsSet => self.ds.as_str(),
-            Thing::DnskeyAnswer => self.dnskey.as_str(),
-            Thing::ZoneAnswer => self.signatures.as_str(),
-        }
-    }
-}
-
-/// The wait that a roll is in at a moment: a copy of the set is asked how long it still is.
-fn wait_of(copy: KeySet, roll: RollType, now: u64) -> Option<Wait> {
-    let mut copy = copy;
-    let (ttl, ended) = match copy.rollstates().get(&roll).copied()? {
-        RollState::CacheExpire1(ttl) => (ttl, copy.cache_expired1(roll, &at(now))),
-        RollState::CacheExpire2(ttl) => (ttl, copy.cache_expired2(roll, &at(now))),
-        _ => return None,
-    };
-    let rest = match ended {
-        Err(Error::Wait(rest)) => rest.as_secs(),
-        _ => 0,
-    };
-    Some(Wait {
-        ttl: u64::from(ttl),
-        end: now.saturating_add(rest),
-    })
-}
+use test_lines::Line;
 
 /// Draws the last roll of some scenes; the one before its start is what was shown until then.
-pub fn drawing(alloc: Global, scenes: &[Scene]) -> Option<String> {
-    let mut before = None;
-    let mut begun = None;
+pub fn draw(line: &mut Line<'_>, scenes: &[Scene]) {
+    let mut start = 0usize;
     for (place, scene) in scenes.iter().enumerate() {
         if scene.step == "start" {
-            begun = before.map(|last| (last, place));
+            start = place;
         }
-        before = Some(scene);
     }
-    let (before, start) = begun?;
-    let (_, steps) = scenes.split_at_checked(start)?;
-    let mut sheet = Sheet::new(alloc, steps.last()?.now);
-    sheet.draw(before, steps);
-    sheet.ended()
+    match scenes.split_at_checked(start) {
+        Some((before, steps)) => match (before.last(), steps.last()) {
+            (Some(before), Some(last)) => {
+                let mut sheet = Sheet::new(line, last.now);
+                sheet.draw(before, steps);
+                sheet.end(line);
+            }
+            _ => line.lose(),
+        },
+        None => line.lose(),
+    }
 }
 
 /// How many pixels a second is wide.
@@ -143,37 +73,33 @@ fn replaced_until(steps: &[Scene], call: &Scene, thing: Thing) -> Option<u64> {
     Some(reported.now.saturating_add(reported.wait?.ttl))
 }
 
-/// A drawing as far as it is written; once memory is lacking for a line, there is none.
+/// A drawing as far as it is written, its lines in the answer.
 #[derive(Drop)]
-struct Sheet {
-    text: String,
-    is_lost: bool,
+struct Sheet<'l> {
+    lines: Line<'l>,
     width: u64,
 }
 
-impl Sheet {
-    fn new(alloc: Global, last: u64) -> Sheet {
+impl<'l> Sheet<'l> {
+    fn new(line: &Line<'l>, last: u64) -> Sheet<'l> {
         Sheet {
-            text: String::new(alloc),
-            is_lost: false,
+            lines: line.aside(""),
             width: place(last.saturating_add(MARGIN)),
         }
     }
 
     fn line(&mut self, line: impl Display + Drop) {
-        if writeln!(self.text, "{line}").is_err() {
-            self.is_lost = true;
-        }
+        self.lines.value(&line);
+        self.lines.mark("\n");
     }
 
-    fn ended(self) -> Option<String> {
+    fn end(self, line: &mut Line<'l>) {
         let Sheet {
-            mut text,
-            is_lost,
+            mut lines,
             width: _,
         } = self;
-        text.push_str("</svg>").ok()?;
-        if is_lost { None } else { Some(text) }
+        lines.mark("</svg>");
+        line.append(lines);
     }
 
     fn draw<'s>(&mut self, before: &'s Scene, steps: &'s [Scene]) {

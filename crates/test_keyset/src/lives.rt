@@ -1,40 +1,41 @@
 //! Key lives of a few calls, all of them: what was handed out and isn't retired meets.
 
-use crate::calls::{NewKey, put_key};
+use crate::calls::NewKey;
 use crate::rows::Column;
-use crate::words::{at, roll};
+use crate::scenes::Thing;
+use crate::words::{at, read_roll};
 use keyset::{KeySet, RollType};
 use names_flat::name::Name;
-use std::alloc::Global;
-use test_lines::{Answer, listed, text};
+use test_lines::Line;
 
 /// What is found of all lists of calls.
 #[derive(Clone, Copy)]
-enum Found {
-    /// Things that were handed out and aren't retired meet.
-    AllMeet,
-    /// Some don't.
-    Apart,
+struct Found {
+    /// Some things that were handed out and aren't retired do not meet.
+    is_apart: bool,
     /// A call changed the keys and was refused.
-    Changed,
+    is_changed: bool,
 }
 
 /// What is said of all lists of a number of accepted calls of some rolls.
-pub fn lives_of(alloc: Global, answer: &mut Answer, line: &str) -> Option<()> {
-    let (names, calls) = line.split_once(' ')?;
-    let mut rolls = Vec::new(alloc);
-    for name in &listed(alloc, names)? {
-        rolls.push(roll(name)?).ok()?;
+pub fn lives_of(line: &mut Line<'_>) {
+    let mut rolls = Vec::new(line.alloc());
+    for name in &line.list(1) {
+        let roll = read_roll(line, name);
+        line.must(rolls.push(roll));
     }
-    let mut found = Found::AllMeet;
-    let count = lives(alloc, &mut found, &rolls, calls.parse::<usize>().ok()?)?;
-    answer.word(match found {
-        Found::Apart => "some do not meet",
-        Found::Changed => "a refused call changed the keys",
-        Found::AllMeet if count == 0 => "no list of so many calls",
-        Found::AllMeet => "all meet",
+    let mut found = Found {
+        is_apart: false,
+        is_changed: false,
+    };
+    let calls = line.usize_at(2);
+    let count = lives(line, &mut found, &rolls, calls);
+    line.say(match (found.is_apart, found.is_changed) {
+        (true, _) => "some do not meet",
+        (_, true) => "a refused call changed the keys",
+        _ if count == 0 => "no list of so many calls",
+        _ => "all meet",
     });
-    Some(())
 }
 
 /// The TTL of each report, in seconds.
@@ -70,14 +71,6 @@ fn state_of(set: &KeySet) -> Shown {
         signs_keys: bits(set, Column::SignsKeys),
         signs_zone: bits(set, Column::SignsZone),
     }
-}
-
-/// What is handed out of a zone.
-#[derive(Clone, Copy, PartialEq, Eq)]
-pub enum Thing {
-    DsSet,
-    DnskeyAnswer,
-    ZoneAnswer,
 }
 
 fn content(thing: Thing, shown: Shown) -> (u8, u8) {
@@ -222,19 +215,19 @@ fn is_retired(states: &[Shown], steps: &[Made], thing: Thing, state: usize, mome
 
 /// The states whose thing is not retired at a moment.
 fn live(
-    alloc: Global,
+    line: &mut Line<'_>,
     states: &[Shown],
     steps: &[Made],
     thing: Thing,
     moment: u64,
-) -> Option<Vec<Shown>> {
-    let mut live = Vec::new(alloc);
+) -> Vec<Shown> {
+    let mut live = Vec::new(line.alloc());
     for (place, shown) in states.iter().enumerate() {
         if !is_retired(states, steps, thing, place, moment) {
-            live.push(*shown).ok()?;
+            line.must(live.push(*shown));
         }
     }
-    Some(live)
+    live
 }
 
 /// Whether the DS set of one state, the DNSKEY answer of another and a zone answer of a third fit
@@ -243,10 +236,10 @@ fn meet(ds: Shown, keys: Shown, zone: Shown) -> bool {
     ds.ds & keys.present & keys.signs_keys != 0 && keys.present & zone.signs_zone != 0
 }
 
-fn all_meet(alloc: Global, states: &[Shown], steps: &[Made], moment: u64) -> Option<bool> {
-    let ds_sets = live(alloc, states, steps, Thing::DsSet, moment)?;
-    let keys = live(alloc, states, steps, Thing::DnskeyAnswer, moment)?;
-    let zones = live(alloc, states, steps, Thing::ZoneAnswer, moment)?;
+fn all_meet(line: &mut Line<'_>, states: &[Shown], steps: &[Made], moment: u64) -> bool {
+    let ds_sets = live(line, states, steps, Thing::DsSet, moment);
+    let keys = live(line, states, steps, Thing::DnskeyAnswer, moment);
+    let zones = live(line, states, steps, Thing::ZoneAnswer, moment);
     let mut all = true;
     for ds in &ds_sets {
         for key in &keys {
@@ -257,112 +250,126 @@ fn all_meet(alloc: Global, states: &[Shown], steps: &[Made], moment: u64) -> Opt
             }
         }
     }
-    Some(all)
+    all
 }
 
 /// Adds a key of algorithm 13, made at 0 and available.
-fn add(alloc: Global, set: &mut KeySet, kind: &str, reference: &str, key_tag: u16) -> Option<()> {
-    put_key(set, kind, NewKey::plain(text(alloc, reference)?, key_tag)).ok()
+fn add(line: &mut Line<'_>, set: &mut KeySet, kind: &str, reference: &str, key_tag: u16) {
+    let key = NewKey::plain(line.text(reference), key_tag);
+    line.must(key.put(set, kind));
 }
 
 /// Puts K1 and Z1 in use, with nothing of before left, and fresh keys beside them.
-fn put_in_use(alloc: Global, set: &mut KeySet) -> Option<()> {
-    add(alloc, set, "ksk", "K1", 0)?;
-    add(alloc, set, "zsk", "Z1", 1)?;
+fn put_in_use(line: &mut Line<'_>, set: &mut KeySet) {
+    add(line, set, "ksk", "K1", 0);
+    add(line, set, "zsk", "Z1", 1);
     let first = RollType::AlgorithmRoll;
-    set.start_roll(first, &[], &["K1", "Z1"], &at(0)).ok()?;
-    set.propagation1_complete(first, 0, &at(0)).ok()?;
-    set.cache_expired1(first, &at(0)).ok()?;
-    set.propagation2_complete(first, 0, &at(0)).ok()?;
-    set.cache_expired2(first, &at(0)).ok()?;
-    set.roll_done(first).ok()?;
-    add(alloc, set, "ksk", "K2", 2)?;
-    add(alloc, set, "zsk", "Z2", 3)?;
-    add(alloc, set, "csk", "C1", 4)
+    line.must(set.start_roll(first, &[], &["K1", "Z1"], &at(0)));
+    line.must(set.propagation1_complete(first, 0, &at(0)));
+    line.must(set.cache_expired1(first, &at(0)));
+    line.must(set.propagation2_complete(first, 0, &at(0)));
+    line.must(set.cache_expired2(first, &at(0)));
+    line.must(set.roll_done(first));
+    add(line, set, "ksk", "K2", 2);
+    add(line, set, "zsk", "Z2", 3);
+    add(line, set, "csk", "C1", 4);
 }
 
 /// The states behind the calls that are accepted; those that are refused change nothing.
-fn states_of(alloc: Global, found: &mut Found, steps: &[Made]) -> Option<Vec<Shown>> {
-    let mut set = KeySet::new(alloc, Name::root(alloc).ok()?);
-    put_in_use(alloc, &mut set)?;
-    let mut states = Vec::new(alloc);
-    states.push(state_of(&set)).ok()?;
-    for step in steps {
-        let before = state_of(&set);
-        if is_accepted(&mut set, *step) {
-            states.push(state_of(&set)).ok()?;
-        } else if before != state_of(&set) {
-            *found = Found::Changed;
+fn states_of(line: &mut Line<'_>, found: &mut Found, steps: &[Made]) -> Vec<Shown> {
+    let mut states = Vec::new(line.alloc());
+    match Name::root(line.alloc()) {
+        Ok(root) => {
+            let mut set = KeySet::new(line.alloc(), root);
+            put_in_use(line, &mut set);
+            line.must(states.push(state_of(&set)));
+            for step in steps {
+                make_step(line, found, &mut set, *step, &mut states);
+            }
         }
+        Err(_) => line.lose(),
     }
-    Some(states)
+    states
+}
+
+fn make_step(
+    line: &mut Line<'_>,
+    found: &mut Found,
+    set: &mut KeySet,
+    step: Made,
+    states: &mut Vec<Shown>,
+) {
+    let before = state_of(set);
+    if is_accepted(set, step) {
+        line.must(states.push(state_of(set)));
+    } else if before != state_of(set) {
+        found.is_changed = true;
+    }
 }
 
 /// A list with one call more.
-fn with_call(alloc: Global, steps: &[Made], made: Made) -> Option<Vec<Made>> {
-    let mut longer = Vec::with_capacity(alloc, 1).ok()?;
-    longer.extend_from_slice(steps).ok()?;
-    longer.push(made).ok()?;
-    Some(longer)
+fn with_call(line: &mut Line<'_>, steps: &[Made], made: Made) -> Vec<Made> {
+    let mut longer = Vec::new(line.alloc());
+    line.must(longer.extend_from_slice(steps));
+    line.must(longer.push(made));
+    longer
 }
 
 /// Adds the list with one call more, if that is accepted; checked at its moment and behind it.
 fn push_longer(
-    alloc: Global,
+    line: &mut Line<'_>,
     found: &mut Found,
     next: &mut Vec<Vec<Made>>,
     list: &[Made],
     made: Made,
-) -> Option<()> {
-    let steps = with_call(alloc, list, made)?;
-    let states = states_of(alloc, found, steps.as_slice())?;
+) {
+    let steps = with_call(line, list, made);
+    let states = states_of(line, found, steps.as_slice());
     if states.len() <= steps.len() {
-        return Some(());
+        return;
     }
     for later in [0, 1, TTL] {
         let moment = made.now.saturating_add(later);
-        if !all_meet(alloc, states.as_slice(), steps.as_slice(), moment)? {
-            *found = Found::Apart;
+        if !all_meet(line, states.as_slice(), steps.as_slice(), moment) {
+            found.is_apart = true;
         }
     }
-    next.push(steps).ok()
+    line.must(next.push(steps));
 }
 
 /// All lists of accepted calls of these rolls that are one call longer than a list.
 fn push_all_longer(
-    alloc: Global,
+    line: &mut Line<'_>,
     found: &mut Found,
     next: &mut Vec<Vec<Made>>,
     list: &[Made],
     rolls: &[RollType],
-) -> Option<()> {
+) {
     let last = list.last().map_or(0, |made| made.now);
     for roll in rolls {
         for call in CALLS {
             for later in 0..=call.latest() {
-                let now = last.saturating_add(later);
                 let made = Made {
                     call,
                     roll: *roll,
-                    now,
+                    now: last.saturating_add(later),
                 };
-                push_longer(alloc, found, next, list, made)?;
+                push_longer(line, found, next, list, made);
             }
         }
     }
-    Some(())
 }
 
 /// How many lists there are of a number of calls.
-fn lives(alloc: Global, found: &mut Found, rolls: &[RollType], calls: usize) -> Option<usize> {
-    let mut lists = Vec::new(alloc);
-    lists.push(Vec::new(alloc)).ok()?;
+fn lives(line: &mut Line<'_>, found: &mut Found, rolls: &[RollType], calls: usize) -> usize {
+    let mut lists = Vec::new(line.alloc());
+    line.must(lists.push(Vec::new(line.alloc())));
     for _ in 0..calls {
-        let mut next = Vec::new(alloc);
+        let mut next = Vec::new(line.alloc());
         for list in &lists {
-            push_all_longer(alloc, found, &mut next, list, rolls)?;
+            push_all_longer(line, found, &mut next, list, rolls);
         }
         lists = next;
     }
-    Some(lists.len())
+    lists.len()
 }

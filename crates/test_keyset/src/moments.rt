@@ -1,49 +1,60 @@
 //! Moments, rolls by name, and the texts of errors.
 
-use crate::words::moment;
+use crate::words::moment_at;
 use denial_fields::timestamp::Timestamp;
 use keyset::{Error, RollType, UnixTime};
-use std::alloc::Global;
 use std::time::Duration;
-use test_lines::{Answer, first_word, joined};
+use test_lines::Line;
 
-/// Answers what a line of one or two numbers asks of moments.
-pub fn answer_to(answer: &mut Answer, name: &str, line: &str) -> Option<()> {
-    let (first, second) = first_word(line);
-    match name {
-        "timestamp" => answer.value(&moment(first)?.timestamp()),
-        "from-timestamp" => {
-            let time = UnixTime::from(Timestamp::from(first.parse::<u32>().ok()?));
-            answer.value(&Duration::from(time).as_secs());
-        }
-        "elapsed" => answer.value(&moment(first)?.elapsed(&moment(second)?).as_secs()),
-        "later" => answer.value(&Duration::from(later(first, second)?).as_secs()),
-        _ => answer.yes(moment(first)? < moment(second)?),
-    }
-    Some(())
+/// The timestamp of a moment.
+pub fn timestamp(line: &mut Line<'_>) {
+    let moment = moment_at(line, 1);
+    line.value(&moment.timestamp());
+}
+
+/// The moment of a timestamp.
+pub fn from_timestamp(line: &mut Line<'_>) {
+    let time = UnixTime::from(Timestamp::from(line.u32_at(1)));
+    line.value(&Duration::from(time).as_secs());
+}
+
+/// How many seconds passed up to a moment.
+pub fn elapsed(line: &mut Line<'_>) {
+    let (first, second) = (moment_at(line, 1), moment_at(line, 2));
+    line.value(&first.elapsed(&second).as_secs());
 }
 
 /// The moment that is a number of seconds behind another one, both of 32 bits.
-fn later(first: &str, second: &str) -> Option<UnixTime> {
-    let (first, second) = (first.parse::<u32>().ok()?, second.parse::<u32>().ok()?);
-    let (first, second) = (u64::from(first), u64::from(second));
-    Some(UnixTime::new(Duration::from_secs(first)) + Duration::from_secs(second))
+pub fn later(line: &mut Line<'_>) {
+    let (first, second) = (u64::from(line.u32_at(1)), u64::from(line.u32_at(2)));
+    let time = UnixTime::new(Duration::from_secs(first)) + Duration::from_secs(second);
+    line.value(&Duration::from(time).as_secs());
+}
+
+/// Whether a moment is before another.
+pub fn before(line: &mut Line<'_>) {
+    let (first, second) = (moment_at(line, 1), moment_at(line, 2));
+    line.yes(first < second);
 }
 
 /// The roll that has a name.
-pub fn roll_named(answer: &mut Answer, name: &str) {
-    match name.parse::<RollType>() {
-        Ok(roll) => answer.value(&format_args!("{roll:?}")),
-        Err(error) => answer.refused(&error),
+pub fn roll_named(line: &mut Line<'_>) {
+    match line.rest(1).parse::<RollType>() {
+        Ok(roll) => line.value(&format_args!("{roll:?}")),
+        Err(error) => line.refused(&error),
     }
 }
 
 /// The texts of all errors.
-pub fn errors(alloc: Global, answer: &mut Answer) -> Option<()> {
-    answer.word(&joined(alloc, &first_errors(), "; ")?);
-    answer.mark(";");
-    answer.word(&joined(alloc, &last_errors(), "; ")?);
-    Some(())
+pub fn errors(line: &mut Line<'_>) {
+    let mut texts = line.aside("; ");
+    for error in &first_errors() {
+        texts.value(error);
+    }
+    for error in &last_errors() {
+        texts.value(error);
+    }
+    line.append(texts);
 }
 
 fn first_errors() -> [Error; 7] {

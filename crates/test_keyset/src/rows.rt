@@ -1,8 +1,7 @@
 //! Rows of the tables of rolls.
 
 use keyset::{Action, KeySet, KeyState, KeyType};
-use std::alloc::Global;
-use test_lines::{Answer, Between};
+use test_lines::Line;
 
 /// The short name of an action, as the tables have it.
 fn short_name(action: Action) -> &'static str {
@@ -65,48 +64,41 @@ impl Column {
 }
 
 /// The shown keys that are in a column.
-pub fn keys_in(alloc: Global, set: &KeySet, shown: &[String], column: Column) -> Answer {
-    let mut keys = Answer::new(alloc);
+pub fn keys_in<'l>(line: &Line<'l>, set: &KeySet, shown: &[String], column: Column) -> Line<'l> {
+    let mut keys = line.aside(" ");
     for reference in shown {
         if column.has_key(set, reference.as_str()) {
-            keys.word(reference.as_str());
+            keys.say(reference.as_str());
         }
     }
-    keys.word_if_empty("none");
+    keys.say_if_empty("none");
     keys
 }
 
-/// The short names of actions.
-pub fn named(alloc: Global, actions: &[Action]) -> Answer {
-    let mut names = Answer::list(alloc, Between::CommaAndBlank);
+/// Says the short names of actions.
+pub fn name_all(line: &mut Line<'_>, actions: &[Action]) {
+    let mut names = line.aside(", ");
     for action in actions {
-        names.word(short_name(*action));
+        names.say(short_name(*action));
     }
-    names.word_if_empty("none");
-    names
+    names.say_if_empty("none");
+    line.append(names);
 }
 
 /// The row of a step: what the shown keys are behind it, and what is to be done.
-pub fn row(
-    alloc: Global,
-    answer: &mut Answer,
-    set: &KeySet,
-    shown: &[String],
-    step: &str,
-    actions: &[Action],
-) {
-    answer.word("|");
-    answer.word(step);
+pub fn row(line: &mut Line<'_>, set: &KeySet, shown: &[String], step: &str, actions: &[Action]) {
+    line.say("|");
+    line.say(step);
     for column in [
         Column::Present,
         Column::SignsKeys,
         Column::SignsZone,
         Column::AtParent,
     ] {
-        answer.word("|");
-        answer.append(keys_in(alloc, set, shown, column));
+        line.say("|");
+        line.append(keys_in(line, set, shown, column));
     }
-    answer.word("|");
-    answer.append(named(alloc, actions));
-    answer.word("|");
+    line.say("|");
+    name_all(line, actions);
+    line.say("|");
 }

@@ -1,33 +1,36 @@
 //! Keys, rolls and moments as they stand in a line.
 
 use keyset::{RollType, UnixTime};
-use std::alloc::Global;
 use std::time::Duration;
-use test_lines::{listed, text};
+use test_lines::Line;
 
-/// The keys of a list: `old*2` for `old0,old1`.
-pub fn keys_of(alloc: Global, list: &str) -> Option<Vec<String>> {
-    let mut keys = Vec::new(alloc);
-    for word in &listed(alloc, list)? {
-        push_keys(alloc, &mut keys, word)?;
+/// The keys of the list at a place: `old*2` for `old0,old1`.
+pub fn keys_at(line: &mut Line<'_>, place: usize) -> Vec<String> {
+    let mut keys = Vec::new(line.alloc());
+    for word in &line.list(place) {
+        push_keys(line, &mut keys, word);
     }
-    Some(keys)
+    keys
 }
 
-fn push_keys(alloc: Global, keys: &mut Vec<String>, word: &str) -> Option<()> {
-    let Some((letters, count)) = word.split_once('*') else {
-        return keys.push(text(alloc, word)?).ok();
-    };
-    for number in 0..count.parse::<u16>().ok()? {
-        let key = format!(in alloc; "{letters}{number}").ok()?;
-        keys.push(key).ok()?;
+fn push_keys(line: &mut Line<'_>, keys: &mut Vec<String>, word: &str) {
+    match word.split_once('*') {
+        None => {
+            let key = line.text(word);
+            line.must(keys.push(key));
+        }
+        Some((letters, count)) => {
+            for number in 0..line.read_u16(count) {
+                let key = line.text_of(&format_args!("{letters}{number}"));
+                line.must(keys.push(key));
+            }
+        }
     }
-    Some(())
 }
 
-/// A moment as whole seconds.
-pub fn moment(word: &str) -> Option<UnixTime> {
-    Some(at(word.parse::<u64>().ok()?))
+/// The moment at a place, in whole seconds.
+pub fn moment_at(line: &mut Line<'_>, place: usize) -> UnixTime {
+    at(line.number(place))
 }
 
 /// The moment that is a number of seconds after the beginning of 1970.
@@ -35,7 +38,18 @@ pub fn at(seconds: u64) -> UnixTime {
     UnixTime::new(Duration::from_secs(seconds))
 }
 
-/// A roll by its name.
-pub fn roll(word: &str) -> Option<RollType> {
-    word.parse::<RollType>().ok()
+/// The roll whose name stands at a place.
+pub fn roll_at(line: &mut Line<'_>, place: usize) -> RollType {
+    let name = line.word(place);
+    read_roll(line, name)
+}
+
+pub fn read_roll(line: &mut Line<'_>, name: &str) -> RollType {
+    match name.parse::<RollType>() {
+        Ok(roll) => roll,
+        Err(_) => {
+            line.lose();
+            RollType::KskRoll
+        }
+    }
 }

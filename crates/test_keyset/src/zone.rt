@@ -1,13 +1,12 @@
 //! A zone's key set, and which of its keys are shown.
 
-use crate::calls::{Reply, call};
-use crate::drawing::{Scene, drawing};
+use crate::drawing::draw;
 use crate::rows::row;
-use crate::words::{keys_of, roll};
-use keyset::KeySet;
+use crate::scenes::Scene;
+use crate::words::{keys_at, moment_at, roll_at};
+use keyset::{Action, Error, KeySet, RollType};
 use names_flat::name::Name;
-use std::alloc::Global;
-use test_lines::{Answer, first_word};
+use test_lines::Line;
 
 #[derive(Drop)]
 pub struct Zone {
@@ -21,81 +20,132 @@ pub struct Zone {
 
 impl Zone {
     /// The set of a zone that has no keys, its name of its text (RFC 1035, 5.1).
-    pub fn read(alloc: Global, answer: &mut Answer, line: &str) -> Option<Zone> {
-        let (name, keys) = line.split_once(' ')?;
-        let shown = keys_of(alloc, keys)?;
-        let set = KeySet::new(alloc, Name::vec_from_str(alloc, name).ok()?);
-        answer.word("keys of");
-        answer.value(set.name());
-        Some(Zone {
-            set,
-            aside: None,
-            shown,
-            scenes: Vec::new(alloc),
-        })
+    pub fn read(line: &mut Line<'_>) -> Option<Zone> {
+        let shown = keys_at(line, 2);
+        match Name::vec_from_str(line.alloc(), line.word(1)) {
+            Ok(name) if !line.is_lost() => {
+                let set = KeySet::new(line.alloc(), name);
+                line.say("keys of");
+                line.value(set.name());
+                Some(Zone {
+                    set,
+                    aside: None,
+                    shown,
+                    scenes: Vec::new(line.alloc()),
+                })
+            }
+            _ => {
+                line.lose();
+                None
+            }
+        }
     }
 
     pub fn set(&self) -> &KeySet {
         &self.set
     }
 
+    pub fn set_mut(&mut self) -> &mut KeySet {
+        &mut self.set
+    }
+
     /// Puts a copy of the set aside.
-    pub fn copy(&mut self, answer: &mut Answer) -> Option<()> {
-        let copy = self.set.clone().ok()?;
-        let has_name = copy.name() == self.set.name();
-        self.aside = Some(copy);
-        answer.word(if has_name { "ok" } else { "another name" });
-        Some(())
+    pub fn copy(&mut self, line: &mut Line<'_>) {
+        match self.set.clone() {
+            Ok(copy) => {
+                line.say(if copy.name() == self.set.name() {
+                    "ok"
+                } else {
+                    "another name"
+                });
+                self.aside = Some(copy);
+            }
+            Err(_) => line.lose(),
+        }
     }
 
     /// Takes the copy that is put aside, and puts the set there.
-    pub fn swap(&mut self, answer: &mut Answer) -> Option<()> {
-        let copy = self.aside.take()?;
-        self.aside = Some(std::mem::replace(&mut self.set, copy));
-        answer.word("ok");
-        Some(())
+    pub fn swap(&mut self, line: &mut Line<'_>) {
+        match self.aside.take() {
+            Some(copy) => {
+                self.aside = Some(std::mem::replace(&mut self.set, copy));
+                line.say("ok");
+            }
+            None => line.lose(),
+        }
     }
 
-    /// Makes a call, and says what is printed behind it.
-    pub fn called(
-        &mut self,
-        alloc: Global,
-        answer: &mut Answer,
-        name: &str,
-        line: &str,
-    ) -> Option<()> {
-        match call(alloc, &mut self.set, name, line)? {
-            Reply::Rolled(step, actions) => {
-                row(alloc, answer, &self.set, &self.shown, step, &actions);
-                self.keep_scene(alloc, step, line)
-            }
-            Reply::Made => {
-                answer.word("ok");
-                Some(())
-            }
-            Reply::Refused(error) => {
-                answer.refused(&error);
-                Some(())
+    /// Starts a roll: the keys of two lists, and a moment.
+    pub fn start(&mut self, line: &mut Line<'_>) {
+        let (roll, now) = (roll_at(line, 1), moment_at(line, 4));
+        let (old, new) = (keys_at(line, 2), keys_at(line, 3));
+        if !line.is_lost() {
+            let answered = self.set.start_roll(roll, &old, &new, &now);
+            self.rolled(line, "start", roll, 4, answered);
+        }
+    }
+
+    /// Reports that what a step changed came everywhere.
+    pub fn report(&mut self, line: &mut Line<'_>) {
+        let (roll, ttl, now) = (roll_at(line, 1), line.u32_at(2), moment_at(line, 3));
+        if line.is_lost() {
+            return;
+        }
+        let (step, answered) = match line.word(0) {
+            "report1" => ("report 1", self.set.propagation1_complete(roll, ttl, &now)),
+            _ => ("report 2", self.set.propagation2_complete(roll, ttl, &now)),
+        };
+        self.rolled(line, step, roll, 3, answered);
+    }
+
+    /// Says that a wait is over.
+    pub fn wait(&mut self, line: &mut Line<'_>) {
+        let (roll, now) = (roll_at(line, 1), moment_at(line, 2));
+        if line.is_lost() {
+            return;
+        }
+        let (step, answered) = match line.word(0) {
+            "wait1" => ("wait 1", self.set.cache_expired1(roll, &now)),
+            _ => ("wait 2", self.set.cache_expired2(roll, &now)),
+        };
+        self.rolled(line, step, roll, 2, answered);
+    }
+
+    /// Ends a roll.
+    pub fn end(&mut self, line: &mut Line<'_>) {
+        let roll = roll_at(line, 1);
+        if !line.is_lost() {
+            match self.set.roll_done(roll) {
+                Ok(actions) => row(line, &self.set, &self.shown, "done", &actions),
+                Err(error) => line.refused(&error),
             }
         }
     }
 
-    /// Keeps what is shown behind a call of a roll, unless its line ends without a moment.
-    fn keep_scene(&mut self, alloc: Global, step: &'static str, line: &str) -> Option<()> {
-        let Some((_, last)) = line.rsplit_once(' ') else {
-            return Some(());
-        };
-        let Ok(now) = last.parse::<u64>() else {
-            return Some(());
-        };
-        let (name, _) = first_word(line);
-        let scene = Scene::new(alloc, &self.set, &self.shown, roll(name)?, step, now)?;
-        self.scenes.push(scene).ok()
+    /// Says the row of a step of a roll, and keeps what is shown behind it, the moment standing at
+    /// a place; or says why it was refused.
+    fn rolled(
+        &mut self,
+        line: &mut Line<'_>,
+        step: &'static str,
+        roll: RollType,
+        place: usize,
+        answered: Result<Vec<Action>, Error>,
+    ) {
+        match answered {
+            Ok(actions) => {
+                row(line, &self.set, &self.shown, step, &actions);
+                let now = line.number(place);
+                if let Some(scene) = Scene::new(line, &self.set, &self.shown, roll, step, now) {
+                    line.must(self.scenes.push(scene));
+                }
+            }
+            Err(error) => line.refused(&error),
+        }
     }
 
     /// A drawing of the last roll.
-    pub fn drawing(&self, alloc: Global, answer: &mut Answer) -> Option<()> {
-        answer.word(&drawing(alloc, &self.scenes)?);
-        Some(())
+    pub fn drawing(&self, line: &mut Line<'_>) {
+        draw(line, &self.scenes);
     }
 }

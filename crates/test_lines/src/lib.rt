@@ -1,12 +1,7 @@
-//! Words of the lines that programs read, and of what they answer.
+//! A line that a program reads, its words, and the answer to it.
 #![tactic(auto)]
 
-mod answer;
 mod answering;
-mod loops;
-mod reading;
+mod line;
 
-pub use answer::{Answer, Between};
-pub use answering::{joined, order_word, printed, push_word, refused, text, yes_or_no};
-pub use loops::{answer_each_line, reply_to_each_line};
-pub use reading::{first_word, is_comment, is_yes, listed, numbers_of, octets_of, words};
+pub use line::{Form, Line};

@@ -2,56 +2,37 @@
 
 use server_queries::{Query, read_query};
 use server_responses::{ResponseError, ResponseSizes, Transport, response, size_limit};
-use std::alloc::Global;
-use test_lines::{Answer, first_word, octets_of};
+use test_lines::Line;
 
 /// What a line asks of a query and of a message that answers it.
-pub fn told(alloc: Global, line: &str) -> Answer {
-    let mut answer = Answer::new(alloc);
-    let is_read = tell(alloc, &mut answer, line).is_some();
-    answer.check(is_read);
-    answer
-}
-
-fn tell(alloc: Global, answer: &mut Answer, line: &str) -> Option<()> {
-    let (carried, line) = first_word(line);
-    let (size, line) = first_word(line);
-    let (query, message) = first_word(line);
-    let carried = transport(carried)?;
-    let size = size.parse().ok()?;
-    let query = octets_of(alloc, query)?;
-    let message = octets_of(alloc, message)?;
+pub fn told(line: &mut Line<'_>) {
+    let query = line.octets(3);
     match read_query(&query) {
-        Ok(query) => tell_response(alloc, answer, &query, &message, carried, size),
-        Err(_) => None,
+        Ok(query) => response_to(line, &query),
+        Err(_) => line.lose(),
     }
 }
 
 /// What carries a response: `tcp`, or the limit of a datagram.
-fn transport(word: &str) -> Option<Transport> {
-    if word == "tcp" {
-        return Some(Transport::Stream);
+fn transport(line: &mut Line<'_>) -> Transport {
+    if line.word(1) == "tcp" {
+        Transport::Stream
+    } else {
+        Transport::Datagram {
+            limit: line.u16_at(1),
+        }
     }
-    let limit = word.parse::<u16>().ok()?;
-    Some(Transport::Datagram { limit })
 }
 
-fn tell_response(
-    alloc: Global,
-    answer: &mut Answer,
-    query: &Query<'_>,
-    message: &[u8],
-    carried: Transport,
-    size: u16,
-) -> Option<()> {
+fn response_to(line: &mut Line<'_>, query: &Query<'_>) {
+    let (carried, udp_size, message) = (transport(line), line.u16_at(2), line.octets(4));
     let sizes = ResponseSizes {
         limit: size_limit(carried, query.edns),
-        udp_size: size,
+        udp_size,
     };
-    match response(alloc, query, message, &[], sizes) {
-        Ok(octets) => answer.octets(&octets),
-        Err(ResponseError::Unreadable) => answer.word("unreadable"),
-        Err(ResponseError::Memory) => return None,
+    match response(line.alloc(), query, &message, &[], sizes) {
+        Ok(octets) => line.hex(&octets),
+        Err(ResponseError::Unreadable) => line.say("unreadable"),
+        Err(ResponseError::Memory) => line.lose(),
     }
-    Some(())
 }

@@ -1,27 +1,35 @@
 //! Names and lists as they stand in a line.
 
 use messages::names::{Name, ToName, ZoneName, copy_name};
-use std::alloc::Global;
-use test_lines::{octets_of, printed};
+use test_lines::Line;
 
 /// Strings of octets, joined by commas.
-pub fn list_of(alloc: Global, word: &str) -> Option<Vec<Vec<u8>>> {
-    let mut list = Vec::new(alloc);
-    for octets in word.split(',') {
-        list.push(octets_of(alloc, octets)?).ok()?;
+pub fn list_at(line: &mut Line<'_>, place: usize) -> Vec<Vec<u8>> {
+    let mut list = Vec::new(line.alloc());
+    for octets in line.word(place).split(',') {
+        let octets = line.read_octets(octets);
+        line.must(list.push(octets));
     }
-    Some(list)
+    list
 }
 
-/// A name of its text (RFC 1035, 5.1).
-pub fn name_of(alloc: Global, text: &str) -> Option<Name<Vec<u8>>> {
-    Name::vec_from_str(alloc, text).ok()
+/// The name of the text at a place (RFC 1035, 5.1).
+pub fn name_at(line: &mut Line<'_>, place: usize) -> Option<Name<Vec<u8>>> {
+    match Name::vec_from_str(line.alloc(), line.word(place)) {
+        Ok(name) => Some(name),
+        Err(_) => {
+            line.lose();
+            None
+        }
+    }
 }
 
-/// The wire form of a name, as spelled.
-pub fn wire_of<N: ToName>(alloc: Global, name: &N) -> Option<String> {
-    let flat = copy_name(alloc, name).ok()?;
-    let mut spelled = Vec::new(alloc);
-    flat.compose(&mut spelled).ok()?;
-    printed(alloc, &spelled)
+/// Says the wire form of a name, as spelled.
+pub fn say_name<N: ToName>(line: &mut Line<'_>, name: &N) {
+    let mut spelled = Vec::new(line.alloc());
+    match copy_name(line.alloc(), name) {
+        Ok(flat) => line.must(flat.compose(&mut spelled)),
+        Err(_) => line.lose(),
+    }
+    line.hex(&spelled);
 }

@@ -5,148 +5,166 @@
 //! - `name=OCTETS`: a relative name. `dec=NUMBER`, `hex=NUMBER`: a label of the number's digits.
 //! - `chars=TEXT`, `symbols=SYMBOLS`: a text, or symbols joined by commas.
 
-use crate::said;
+use crate::said::{self, flat, relative_flat};
 use crate::texts::symbols_of;
 use arrayvec::ArrayVec;
-use names::{BuiltOctets, Finish, Name, NameBuilder, PushError, RelativeName};
-use std::alloc::Global;
+use names::{BuiltOctets, Finish, NameBuilder, RelativeName};
 use std::fmt::Display;
-use test_lines::{Answer, octets_of};
-
-/// Answers a line of steps; in front of them stands the room of the builder, or the name that it
-/// goes on behind.
-pub fn answer_to(alloc: Global, answer: &mut Answer, word: &str, line: &str) -> Option<()> {
-    let (first, line) = line.split_once(' ')?;
-    match word {
-        "build" => build(alloc, answer, first, line),
-        "join" => join(alloc, answer, first, line),
-        _ => rebuild(alloc, answer, first, line),
-    }
-}
+use test_lines::Line;
 
 /// Says why a step was refused, if it was.
-fn done<E: Display + Drop>(fault: &mut Answer, step: Result<(), E>) -> Option<()> {
+fn done<E: Display + Drop>(fault: &mut Line<'_>, step: Result<(), E>) {
     if let Err(error) = step {
         fault.value(&error);
     }
-    Some(())
 }
 
 /// Makes a step.
-fn step<B: BuiltOctets>(
-    alloc: Global,
-    fault: &mut Answer,
-    builder: &mut NameBuilder<B>,
-    step: &str,
-) -> Option<()> {
-    if step == "end" {
-        builder.end_label();
-        return Some(());
-    }
-    let (word, field) = step.split_once('=')?;
+fn step<B: BuiltOctets>(fault: &mut Line<'_>, builder: &mut NameBuilder<B>, step: &str) {
+    let (word, field) = step.split_once('=').unwrap_or((step, ""));
     match word {
-        "dec" => done(fault, builder.append_dec_u8_label(field.parse().ok()?)),
-        "hex" => done(fault, builder.append_hex_digit_label(field.parse().ok()?)),
+        "end" => builder.end_label(),
+        "dec" => {
+            let number = fault.read_u8(field);
+            done(fault, builder.append_dec_u8_label(number))
+        }
+        "hex" => {
+            let digit = fault.read_u8(field);
+            done(fault, builder.append_hex_digit_label(digit))
+        }
         "chars" => done(fault, builder.append_chars(field.chars())),
         "symbols" => {
-            let symbols = symbols_of(alloc, field)?;
+            let symbols = symbols_of(fault, field);
             done(fault, builder.append_symbols(symbols.into_iter()))
         }
-        _ => step_of_octets(fault, builder, word, &octets_of(alloc, field)?),
+        _ => step_of_octets(fault, builder, word, field),
     }
 }
 
 /// Makes a step that adds octets.
 fn step_of_octets<B: BuiltOctets>(
-    fault: &mut Answer,
+    fault: &mut Line<'_>,
     builder: &mut NameBuilder<B>,
     word: &str,
-    octets: &[u8],
-) -> Option<()> {
-    match word {
-        "label" => done(fault, builder.append_label(octets)),
-        "octets" => done(fault, builder.append_slice(octets)),
-        "push" => done(fault, push_each(builder, octets)),
-        "name" => done(
-            fault,
-            builder.append_name(&RelativeName::from_slice(octets).ok()?),
-        ),
-        _ => None,
-    }
-}
-
-fn push_each<B: BuiltOctets>(builder: &mut NameBuilder<B>, octets: &[u8]) -> Result<(), PushError> {
-    for octet in octets {
-        builder.push(*octet)?;
-    }
-    Ok(())
-}
-
-/// Makes all steps, and says of each how many octets the builder has then, whether a label is open,
-/// and why the step was refused, if it was; at the end the octets.
-fn steps<B: BuiltOctets>(
-    alloc: Global,
-    answer: &mut Answer,
-    builder: &mut NameBuilder<B>,
-    line: &str,
+    field: &str,
 ) {
-    for word in line.split(' ') {
-        let mut fault = Answer::new(alloc);
-        answer.check(step(alloc, &mut fault, builder, word).is_some());
-        answer.value(&builder.len());
-        answer.word(if builder.in_label() { "open" } else { "shut" });
-        answer.append(fault);
-        answer.word("|");
+    let octets = fault.read_octets(field);
+    match word {
+        "label" => done(fault, builder.append_label(&octets)),
+        "octets" => done(fault, builder.append_slice(&octets)),
+        "push" => push_each(fault, builder, &octets),
+        "name" => {
+            let name = relative_flat(fault, &octets);
+            done(fault, builder.append_name(&name))
+        }
+        _ => fault.lose(),
     }
-    answer.octets(builder.as_slice());
 }
 
-/// What the steps say, the octets that they leave, the relative name that they make and the
-/// absolute one.
+/// Pushes octets up to the first that is refused.
+fn push_each<B: BuiltOctets>(fault: &mut Line<'_>, builder: &mut NameBuilder<B>, octets: &[u8]) {
+    let mut is_refused = false;
+    for octet in octets {
+        if !is_refused {
+            let pushed = builder.push(*octet);
+            is_refused = pushed.is_err();
+            done(fault, pushed);
+        }
+    }
+}
+
+/// Makes all steps from a place on, and says of each how many octets the builder has then, whether
+/// a label is open, and why the step was refused, if it was; at the end the octets.
+fn steps<B: BuiltOctets>(line: &mut Line<'_>, builder: &mut NameBuilder<B>, place: usize) {
+    for word in line.rest(place).split(' ') {
+        let mut fault = line.aside(" ");
+        step(&mut fault, builder, word);
+        line.value(&builder.len());
+        line.say(if builder.in_label() { "open" } else { "shut" });
+        line.append(fault);
+        line.say("|");
+    }
+    line.hex(builder.as_slice());
+}
+
+/// What the steps say, the octets that they leave and the relative name that they make.
+fn finished<B: BuiltOctets + Drop>(line: &mut Line<'_>, made: Option<NameBuilder<B>>) {
+    match made {
+        Some(builder) => {
+            let mut builder = builder;
+            line.check(builder.is_empty());
+            steps(line, &mut builder, 2);
+            line.hex(builder.finish().as_slice());
+        }
+        None => line.lose(),
+    }
+}
+
+/// The absolute name that steps make.
+fn named<B: BuiltOctets + Drop>(line: &mut Line<'_>, made: Option<NameBuilder<B>>) {
+    match made {
+        Some(builder) => {
+            let mut builder = builder;
+            line.check(builder.is_empty());
+            steps(&mut line.aside(" "), &mut builder, 2);
+            said::name(line, builder.into_name());
+        }
+        None => line.lose(),
+    }
+}
+
+/// The absolute name of the relative one that steps make, which is the same as another.
+fn check_rooted<B: BuiltOctets + Drop>(
+    line: &mut Line<'_>,
+    name: &mut Line<'_>,
+    made: Option<NameBuilder<B>>,
+) {
+    match made {
+        Some(builder) => {
+            let (mut builder, mut again) = (builder, line.aside(" "));
+            steps(&mut line.aside(" "), &mut builder, 2);
+            said::name(&mut again, builder.finish().into_absolute());
+            line.check(again.answer() == name.answer() && !again.is_lost());
+        }
+        None => line.lose(),
+    }
+}
+
+/// What the steps say, and the names that they make.
 fn built<B: BuiltOctets + Drop>(
-    alloc: Global,
-    answer: &mut Answer,
-    first: NameBuilder<B>,
-    second: NameBuilder<B>,
-    third: NameBuilder<B>,
-    line: &str,
-) -> Option<()> {
-    let (mut first, mut second, mut third) = (first, second, third);
-    answer.check(first.is_empty());
-    answer.check(second.is_empty());
-    steps(alloc, answer, &mut first, line);
-    steps(alloc, &mut Answer::new(alloc), &mut second, line);
-    steps(alloc, &mut Answer::new(alloc), &mut third, line);
-    answer.octets(first.finish().as_slice());
-    let (mut name, mut again) = (Answer::new(alloc), Answer::new(alloc));
-    said::name(&mut name, second.into_name());
-    said::name(&mut again, third.finish().into_absolute());
-    name.check_same(again);
-    answer.append(name);
-    Some(())
+    line: &mut Line<'_>,
+    first: Option<NameBuilder<B>>,
+    second: Option<NameBuilder<B>>,
+    third: Option<NameBuilder<B>>,
+) {
+    finished(line, first);
+    let mut name = line.aside(" ");
+    named(&mut name, second);
+    check_rooted(line, &mut name, third);
+    line.append(name);
 }
 
 /// What steps make of builders with room for so many octets; `-` is none, and a builder of `fixed3`
 /// or `fixed4` never has more than three or four.
-fn build(alloc: Global, answer: &mut Answer, room: &str, line: &str) -> Option<()> {
-    match room {
+pub fn build(line: &mut Line<'_>) {
+    let alloc = line.alloc();
+    match line.word(1) {
         "-" => {
             let (first, second) = (NameBuilder::new(alloc), NameBuilder::new_vec(alloc));
-            built(alloc, answer, first, second, NameBuilder::new(alloc), line)
+            built(
+                line,
+                Some(first),
+                Some(second),
+                Some(NameBuilder::new(alloc)),
+            )
         }
-        "fixed3" => {
-            let (first, second) = (fixed::<3>()?, fixed::<3>()?);
-            built(alloc, answer, first, second, fixed::<3>()?, line)
-        }
-        "fixed4" => {
-            let (first, second) = (fixed::<4>()?, fixed::<4>()?);
-            built(alloc, answer, first, second, fixed::<4>()?, line)
-        }
-        room => {
-            let room = room.parse().ok()?;
-            let first = NameBuilder::with_capacity(alloc, room).ok()?;
-            let second = NameBuilder::vec_with_capacity(alloc, room).ok()?;
-            built(alloc, answer, first, second, NameBuilder::new(alloc), line)
+        "fixed3" => built(line, fixed::<3>(), fixed::<3>(), fixed::<3>()),
+        "fixed4" => built(line, fixed::<4>(), fixed::<4>(), fixed::<4>()),
+        _ => {
+            let room = line.usize_at(1);
+            let first = NameBuilder::with_capacity(alloc, room).ok();
+            let second = NameBuilder::vec_with_capacity(alloc, room).ok();
+            built(line, first, second, Some(NameBuilder::new(alloc)))
         }
     }
 }
@@ -156,41 +174,44 @@ fn fixed<const N: usize>() -> Option<NameBuilder<ArrayVec<u8, N>>> {
 }
 
 /// What steps make, an absolute name behind them.
-fn join(alloc: Global, answer: &mut Answer, room: &str, line: &str) -> Option<()> {
-    let (origin, line) = line.split_once(' ')?;
-    let origin = octets_of(alloc, origin)?;
-    let origin = Name::from_slice(&origin).ok()?;
-    match room {
-        "-" => joined(alloc, answer, NameBuilder::new(alloc), &origin, line),
-        "fixed4" => joined(alloc, answer, fixed::<4>()?, &origin, line),
-        _ => None,
+pub fn join(line: &mut Line<'_>) {
+    let alloc = line.alloc();
+    match line.word(1) {
+        "fixed4" => joined(line, fixed::<4>()),
+        _ => joined(line, Some(NameBuilder::new(alloc))),
     }
 }
 
-fn joined<B: BuiltOctets + Drop>(
-    alloc: Global,
-    answer: &mut Answer,
-    builder: NameBuilder<B>,
-    origin: &Name<&[u8]>,
-    line: &str,
-) -> Option<()> {
-    let mut builder = builder;
-    steps(alloc, answer, &mut builder, line);
-    said::name(answer, builder.append_origin(origin));
-    Some(())
+fn joined<B: BuiltOctets + Drop>(line: &mut Line<'_>, made: Option<NameBuilder<B>>) {
+    let octets = line.octets(2);
+    let origin = flat(line, &octets);
+    match made {
+        Some(builder) => {
+            let mut builder = builder;
+            steps(line, &mut builder, 3);
+            said::name(line, builder.append_origin(&origin));
+        }
+        None => line.lose(),
+    }
 }
 
 /// A relative name cut at a place, and the steps of a builder that goes on behind it.
-fn rebuild(alloc: Global, answer: &mut Answer, octets: &str, line: &str) -> Option<()> {
-    let (place, line) = line.split_once(' ')?;
-    let place = place.parse().ok()?;
-    let mut name = RelativeName::from_octets(octets_of(alloc, octets)?).ok()?;
+pub fn rebuild(line: &mut Line<'_>) {
+    let (octets, place) = (line.octets(1), line.usize_at(2));
+    match RelativeName::from_octets(octets) {
+        Ok(name) => rebuilt(line, name, place),
+        Err(_) => line.lose(),
+    }
+}
+
+fn rebuilt(line: &mut Line<'_>, name: RelativeName<Vec<u8>>, place: usize) {
+    let mut name = name;
     if !name.is_label_start(place) {
-        return None;
+        line.lose();
+        return;
     }
     name.truncate(place);
     let mut builder = name.into_builder();
-    steps(alloc, answer, &mut builder, line);
-    said::name(answer, builder.finish().into_absolute());
-    Some(())
+    steps(line, &mut builder, 3);
+    said::name(line, builder.finish().into_absolute());
 }

@@ -1,168 +1,170 @@
 //! The labels and parts of names.
 
-use crate::said;
-use crate::wire_numbers::seek;
+use crate::said::{self, flat, relative_flat};
 use names::{Label, Name, NameIter, ParsedName, RelativeName, ToLabelIter};
-use test_lines::Answer;
-
-/// Answers a line of octets.
-pub fn answer_to(answer: &mut Answer, word: &str, octets: &[u8]) -> Option<()> {
-    match word {
-        "parts" => parts(answer, Name::from_slice(octets).ok()?),
-        "first" => first(answer, Name::from_slice(octets).ok()?),
-        "relative-parts" => relative_parts(answer, RelativeName::from_slice(octets).ok()?),
-        "relative-first" => relative_first(answer, RelativeName::from_slice(octets).ok()?),
-        "split" => split(answer, octets),
-        "octets" => said::value(answer, Label::from_slice(octets)),
-        _ => return None,
-    }
-    Some(())
-}
+use test_lines::Line;
 
 /// Where labels of a name begin; then each name that it ends with, itself first.
-fn parts(answer: &mut Answer, name: Name<&[u8]>) {
-    for place in 0..=name.as_slice().len().saturating_add(1) {
+pub fn parts(line: &mut Line<'_>) {
+    let octets = line.octets(1);
+    let name = flat(line, &octets);
+    for place in 0..=octets.len().saturating_add(1) {
         if name.is_label_start(place) {
-            answer.value(&place);
+            line.value(&place);
         }
     }
-    answer.word("|");
+    line.say("|");
     for suffix in name.iter_suffixes() {
-        answer.octets(suffix.as_slice());
+        line.hex(suffix.as_slice());
     }
 }
 
 /// Where labels of a relative name begin, or the last one ends.
-fn relative_parts(answer: &mut Answer, name: RelativeName<&[u8]>) {
-    for place in 0..=name.len().saturating_add(1) {
+pub fn relative_parts(line: &mut Line<'_>) {
+    let octets = line.octets(1);
+    let name = relative_flat(line, &octets);
+    for place in 0..=octets.len().saturating_add(1) {
         if name.is_label_start(place) {
-            answer.value(&place);
+            line.value(&place);
         }
     }
 }
 
 /// The first label of a name and the name behind it, by two functions; or that there is none.
-fn first(answer: &mut Answer, name: Name<&[u8]>) {
+pub fn first(line: &mut Line<'_>) {
+    let octets = line.octets(1);
+    let name = flat(line, &octets);
     match (name.split_first(), name.parent()) {
         (Some((label, rest)), Some(parent)) => {
-            answer.octets(label.as_slice());
-            answer.octets(rest.as_slice());
-            answer.octets(parent.as_slice());
+            line.hex(label.as_slice());
+            line.hex(rest.as_slice());
+            line.hex(parent.as_slice());
         }
-        (None, parent) => answer.yes(parent.is_some()),
-        _ => answer.check(false),
+        (None, parent) => line.yes(parent.is_some()),
+        _ => line.lose(),
     }
 }
 
 /// The first label of a relative name and the name behind it, by two functions; or that there is
 /// none.
-fn relative_first(answer: &mut Answer, name: RelativeName<&[u8]>) {
+pub fn relative_first(line: &mut Line<'_>) {
+    let octets = line.octets(1);
+    let name = relative_flat(line, &octets);
     match (name.split_first(), name.parent()) {
         (Some((label, rest)), Some(parent)) => {
-            answer.octets(label.as_slice());
-            answer.octets(rest.as_slice());
-            answer.octets(parent.as_slice());
+            line.hex(label.as_slice());
+            line.hex(rest.as_slice());
+            line.hex(parent.as_slice());
         }
-        (None, parent) => answer.yes(parent.is_some()),
-        _ => answer.check(false),
+        (None, parent) => line.yes(parent.is_some()),
+        _ => line.lose(),
     }
 }
 
 /// The label that octets begin with and what is behind it; or why they begin with none.
-fn split(answer: &mut Answer, octets: &[u8]) {
-    match Label::split_from(octets) {
+pub fn split(line: &mut Line<'_>) {
+    let octets = line.octets(1);
+    match Label::split_from(&octets) {
         Ok((label, rest)) => {
-            answer.octets(label.as_slice());
-            answer.octets(rest);
-            answer.value(&label.len());
-            answer.yes(label.is_root() && label.is_empty());
-            answer.yes(label.is_wildcard());
+            line.hex(label.as_slice());
+            line.hex(rest);
+            line.value(&label.len());
+            line.yes(label.is_root() && label.is_empty());
+            line.yes(label.is_wildcard());
         }
-        Err(error) => answer.value(&error),
+        Err(error) => line.value(&error),
     }
 }
 
-/// Answers a line of a name, or other octets, and two numbers.
-pub fn answer_between(
-    answer: &mut Answer,
-    word: &str,
-    octets: Vec<u8>,
-    begin: usize,
-    end: usize,
-) -> Option<()> {
-    match word {
-        "seek" => seek(answer, &octets, begin, end),
-        "cut" => cut(answer, Name::from_octets(octets).ok()?, begin, end),
-        "relative-cut" => relative_cut(answer, RelativeName::from_octets(octets).ok()?, begin, end),
-        _ => return None,
-    }
-    Some(())
+/// The label that octets are, or why they are none.
+pub fn label(line: &mut Line<'_>) {
+    let octets = line.octets(1);
+    said::value(line, Label::from_slice(&octets));
 }
 
 /// What stands between two places of a name at which labels begin, and from the first on; and in
 /// front of it.
-fn cut(answer: &mut Answer, name: Name<Vec<u8>>, begin: usize, end: usize) {
+pub fn cut(line: &mut Line<'_>) {
+    let octets = line.octets(1);
+    let (begin, end) = (line.usize_at(2), line.usize_at(3));
+    match Name::from_octets(octets) {
+        Ok(name) => cut_at(line, name, begin, end),
+        Err(_) => line.lose(),
+    }
+}
+
+fn cut_at(line: &mut Line<'_>, name: Name<Vec<u8>>, begin: usize, end: usize) {
     if begin > end || !name.is_label_start(begin) || !name.is_label_start(end) {
-        answer.word("no labels there");
+        line.say("no labels there");
         return;
     }
-    answer.octets(name.range(begin, end).as_slice());
-    answer.octets(name.range_from(begin).as_slice());
-    answer.octets(name.slice_from(begin).as_slice());
+    line.hex(name.range(begin, end).as_slice());
+    line.hex(name.range_from(begin).as_slice());
+    line.hex(name.slice_from(begin).as_slice());
     let (front, back) = name.split(begin);
-    answer.octets(front.as_slice());
-    answer.octets(back.as_slice());
-    answer.octets(name.truncate(begin).as_slice());
+    line.hex(front.as_slice());
+    line.hex(back.as_slice());
+    line.hex(name.truncate(begin).as_slice());
 }
 
 /// What stands between two places of a relative name at which labels begin, and around them.
-fn relative_cut(answer: &mut Answer, name: RelativeName<Vec<u8>>, begin: usize, end: usize) {
+pub fn relative_cut(line: &mut Line<'_>) {
+    let octets = line.octets(1);
+    let (begin, end) = (line.usize_at(2), line.usize_at(3));
+    match RelativeName::from_octets(octets) {
+        Ok(name) => relative_cut_at(line, name, begin, end),
+        Err(_) => line.lose(),
+    }
+}
+
+fn relative_cut_at(line: &mut Line<'_>, name: RelativeName<Vec<u8>>, begin: usize, end: usize) {
     let mut name = name;
     if begin > end || !name.is_label_start(begin) || !name.is_label_start(end) {
-        answer.word("no labels there");
+        line.say("no labels there");
         return;
     }
-    answer.octets(name.range(begin, end).as_slice());
+    line.hex(name.range(begin, end).as_slice());
     let (front, back) = name.split(begin);
-    answer.octets(front.as_slice());
-    answer.octets(back.as_slice());
+    line.hex(front.as_slice());
+    line.hex(back.as_slice());
     name.truncate(begin);
-    answer.octets(name.as_slice());
+    line.hex(name.as_slice());
 }
 
-/// Answers a line of a name over flat octets, whose labels are taken by turns.
-pub fn answer_by_turns(answer: &mut Answer, word: &str, turns: &str, octets: &[u8]) -> Option<()> {
-    if word == "flat-turns" {
-        let name = Name::from_slice(octets).ok()?;
-        flat_turns(answer, turns, name.iter(), &name);
-    } else {
-        let name = RelativeName::from_slice(octets).ok()?;
-        flat_turns(answer, turns, name.iter(), &name);
-    }
-    Some(())
+/// The labels of a name by turns, the next from the front at each `f` and from the end at each `b`.
+pub fn flat_turns(line: &mut Line<'_>) {
+    let octets = line.octets(2);
+    let name = flat(line, &octets);
+    labels_by_turns(line, name.iter(), &name);
 }
 
-/// The labels of a name, the next from the front at each `f` and from the end at each `b`, by its
-/// own walk and by that of any name.
+/// The labels of a relative name by turns.
+pub fn relative_turns(line: &mut Line<'_>) {
+    let octets = line.octets(2);
+    let name = relative_flat(line, &octets);
+    labels_by_turns(line, name.iter(), &name);
+}
+
+/// The labels of a name, by its own walk and by that of any name.
 macro_rules! by_turns {
-    ($answer:expr, $turns:expr, $labels:expr, $any:expr) => {{
+    ($line:expr, $labels:expr, $any:expr) => {{
         let (mut labels, mut any) = ($labels, $any);
-        for turn in $turns.chars() {
+        for turn in $line.word(1).chars() {
             let (label, same) = match turn {
                 'f' => (labels.next(), any.next()),
                 _ => (labels.next_back(), any.next_back()),
             };
-            $answer.check(label == same);
-            crate::said::label($answer, label);
+            $line.check(label == same);
+            crate::said::label($line, label);
         }
     }};
 }
 
-fn flat_turns<N: ToLabelIter>(answer: &mut Answer, turns: &str, labels: NameIter<'_>, name: &N) {
-    by_turns!(answer, turns, labels, name.iter_labels())
+fn labels_by_turns<N: ToLabelIter>(line: &mut Line<'_>, labels: NameIter<'_>, name: &N) {
+    by_turns!(line, labels, name.iter_labels())
 }
 
 /// The labels by turns of a name in a message.
-pub fn turns(answer: &mut Answer, turns: &str, name: ParsedName<'_>) {
-    by_turns!(answer, turns, name.iter(), name.iter_labels())
+pub fn turns(line: &mut Line<'_>, name: ParsedName<'_>) {
+    by_turns!(line, name.iter(), name.iter_labels())
 }

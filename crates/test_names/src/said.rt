@@ -2,58 +2,85 @@
 
 use names::{Label, Name, Octets, RelativeName};
 use std::fmt::Display;
-use test_lines::Answer;
+use test_lines::Line;
+
+/// The name that octets spell; the root where they spell none.
+pub fn flat<'a>(line: &mut Line<'_>, octets: &'a [u8]) -> Name<&'a [u8]> {
+    match Name::from_slice(octets) {
+        Ok(name) => name,
+        Err(_) => {
+            line.lose();
+            Name::root_ref()
+        }
+    }
+}
+
+/// The relative name that octets spell; the empty one where they spell none.
+pub fn relative_flat<'a>(line: &mut Line<'_>, octets: &'a [u8]) -> RelativeName<&'a [u8]> {
+    match RelativeName::from_slice(octets) {
+        Ok(name) => name,
+        Err(_) => {
+            line.lose();
+            RelativeName::empty_ref()
+        }
+    }
+}
 
 /// The octets of a label, if there is one.
-pub fn label(answer: &mut Answer, label: Option<Label<'_>>) {
+pub fn label(line: &mut Line<'_>, label: Option<Label<'_>>) {
     match label {
-        Some(label) => answer.octets(label.as_slice()),
-        None => answer.word("none"),
+        Some(label) => line.hex(label.as_slice()),
+        None => line.say("none"),
     }
 }
 
 /// The octets of a name, or why it was not made.
-pub fn name<O: Octets + Drop, E: Display + Drop>(answer: &mut Answer, made: Result<Name<O>, E>) {
+pub fn name<O: Octets + Drop, E: Display + Drop>(line: &mut Line<'_>, made: Result<Name<O>, E>) {
     match made {
-        Ok(name) => answer.octets(name.as_slice()),
-        Err(error) => answer.value(&error),
+        Ok(name) => line.hex(name.as_slice()),
+        Err(error) => line.value(&error),
     }
 }
 
 /// The octets of a relative name, or why it was not made.
 pub fn relative<O: Octets + Drop, E: Display + Drop>(
-    answer: &mut Answer,
+    line: &mut Line<'_>,
     made: Result<RelativeName<O>, E>,
 ) {
     match made {
-        Ok(name) => answer.octets(name.as_slice()),
-        Err(error) => answer.value(&error),
+        Ok(name) => line.hex(name.as_slice()),
+        Err(error) => line.value(&error),
     }
 }
 
 /// A value, or why there is none.
-pub fn value<V: Display + Drop, E: Display + Drop>(answer: &mut Answer, made: Result<V, E>) {
+pub fn value<V: Display + Drop, E: Display + Drop>(line: &mut Line<'_>, made: Result<V, E>) {
     match made {
-        Ok(value) => answer.value(&value),
-        Err(error) => answer.value(&error),
+        Ok(value) => line.value(&value),
+        Err(error) => line.value(&error),
     }
 }
 
-/// Whether a name was made of these octets.
-pub fn is_name<O: Octets + Drop, E: Drop>(made: Result<Name<O>, E>, octets: &[u8]) -> bool {
+/// Leaves no answer unless a name was made of these octets.
+pub fn check_name<O: Octets + Drop, E: Drop>(
+    line: &mut Line<'_>,
+    made: Result<Name<O>, E>,
+    octets: &[u8],
+) {
     match made {
-        Ok(name) => name.as_slice() == octets,
-        Err(_) => false,
+        Ok(name) => line.check(name.as_slice() == octets),
+        Err(_) => line.lose(),
     }
 }
 
-/// Whether a relative name was made of these octets.
-pub fn is_relative<O: Octets + Drop, E: Drop>(
+/// Leaves no answer unless a relative name was made of these octets.
+pub fn check_relative<O: Octets + Drop, E: Drop>(
+    line: &mut Line<'_>,
     made: Result<RelativeName<O>, E>,
     octets: &[u8],
-) -> bool {
+) {
     match made {
-        Ok(name) => name.as_slice() == octets,
-        Err(_) => false,
+        Ok(name) => line.check(name.as_slice() == octets),
+        Err(_) => line.lose(),
     }
 }

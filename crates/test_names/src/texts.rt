@@ -2,79 +2,110 @@
 
 use crate::said;
 use names::{LabelFromStrError, Name, OwnedLabel, RelativeName, Symbol};
-use std::alloc::Global;
 use std::net::IpAddr;
-use test_lines::Answer;
+use test_lines::Line;
 
-/// Answers a line of a text: what is read of it is read in two ways, of the text and of its
-/// characters.
-pub fn answer_to(alloc: Global, answer: &mut Answer, word: &str, text: &str) -> Option<()> {
-    match word {
-        "text" => {
-            let mut again = Answer::new(alloc);
-            said::name(answer, Name::vec_from_str(alloc, text));
-            said::name(&mut again, Name::from_chars(alloc, text.chars()));
-            answer.check_same(again);
-        }
-        "relative-text" => {
-            let mut again = Answer::new(alloc);
-            said::relative(answer, RelativeName::vec_from_str(alloc, text));
-            said::relative(&mut again, RelativeName::from_chars(alloc, text.chars()));
-            answer.check_same(again);
-        }
-        "label" => {
-            let mut again = Answer::new(alloc);
-            label(answer, text.parse());
-            label(&mut again, OwnedLabel::from_chars(text.chars()));
-            answer.check_same(again);
-        }
-        "symbols" => {
-            let symbols = symbols_of(alloc, text)?;
-            said::name(answer, Name::from_symbols(alloc, symbols.into_iter()));
-        }
-        "symbol" => said::value(answer, Symbol::Char(text.chars().next()?).into_octet()),
-        "octet" => {
-            let octet = text.parse::<u8>().ok()?;
-            let symbol = Symbol::from_octet(octet);
-            answer.check(symbol.into_octet() == Ok(octet));
-            answer.value(&symbol);
-        }
-        _ => said::value(
-            answer,
-            Name::reverse_from_addr(alloc, text.parse::<IpAddr>().ok()?),
-        ),
-    }
-    Some(())
+/// The name of a text, and of its characters.
+pub fn text(line: &mut Line<'_>) {
+    let (alloc, text, mut again) = (line.alloc(), line.rest(1), line.aside(" "));
+    said::name(line, Name::vec_from_str(alloc, text));
+    said::name(&mut again, Name::from_chars(alloc, text.chars()));
+    line.check_same(again);
+}
+
+/// The relative name of a text, and of its characters.
+pub fn relative_text(line: &mut Line<'_>) {
+    let (alloc, text, mut again) = (line.alloc(), line.rest(1), line.aside(" "));
+    said::relative(line, RelativeName::vec_from_str(alloc, text));
+    said::relative(&mut again, RelativeName::from_chars(alloc, text.chars()));
+    line.check_same(again);
+}
+
+/// The label of a text, and of its characters.
+pub fn label(line: &mut Line<'_>) {
+    let (text, mut again) = (line.rest(1), line.aside(" "));
+    label_read(line, text.parse());
+    label_read(&mut again, OwnedLabel::from_chars(text.chars()));
+    line.check_same(again);
 }
 
 /// The octets of a label, and its text when it is printed; or the fault of the text.
-fn label(answer: &mut Answer, read: Result<OwnedLabel, LabelFromStrError>) {
+fn label_read(line: &mut Line<'_>, read: Result<OwnedLabel, LabelFromStrError>) {
     match read {
         Ok(label) => {
-            answer.octets(label.as_label().as_slice());
-            answer.value(&label);
+            line.hex(label.as_label().as_slice());
+            line.value(&label);
         }
-        Err(error) => answer.value(&error),
+        Err(error) => line.value(&error),
+    }
+}
+
+/// The name of symbols.
+pub fn symbols(line: &mut Line<'_>) {
+    let (alloc, text) = (line.alloc(), line.rest(1));
+    let symbols = symbols_of(line, text);
+    said::name(line, Name::from_symbols(alloc, symbols.into_iter()));
+}
+
+/// The octet of a character.
+pub fn symbol(line: &mut Line<'_>) {
+    match line.rest(1).chars().next() {
+        Some(character) => said::value(line, Symbol::Char(character).into_octet()),
+        None => line.lose(),
+    }
+}
+
+/// The symbol of an octet.
+pub fn octet(line: &mut Line<'_>) {
+    let octet = line.u8_at(1);
+    let symbol = Symbol::from_octet(octet);
+    line.check(symbol.into_octet() == Ok(octet));
+    line.value(&symbol);
+}
+
+/// The name for the reverse way, of an address.
+pub fn address(line: &mut Line<'_>) {
+    let alloc = line.alloc();
+    match line.word(1).parse::<IpAddr>() {
+        Ok(address) => said::value(line, Name::reverse_from_addr(alloc, address)),
+        Err(_) => line.lose(),
     }
 }
 
 /// Symbols, joined by commas: a character, a character behind a backslash, or three digits behind
 /// one.
-pub fn symbols_of(alloc: Global, text: &str) -> Option<Vec<Symbol>> {
-    let mut symbols = Vec::new(alloc);
+pub fn symbols_of(line: &mut Line<'_>, text: &str) -> Vec<Symbol> {
+    let mut symbols = Vec::new(line.alloc());
     for word in text.split(',') {
-        symbols.push(symbol_of(word)?).ok()?;
+        let symbol = symbol_of(line, word);
+        line.must(symbols.push(symbol));
     }
-    Some(symbols)
+    symbols
 }
 
-fn symbol_of(word: &str) -> Option<Symbol> {
-    let Some(behind) = word.strip_prefix('\\') else {
-        return Some(Symbol::Char(word.chars().next()?));
-    };
-    match behind.as_bytes().first() {
-        None => Some(Symbol::Char('\\')),
-        Some(value) if behind.len() == 1 => Some(Symbol::SimpleEscape(*value)),
-        Some(_) => Some(Symbol::DecimalEscape(behind.parse().ok()?)),
+fn symbol_of(line: &mut Line<'_>, word: &str) -> Symbol {
+    let behind = word.strip_prefix('\\');
+    match (behind, behind.unwrap_or(word).as_bytes().first()) {
+        (None, _) => Symbol::Char(first_char(line, word)),
+        (Some(_), None) => Symbol::Char('\\'),
+        (Some(behind), Some(value)) => escaped(line, behind, *value),
+    }
+}
+
+fn first_char(line: &mut Line<'_>, word: &str) -> char {
+    match word.chars().next() {
+        Some(character) => character,
+        None => {
+            line.lose();
+            ' '
+        }
+    }
+}
+
+fn escaped(line: &mut Line<'_>, behind: &str, value: u8) -> Symbol {
+    if behind.len() == 1 {
+        Symbol::SimpleEscape(value)
+    } else {
+        Symbol::DecimalEscape(line.read_u8(behind))
     }
 }

@@ -1,113 +1,144 @@
 //! Numbers in wire form, and serial numbers (RFC 1982).
 
-use names::{Compose, Parse, ParseError, Parser, Serial};
-use std::alloc::Global;
+use names::{Compose, Parse, Parser, Serial};
 use std::fmt::Display;
 use std::net::{Ipv4Addr, Ipv6Addr};
-use test_lines::Answer;
-
-/// Says a number that is read, and writes it behind the others.
-fn push<N: Parse + Compose + Display + Drop>(
-    answer: &mut Answer,
-    parser: &mut Parser<'_>,
-    target: &mut Vec<u8>,
-) -> Result<(), ParseError> {
-    let number = N::parse(parser)?;
-    answer.check(is_appended(&number, target));
-    answer.value(&number);
-    Ok(())
-}
+use test_lines::Line;
 
 /// Octets as numbers of 8, 16 and 32 bits, one of 16 with its sign and two octets, or the fault of
 /// the first that is not read; and whether they are written as these octets.
-pub fn numbers(alloc: Global, answer: &mut Answer, octets: &[u8]) -> Option<()> {
-    let mut written = Vec::new(alloc);
-    if let Err(error) = push_numbers(answer, &mut Parser::from_ref(octets), &mut written) {
-        answer.value(&error);
-    }
-    answer.yes(written.as_slice() == octets);
-    Some(())
+pub fn numbers(line: &mut Line<'_>) {
+    let octets = line.octets(1);
+    let mut copy = Copy {
+        parser: Parser::from_ref(&octets),
+        written: Vec::new(line.alloc()),
+        is_faulty: false,
+    };
+    copy.number::<u8>(line);
+    copy.number::<u16>(line);
+    copy.number::<u32>(line);
+    copy.number::<i16>(line);
+    copy.pair(line);
+    copy.number::<u8>(line);
+    line.yes(copy.written.as_slice() == octets.as_slice());
 }
 
-fn push_numbers(
-    answer: &mut Answer,
-    parser: &mut Parser<'_>,
-    written: &mut Vec<u8>,
-) -> Result<(), ParseError> {
-    push::<u8>(answer, parser, written)?;
-    push::<u16>(answer, parser, written)?;
-    push::<u32>(answer, parser, written)?;
-    push::<i16>(answer, parser, written)?;
-    let pair = <[u8; 2]>::parse(parser)?;
-    answer.check(is_appended(&pair, written));
-    answer.octets(&pair);
-    push::<u8>(answer, parser, written)
+/// Numbers that are read, and written behind one another, up to the first that is not read.
+#[derive(Drop)]
+struct Copy<'a> {
+    parser: Parser<'a>,
+    written: Vec<u8>,
+    is_faulty: bool,
+}
+
+impl<'a> Copy<'a> {
+    fn number<N: Parse + Compose + Display + Drop>(&mut self, line: &mut Line<'_>) {
+        if self.is_faulty {
+            return;
+        }
+        match N::parse(&mut self.parser) {
+            Ok(number) => {
+                check_appended(line, &number, &mut self.written);
+                line.value(&number);
+            }
+            Err(error) => {
+                self.is_faulty = true;
+                line.value(&error);
+            }
+        }
+    }
+
+    fn pair(&mut self, line: &mut Line<'_>) {
+        if self.is_faulty {
+            return;
+        }
+        match <[u8; 2]>::parse(&mut self.parser) {
+            Ok(pair) => {
+                check_appended(line, &pair, &mut self.written);
+                line.hex(&pair);
+            }
+            Err(error) => {
+                self.is_faulty = true;
+                line.value(&error);
+            }
+        }
+    }
+}
+
+/// Leaves no answer unless a value is appended, by its own bound.
+fn check_appended<V: Compose>(line: &mut Line<'_>, value: &V, target: &mut Vec<u8>) {
+    line.must(value.compose(target));
 }
 
 /// Octets as one value of a kind, and the octets that are written by a reference to it.
-pub fn value(alloc: Global, answer: &mut Answer, kind: &str, octets: &[u8]) -> Option<()> {
-    match kind {
-        "u64" => written_again::<u64>(alloc, answer, octets),
-        "i8" => written_again::<i8>(alloc, answer, octets),
-        "i32" => written_again::<i32>(alloc, answer, octets),
-        "i64" => written_again::<i64>(alloc, answer, octets),
-        "ipv4" => written_again::<Ipv4Addr>(alloc, answer, octets),
-        "ipv6" => written_again::<Ipv6Addr>(alloc, answer, octets),
-        _ => None,
+pub fn value(line: &mut Line<'_>) {
+    match line.word(1) {
+        "u64" => written_again::<u64>(line),
+        "i8" => written_again::<i8>(line),
+        "i32" => written_again::<i32>(line),
+        "i64" => written_again::<i64>(line),
+        "ipv4" => written_again::<Ipv4Addr>(line),
+        "ipv6" => written_again::<Ipv6Addr>(line),
+        _ => line.lose(),
     }
 }
 
-fn written_again<V: Parse + Compose + Display + Drop>(
-    alloc: Global,
-    answer: &mut Answer,
-    octets: &[u8],
-) -> Option<()> {
-    let value = V::parse(&mut Parser::from_ref(octets)).ok()?;
-    let mut written = Vec::new(alloc);
-    answer.check(is_appended(&&value, &mut written));
-    answer.value(&value);
-    answer.octets(&written);
-    Some(())
-}
-
-/// Whether a value is appended, by its own bound.
-fn is_appended<V: Compose>(value: &V, target: &mut Vec<u8>) -> bool {
-    value.compose(target).is_ok()
+fn written_again<V: Parse + Compose + Display + Drop>(line: &mut Line<'_>) {
+    let octets = line.octets(2);
+    let mut written = Vec::new(line.alloc());
+    match V::parse(&mut Parser::from_ref(&octets)) {
+        Ok(value) => {
+            check_appended(line, &&value, &mut written);
+            line.value(&value);
+        }
+        Err(_) => line.lose(),
+    }
+    line.hex(&written);
 }
 
 /// Where a parser of octets stands that is to go to a place and on by so many: or the fault, and
 /// where it stayed.
-pub fn seek(answer: &mut Answer, octets: &[u8], place: usize, count: usize) {
-    let mut parser = Parser::from_ref(octets);
+pub fn seek(line: &mut Line<'_>) {
+    let octets = line.octets(1);
+    let (place, count) = (line.usize_at(2), line.usize_at(3));
+    let mut parser = Parser::from_ref(&octets);
     if let Err(error) = parser.seek(place) {
-        answer.value(&error);
+        line.value(&error);
     }
     if let Err(error) = parser.advance(count) {
-        answer.value(&error);
+        line.value(&error);
     }
-    answer.value(&parser.pos());
-    answer.value(&parser.remaining());
+    line.value(&parser.pos());
+    line.value(&parser.remaining());
 }
 
-/// Answers a line that begins with a serial number: its order to another one, if they have one, and
-/// their canonical order; or the number so much later, by less than half of all numbers.
-pub fn answer_to(answer: &mut Answer, word: &str, line: &str) -> Option<()> {
-    let (number, other) = line.split_once(' ')?;
-    let serial = number.parse::<Serial>().ok()?;
-    if word == "later" {
-        let count = other.parse::<u32>().ok()?;
-        if count > 0x7fff_ffff {
-            return None;
+fn serial_at(line: &mut Line<'_>, place: usize) -> Serial {
+    match line.word(place).parse::<Serial>() {
+        Ok(serial) => serial,
+        Err(_) => {
+            line.lose();
+            Serial(0)
         }
-        answer.value(&serial.add(count));
-        return Some(());
     }
-    let other = other.parse::<Serial>().ok()?;
-    answer.value(&serial);
+}
+
+/// A serial number, its order to another one, if they have one, and their canonical order.
+pub fn serials(line: &mut Line<'_>) {
+    let (serial, other) = (serial_at(line, 1), serial_at(line, 2));
+    line.value(&serial);
     match serial.partial_cmp(&other) {
-        Some(order) => answer.order(order),
-        None => answer.word("none"),
+        Some(order) => line.order(order),
+        None => line.say("none"),
     }
-    answer.order(serial.canonical_cmp(&other));
-    Some(())
+    line.order(serial.canonical_cmp(&other));
+}
+
+/// The number so much later, by less than half of all numbers.
+pub fn later(line: &mut Line<'_>) {
+    let (serial, count) = (serial_at(line, 1), line.u32_at(2));
+    if count <= 0x7fff_ffff {
+        line.value(&serial.add(count));
+    } else {
+        line.lose();
+    }
 }

@@ -1,137 +1,138 @@
 //! Bitmaps of types.
 
+use crate::typed::compared;
 use arrayvec::ArrayVec;
 use denial_data::{RtypeBitmap, RtypeBitmapBuilder};
 use names::Rtype;
-use std::alloc::Global;
-use test_lines::{Answer, Between, numbers_of, octets_of};
-
-/// Answers a line of types, or of a bitmap and types.
-pub fn answer_to(alloc: Global, answer: &mut Answer, asked: &str, line: &str) -> Option<()> {
-    match asked {
-        "bitmap" => bitmap_of(alloc, answer, numbers_of(alloc, line)?),
-        "each" => bitmap_of_each(alloc, answer, line.parse().ok()?),
-        "room" => in_five_octets(answer, &numbers_of(alloc, line)?),
-        _ => {
-            let (octets, types) = line.split_once(' ')?;
-            let (octets, types) = (octets_of(alloc, octets)?, numbers_of(alloc, types)?);
-            has_types(alloc, answer, &octets, &types)
-        }
-    }
-}
+use test_lines::Line;
 
 /// The bitmap of types and the types that it gives, where it is the same built from the last type
 /// on, with each type twice, and is read as a bitmap that has these types, and of their neighbours
 /// those that are among them.
-fn bitmap_of(alloc: Global, answer: &mut Answer, types: Vec<u16>) -> Option<()> {
-    let mut types = types;
-    let mut builder = RtypeBitmapBuilder::new_vec(alloc);
-    add(&mut builder, &types)?;
+pub fn bitmap(line: &mut Line<'_>) {
+    let mut types = line.numbers(1);
+    let mut builder = RtypeBitmapBuilder::new_vec(line.alloc());
+    add(line, &mut builder, &types);
     let bitmap = builder.finalize();
     types.reverse();
-    let mut builder = RtypeBitmap::builder(alloc);
-    add(&mut builder, &types)?;
-    add(&mut builder, &types)?;
-    answer.check(builder.finalize() == bitmap);
-    check_types(
-        answer,
-        &RtypeBitmap::from_octets(bitmap.as_slice()).ok()?,
-        &types,
-    );
-    answer.octets(bitmap.as_slice());
-    let mut given = Answer::list(alloc, Between::Comma);
+    let mut builder = RtypeBitmap::builder(line.alloc());
+    add(line, &mut builder, &types);
+    add(line, &mut builder, &types);
+    line.check(builder.finalize() == bitmap);
+    check_types(line, bitmap.as_slice(), &types);
+    line.hex(bitmap.as_slice());
+    let mut given = line.aside(",");
     for rtype in bitmap.iter() {
         given.value(&rtype.to_int());
     }
-    given.word_if_empty("-");
-    answer.append(given);
-    Some(())
+    given.say_if_empty("-");
+    line.append(given);
 }
 
-fn add(builder: &mut RtypeBitmapBuilder<Vec<u8>>, types: &[u16]) -> Option<()> {
+fn add(line: &mut Line<'_>, builder: &mut RtypeBitmapBuilder<Vec<u8>>, types: &[u16]) {
     for rtype in types {
-        builder.add(Rtype::from_int(*rtype)).ok()?;
+        line.must(builder.add(Rtype::from_int(*rtype)));
     }
-    Some(())
 }
 
 /// Says which types fit in a bitmap that never has more than five octets, and the bitmap.
-fn in_five_octets(answer: &mut Answer, types: &[u16]) -> Option<()> {
+pub fn in_five_octets(line: &mut Line<'_>) {
+    let types = line.numbers(1);
     let mut builder = RtypeBitmapBuilder::with_builder(ArrayVec::<u8, 5>::new());
-    for rtype in types {
-        answer.yes(builder.add(Rtype::from_int(*rtype)).is_ok());
+    for rtype in &types {
+        line.yes(builder.add(Rtype::from_int(*rtype)).is_ok());
     }
     let bitmap = builder.finalize();
-    answer.octets(bitmap.as_slice());
-    answer.check(bitmap.as_octets().len() == bitmap.as_slice().len());
-    answer.octets(bitmap.into_octets().as_slice());
-    Some(())
+    line.hex(bitmap.as_slice());
+    line.check(bitmap.as_octets().len() == bitmap.as_slice().len());
+    line.hex(bitmap.into_octets().as_slice());
 }
 
-/// Leaves no answer unless a bitmap has types, and of their neighbours those that are among them.
-fn check_types(answer: &mut Answer, bitmap: &RtypeBitmap<&[u8]>, types: &[u16]) {
-    for rtype in types {
-        let next = rtype.wrapping_add(1);
-        answer.check(bitmap.contains(Rtype::from_int(*rtype)));
-        answer.check(bitmap.contains(Rtype::from_int(next)) == types.contains(&next));
+/// Leaves no answer unless octets are a bitmap that has types, and of their neighbours those that
+/// are among them.
+fn check_types(line: &mut Line<'_>, octets: &[u8], types: &[u16]) {
+    match RtypeBitmap::from_octets(octets) {
+        Ok(bitmap) => {
+            for rtype in types {
+                let next = rtype.wrapping_add(1);
+                line.check(bitmap.contains(Rtype::from_int(*rtype)));
+                line.check(bitmap.contains(Rtype::from_int(next)) == types.contains(&next));
+            }
+        }
+        Err(_) => line.lose(),
     }
 }
 
 /// The bitmap of the types that are multiples of a number.
-fn bitmap_of_each(alloc: Global, answer: &mut Answer, step: u16) -> Option<()> {
-    let mut builder = RtypeBitmap::builder(alloc);
+pub fn each(line: &mut Line<'_>) {
+    let step = line.u16_at(1);
+    let mut builder = RtypeBitmap::builder(line.alloc());
     let mut rtype = Some(0u16);
     for _ in 0..=u16::MAX {
-        let Some(number) = rtype else {
-            break;
-        };
-        builder.add(Rtype::from_int(number)).ok()?;
-        rtype = number.checked_add(step);
+        if let Some(number) = rtype {
+            line.must(builder.add(Rtype::from_int(number)));
+            rtype = number.checked_add(step);
+        }
     }
-    answer.octets(builder.finalize().as_slice());
-    Some(())
+    line.hex(builder.finalize().as_slice());
 }
 
 /// Whether a bitmap has types.
-fn has_types(alloc: Global, answer: &mut Answer, octets: &[u8], types: &[u16]) -> Option<()> {
-    let bitmap = RtypeBitmap::from_octets(octets).ok()?;
-    let mut found = Answer::list(alloc, Between::Comma);
-    for rtype in types {
-        found.yes(bitmap.contains(Rtype::from_int(*rtype)));
+pub fn has(line: &mut Line<'_>) {
+    let (octets, types) = (line.octets(1), line.numbers(2));
+    let mut found = line.aside(",");
+    match RtypeBitmap::from_octets(octets.as_slice()) {
+        Ok(bitmap) => {
+            for rtype in &types {
+                found.yes(bitmap.contains(Rtype::from_int(*rtype)));
+            }
+        }
+        Err(_) => found.lose(),
     }
-    answer.append(found);
-    Some(())
+    line.append(found);
 }
 
 /// The types of a bitmap as text, how many octets it has, whether data may hold them and whether
 /// they are none.
-pub fn types_of(answer: &mut Answer, octets: &[u8]) {
-    let bitmap = match RtypeBitmap::from_octets(octets) {
-        Ok(bitmap) => bitmap,
-        Err(error) => {
-            answer.refused(&error);
-            return;
-        }
-    };
+pub fn types(line: &mut Line<'_>) {
+    let octets = line.octets(1);
+    match RtypeBitmap::from_octets(octets.as_slice()) {
+        Ok(bitmap) => told(line, &bitmap),
+        Err(error) => line.refused(&error),
+    }
+}
+
+fn told(line: &mut Line<'_>, bitmap: &RtypeBitmap<&[u8]>) {
     if !bitmap.fits_rdlen() {
-        answer.check(false);
+        line.lose();
         return;
     }
-    answer.value(&bitmap.compose_len());
-    answer.mark(", none");
-    answer.yes(bitmap.is_empty());
-    answer.mark(":");
-    answer.value(&bitmap);
+    line.value(&bitmap.compose_len());
+    line.mark(", none");
+    line.yes(bitmap.is_empty());
+    line.mark(":");
+    line.value(bitmap);
 }
 
 /// How many octets from the front on are a bitmap: numbers, joined by commas.
-pub fn accepted_lengths(alloc: Global, answer: &mut Answer, octets: &[u8]) -> Option<()> {
-    let mut lengths = Answer::list(alloc, Between::Comma);
+pub fn lengths(line: &mut Line<'_>) {
+    let octets = line.octets(1);
+    let mut lengths = line.aside(",");
     for len in 0..=octets.len() {
-        if RtypeBitmap::from_octets(octets.get(..len)?).is_ok() {
+        let (part, _) = octets.split_at(len);
+        if RtypeBitmap::from_octets(part).is_ok() {
             lengths.value(&len);
         }
     }
-    answer.append(lengths);
-    Some(())
+    line.append(lengths);
+}
+
+/// How a bitmap stands to another.
+pub fn compare(line: &mut Line<'_>) {
+    let (first, second) = (line.octets(1), line.octets(2));
+    let bitmap = RtypeBitmap::from_octets(first.as_slice());
+    match (bitmap, RtypeBitmap::from_octets(second.as_slice())) {
+        (Ok(bitmap), Ok(other)) => compared(line, &bitmap, &other),
+        _ => line.lose(),
+    }
 }

@@ -6,40 +6,39 @@ use denial_data::{
 };
 use plain::base32hex::DecodeError;
 use std::fmt::Display;
-use test_lines::Answer;
+use test_lines::Line;
 
 /// The texts of the faults of a kind, one behind another.
-pub fn faults(answer: &mut Answer, kind: &str) -> Option<()> {
-    match kind {
-        "time" => answer.value(&IllegalSignatureTime),
-        "salt" => answer.value(&Nsec3SaltError),
-        "hash" => answer.value(&OwnerHashError),
+pub fn faults(line: &mut Line<'_>) {
+    match line.word(1) {
+        "time" => line.value(&IllegalSignatureTime),
+        "salt" => line.value(&Nsec3SaltError),
+        "hash" => line.value(&OwnerHashError),
         "bitmap" => {
-            answer.value(&RtypeBitmapError::BadRtypeBitmap);
-            one_more(answer, RtypeBitmapError::ShortInput);
+            let faults = [
+                RtypeBitmapError::BadRtypeBitmap,
+                RtypeBitmapError::ShortInput,
+            ];
+            texts(line, &faults)
         }
         "salt-text" => {
-            answer.value(&Nsec3SaltFromStrError::Nsec3SaltError(Nsec3SaltError));
-            one_more(answer, Nsec3SaltFromStrError::Memory);
+            let fault = Nsec3SaltFromStrError::Nsec3SaltError(Nsec3SaltError);
+            texts(line, &[fault, Nsec3SaltFromStrError::Memory])
         }
         "hash-text" => {
-            answer.value(&OwnerHashFromStrError::DecodeError(DecodeError::BadChar(2)));
-            one_more(
-                answer,
-                OwnerHashFromStrError::OwnerHashError(OwnerHashError),
-            );
-            one_more(answer, OwnerHashFromStrError::Memory);
+            let fault = OwnerHashFromStrError::DecodeError(DecodeError::BadChar(2));
+            let other = OwnerHashFromStrError::OwnerHashError(OwnerHashError);
+            texts(line, &[fault, other, OwnerHashFromStrError::Memory])
         }
-        "digits" => {
-            answer.value(&DecodeError::BadChar(2));
-            one_more(answer, DecodeError::Memory);
-        }
-        _ => return None,
+        "digits" => texts(line, &[DecodeError::BadChar(2), DecodeError::Memory]),
+        _ => line.lose(),
     }
-    Some(())
 }
 
-fn one_more<E: Display + Drop>(answer: &mut Answer, fault: E) {
-    answer.mark(";");
-    answer.value(&fault);
+fn texts<E: Display>(line: &mut Line<'_>, faults: &[E]) {
+    let mut texts = line.aside("; ");
+    for fault in faults {
+        texts.value(fault);
+    }
+    line.append(texts);
 }

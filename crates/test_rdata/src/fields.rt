@@ -1,139 +1,159 @@
 //! Times, salts, hashes, and texts in base32hex.
 
+use crate::typed::compared;
 use arrayvec::ArrayVec;
 use denial_data::{Nsec3Salt, OwnerHash, Timestamp};
 use names::{CanonicalOrd, Parser};
-use plain::base32hex;
-use std::alloc::Global;
+use plain::base32hex as digits;
+use std::fmt::Display;
 use std::str::FromStr;
-use test_lines::Answer;
+use test_lines::Line;
 
-/// Answers a line of a text.
-pub fn answer_to(alloc: Global, answer: &mut Answer, asked: &str, text: &str) -> Option<()> {
-    match asked {
-        "time-text" => match Timestamp::from_str(text) {
-            Ok(time) => told(alloc, answer, time),
-            Err(error) => answer.refused(&error),
-        },
-        "salt" => salt_from(alloc, answer, text),
-        "owner-hash" => hash_from(alloc, answer, text),
-        "base32hex" => match base32hex::decode(alloc, text) {
-            Ok(octets) => answer.octets(&octets),
-            Err(error) => answer.refused(&error),
-        },
-        _ => return None,
+/// The moment that seconds say near a reference.
+pub fn near(line: &mut Line<'_>) {
+    let time = Timestamp::from(line.u32_at(1));
+    match time.to_system_time(line.number(2)) {
+        Some(moment) => line.value(&moment),
+        None => line.say("none"),
     }
-    Some(())
 }
 
-/// Answers a line of two numbers: the moment that seconds say near a reference; or how a time
-/// stands to another, as serial numbers and in canonical order.
-pub fn answer_to_numbers(answer: &mut Answer, asked: &str, line: &str) -> Option<()> {
-    let (first, second) = line.split_once(' ')?;
-    let time = Timestamp::from(first.parse::<u32>().ok()?);
-    if asked == "near" {
-        match time.to_system_time(second.parse::<u64>().ok()?) {
-            Some(moment) => answer.value(&moment),
-            None => answer.word("none"),
-        }
-        return Some(());
-    }
-    let other = Timestamp::from(second.parse::<u32>().ok()?);
+/// How a time stands to another, as serial numbers and in canonical order.
+pub fn times(line: &mut Line<'_>) {
+    let (time, other) = (
+        Timestamp::from(line.u32_at(1)),
+        Timestamp::from(line.u32_at(2)),
+    );
     match time.partial_cmp(&other) {
-        Some(order) => answer.order(order),
-        None => answer.word("none"),
+        Some(order) => line.order(order),
+        None => line.say("none"),
     }
-    answer.order(time.canonical_cmp(&other));
-    Some(())
+    line.order(time.canonical_cmp(&other));
 }
 
 /// A time of octets, written again.
-pub fn time_of(alloc: Global, answer: &mut Answer, octets: &[u8]) {
-    match Timestamp::parse(&mut Parser::from_ref(octets)) {
-        Ok(time) => told(alloc, answer, time),
-        Err(error) => answer.refused(&error),
-    }
+pub fn time(line: &mut Line<'_>) {
+    let octets = line.octets(1);
+    told(line, Timestamp::parse(&mut Parser::from_ref(&octets)));
+}
+
+/// A time of a text, written.
+pub fn time_text(line: &mut Line<'_>) {
+    let text = line.rest(1);
+    told(line, Timestamp::from_str(text));
 }
 
 /// A time, its number, and its octets.
-fn told(alloc: Global, answer: &mut Answer, time: Timestamp) {
-    let mut octets = Vec::new(alloc);
-    answer.check(time.compose(&mut octets).is_ok());
-    answer.value(&time);
-    answer.value(&time.into_int());
-    answer.octets(&octets);
-    answer.word("of");
-    answer.value(&Timestamp::COMPOSE_LEN);
+fn told<E: Display + Drop>(line: &mut Line<'_>, read: Result<Timestamp, E>) {
+    match read {
+        Ok(time) => {
+            let mut octets = Vec::new(line.alloc());
+            line.must(time.compose(&mut octets));
+            line.value(&time);
+            line.value(&time.into_int());
+            line.hex(&octets);
+            line.say("of");
+            line.value(&Timestamp::COMPOSE_LEN);
+        }
+        Err(error) => line.refused(&error),
+    }
 }
 
 /// The salt of a text: its octets, and its text.
-fn salt_from(alloc: Global, answer: &mut Answer, text: &str) {
-    match Nsec3Salt::from_str(alloc, text) {
+pub fn salt(line: &mut Line<'_>) {
+    match Nsec3Salt::from_str(line.alloc(), line.rest(1)) {
         Ok(salt) => {
-            answer.octets(salt.as_slice());
-            answer.value(&salt);
-            if salt == Nsec3Salt::empty(alloc) {
-                answer.mark(", empty");
+            line.hex(salt.as_slice());
+            line.value(&salt);
+            if salt == Nsec3Salt::empty(line.alloc()) {
+                line.mark(", empty");
             }
         }
-        Err(error) => answer.refused(&error),
+        Err(error) => line.refused(&error),
     }
 }
 
 /// How many octets a salt has, and how many one may have.
-pub fn salt_of(answer: &mut Answer, octets: &[u8]) {
-    match Nsec3Salt::from_slice(octets) {
+pub fn salt_octets(line: &mut Line<'_>) {
+    let octets = line.octets(1);
+    match Nsec3Salt::from_slice(octets.as_slice()) {
         Ok(salt) => {
-            answer.value(&salt.as_slice().len());
-            answer.word("of");
-            answer.value(&Nsec3Salt::<&[u8]>::MAX_LEN);
+            line.value(&salt.as_slice().len());
+            line.say("of");
+            line.value(&Nsec3Salt::<&[u8]>::MAX_LEN);
         }
-        Err(error) => answer.refused(&error),
+        Err(error) => line.refused(&error),
+    }
+}
+
+/// How a salt stands to another.
+pub fn salts(line: &mut Line<'_>) {
+    let (first, second) = (line.octets(1), line.octets(2));
+    let salt = Nsec3Salt::from_slice(first.as_slice());
+    match (salt, Nsec3Salt::from_slice(second.as_slice())) {
+        (Ok(salt), Ok(other)) => compared(line, &salt, &other),
+        _ => line.lose(),
+    }
+}
+
+/// How a hash stands to another.
+pub fn hashes(line: &mut Line<'_>) {
+    let (first, second) = (line.octets(1), line.octets(2));
+    let hash = OwnerHash::from_slice(first.as_slice());
+    match (hash, OwnerHash::from_slice(second.as_slice())) {
+        (Ok(hash), Ok(other)) => compared(line, &hash, &other),
+        _ => line.lose(),
     }
 }
 
 /// Whether the first octets, and then others, are written as a salt, and as a hash, to a buffer
 /// that never has more than four octets; and the buffers.
-pub fn in_four_octets(answer: &mut Answer, first: &[u8], second: &[u8]) -> Option<()> {
+pub fn in_four_octets(line: &mut Line<'_>) {
+    let (first, second) = (line.octets(1), line.octets(2));
     let (mut salts, mut hashes) = (ArrayVec::<u8, 4>::new(), ArrayVec::<u8, 4>::new());
-    for octets in [first, second] {
-        answer.yes(
-            Nsec3Salt::from_slice(octets)
-                .ok()?
-                .compose(&mut salts)
-                .is_ok(),
-        );
-        answer.yes(
-            OwnerHash::from_slice(octets)
-                .ok()?
-                .compose(&mut hashes)
-                .is_ok(),
-        );
+    for octets in [first.as_slice(), second.as_slice()] {
+        match (Nsec3Salt::from_slice(octets), OwnerHash::from_slice(octets)) {
+            (Ok(salt), Ok(hash)) => {
+                line.yes(salt.compose(&mut salts).is_ok());
+                line.yes(hash.compose(&mut hashes).is_ok());
+            }
+            _ => line.lose(),
+        }
     }
-    answer.octets(salts.as_slice());
-    answer.octets(hashes.as_slice());
-    Some(())
+    line.hex(salts.as_slice());
+    line.hex(hashes.as_slice());
 }
 
 /// The hash of a text: its text, and its octets.
-fn hash_from(alloc: Global, answer: &mut Answer, text: &str) {
-    match OwnerHash::from_str(alloc, text) {
+pub fn owner_hash(line: &mut Line<'_>) {
+    match OwnerHash::from_str(line.alloc(), line.rest(1)) {
         Ok(hash) => {
-            answer.value(&hash);
-            answer.octets(&hash.into_octets());
+            line.value(&hash);
+            line.hex(&hash.into_octets());
         }
-        Err(error) => answer.refused(&error),
+        Err(error) => line.refused(&error),
     }
 }
 
 /// The text of a hash, and its octets in base32hex.
-pub fn hash_text(alloc: Global, answer: &mut Answer, octets: &[u8]) -> Option<()> {
-    match OwnerHash::from_slice(octets) {
+pub fn hash_octets(line: &mut Line<'_>) {
+    let octets = line.octets(1);
+    match OwnerHash::from_slice(octets.as_slice()) {
         Ok(hash) => {
-            answer.value(&hash);
-            answer.word(&base32hex::encode(alloc, hash.as_slice()).ok()?);
+            line.value(&hash);
+            match digits::encode(line.alloc(), hash.as_slice()) {
+                Ok(text) => line.say(&text),
+                Err(_) => line.lose(),
+            }
         }
-        Err(error) => answer.refused(&error),
+        Err(error) => line.refused(&error),
     }
-    Some(())
+}
+
+/// The octets of base32hex, or the fault of the text.
+pub fn base32hex(line: &mut Line<'_>) {
+    match digits::decode(line.alloc(), line.rest(1)) {
+        Ok(octets) => line.hex(&octets),
+        Err(error) => line.refused(&error),
+    }
 }

@@ -1,108 +1,170 @@
 //! Links and parameters of chains, made and changed.
 
 use denial_data::{Nsec, Nsec3, Nsec3Salt, Nsec3param, OwnerHash, RtypeBitmap};
-use names::{CanonicalOrd, ComposeRecordData, ParsedName, Parser};
-use std::alloc::Global;
-use test_lines::{Answer, octets_of, words};
+use names::{CanonicalOrd, ComposeRecordData, ParseError, ParsedName, Parser};
+use test_lines::Line;
 
 type ReadNsec<'a> = Nsec<&'a [u8], ParsedName<'a>>;
 
+fn nsec_of(octets: &[u8]) -> Result<ReadNsec<'_>, ParseError> {
+    Nsec::parse(&mut Parser::from_ref(octets))
+}
+
+fn nsec3_of(octets: &[u8]) -> Result<Nsec3<&[u8]>, ParseError> {
+    Nsec3::parse(&mut Parser::from_ref(octets))
+}
+
 /// NSEC data with another next name: as text, how many octets they have, and how they stand to what
 /// they were.
-pub fn renamed<'a>(answer: &mut Answer, octets: &'a [u8], name: &'a [u8]) -> Option<()> {
-    let before: ReadNsec<'a> = Nsec::parse(&mut Parser::from_ref(octets)).ok()?;
-    let mut nsec: ReadNsec<'a> = Nsec::parse(&mut Parser::from_ref(octets)).ok()?;
-    let name = ParsedName::parse(&mut Parser::from_ref(name)).ok()?;
-    if !Nsec::fits_rdlen(&name, nsec.types()) {
-        return None;
+pub fn renamed(line: &mut Line<'_>) {
+    let (octets, name) = (line.octets(1), line.octets(2));
+    let name = ParsedName::parse(&mut Parser::from_ref(&name));
+    match (nsec_of(&octets), nsec_of(&octets), name) {
+        (Ok(nsec), Ok(before), Ok(name)) => rename(line, nsec, &before, name),
+        _ => line.lose(),
     }
-    nsec.set_next_name(name);
-    answer.value(&nsec);
-    answer.mark(",");
-    answer.value(&nsec.rdlen(false)?);
-    answer.order(nsec.cmp(&before));
-    Some(())
+}
+
+fn rename<'a>(
+    line: &mut Line<'_>,
+    nsec: ReadNsec<'a>,
+    before: &ReadNsec<'a>,
+    name: ParsedName<'a>,
+) {
+    let mut nsec = nsec;
+    if Nsec::fits_rdlen(&name, nsec.types()) {
+        nsec.set_next_name(name);
+    } else {
+        line.lose();
+    }
+    line.value(&nsec);
+    line.mark(",");
+    match nsec.rdlen(false) {
+        Some(len) => line.value(&len),
+        None => line.lose(),
+    }
+    line.order(nsec.cmp(before));
 }
 
 /// The octets of the NSEC data at a place of a message, whose next name may be compressed.
-pub fn nsec_at(alloc: Global, answer: &mut Answer, octets: &[u8], place: usize) -> Option<()> {
-    let mut parser = Parser::from_ref(octets);
-    parser.seek(place).ok()?;
-    let nsec: ReadNsec<'_> = Nsec::parse(&mut parser).ok()?;
-    let mut written = Vec::new(alloc);
-    answer.check(nsec.compose_rdata(&mut written).is_ok());
-    answer.octets(&written);
-    Some(())
+pub fn nsec_at(line: &mut Line<'_>) {
+    let (octets, place) = (line.octets(1), line.usize_at(2));
+    let mut parser = Parser::from_ref(&octets);
+    line.must(parser.seek(place));
+    let read: Result<ReadNsec<'_>, _> = Nsec::parse(&mut parser);
+    match read {
+        Ok(nsec) => {
+            let mut written = Vec::new(line.alloc());
+            line.must(nsec.compose_rdata(&mut written));
+            line.hex(&written);
+        }
+        Err(_) => line.lose(),
+    }
 }
 
 /// NSEC3 data of their fields: salt and hash as text, types as octets.
-pub fn nsec3_of(alloc: Global, answer: &mut Answer, line: &str) -> Option<()> {
-    let fields = words(alloc, line)?;
-    let [algorithm, flags, iterations, salt, hash, types] = fields.as_slice() else {
-        return None;
-    };
-    let (algorithm, flags) = (algorithm.parse::<u8>().ok()?, flags.parse::<u8>().ok()?);
-    let iterations = iterations.parse::<u16>().ok()?;
-    let types = RtypeBitmap::from_octets(octets_of(alloc, types)?).ok()?;
-    let salt = Nsec3Salt::from_str(alloc, salt).ok()?;
-    let hash = OwnerHash::from_str(alloc, hash).ok()?;
-    match Nsec3::new(algorithm, flags, iterations, salt, hash, types) {
-        Ok(nsec3) => nsec3_told(alloc, answer, &nsec3),
-        Err(error) => answer.refused(&error),
+pub fn nsec3(line: &mut Line<'_>) {
+    let octets = line.octets(6);
+    let types = RtypeBitmap::from_octets(octets);
+    let salt = Nsec3Salt::from_str(line.alloc(), line.word(4));
+    match (types, salt, OwnerHash::from_str(line.alloc(), line.word(5))) {
+        (Ok(types), Ok(salt), Ok(hash)) => nsec3_of_fields(line, salt, hash, types),
+        _ => line.lose(),
     }
-    Some(())
+}
+
+fn nsec3_of_fields(
+    line: &mut Line<'_>,
+    salt: Nsec3Salt<Vec<u8>>,
+    hash: OwnerHash<Vec<u8>>,
+    types: RtypeBitmap<Vec<u8>>,
+) {
+    let (algorithm, flags, iterations) = (line.u8_at(1), line.u8_at(2), line.u16_at(3));
+    match Nsec3::new(algorithm, flags, iterations, salt, hash, types) {
+        Ok(nsec3) => nsec3_told(line, &nsec3),
+        Err(error) => line.refused(&error),
+    }
 }
 
 /// The octets of NSEC3 data, how many they are, and whether they say opt-out.
-fn nsec3_told(alloc: Global, answer: &mut Answer, nsec3: &Nsec3<Vec<u8>>) {
-    let mut octets = Vec::new(alloc);
-    answer.check(nsec3.compose_rdata(&mut octets).is_ok());
-    answer.octets(&octets);
+fn nsec3_told(line: &mut Line<'_>, nsec3: &Nsec3<Vec<u8>>) {
+    let mut octets = Vec::new(line.alloc());
+    line.must(nsec3.compose_rdata(&mut octets));
+    line.hex(&octets);
     match nsec3.rdlen(false) {
-        Some(len) => answer.value(&len),
-        None => answer.check(false),
+        Some(len) => line.value(&len),
+        None => line.lose(),
     }
-    answer.mark(", opt-out");
-    answer.yes(nsec3.opt_out());
+    line.mark(", opt-out");
+    line.yes(nsec3.opt_out());
 }
 
 /// NSEC3 data with another next hash: how they stand to what they were; and then without types, as
 /// text.
-pub fn rehashed<'a>(answer: &mut Answer, octets: &'a [u8], hash: &'a [u8]) -> Option<()> {
-    let before = Nsec3::parse(&mut Parser::from_ref(octets)).ok()?;
-    let mut nsec3 = Nsec3::parse(&mut Parser::from_ref(octets)).ok()?;
-    let hash = OwnerHash::from_slice(hash).ok()?;
-    if !Nsec3::fits_rdlen(nsec3.salt(), &hash, nsec3.types()) {
-        return None;
+pub fn rehashed(line: &mut Line<'_>) {
+    let (octets, hash) = (line.octets(1), line.octets(2));
+    let hash = OwnerHash::from_slice(hash.as_slice());
+    match (nsec3_of(&octets), nsec3_of(&octets), hash) {
+        (Ok(nsec3), Ok(before), Ok(hash)) => rehash(line, nsec3, &before, hash),
+        _ => line.lose(),
     }
-    nsec3.set_next_owner(hash);
-    answer.order(nsec3.cmp(&before));
-    answer.order(nsec3.canonical_cmp(&before));
-    answer.mark(",");
-    let none = RtypeBitmap::from_octets(b"".as_slice()).ok()?;
-    if !Nsec3::fits_rdlen(nsec3.salt(), nsec3.next_owner(), &none) {
-        return None;
+}
+
+fn rehash<'a>(
+    line: &mut Line<'_>,
+    nsec3: Nsec3<&'a [u8]>,
+    before: &Nsec3<&'a [u8]>,
+    hash: OwnerHash<&'a [u8]>,
+) {
+    let mut nsec3 = nsec3;
+    if Nsec3::fits_rdlen(nsec3.salt(), &hash, nsec3.types()) {
+        nsec3.set_next_owner(hash);
+    } else {
+        line.lose();
     }
-    nsec3.set_types(none);
-    answer.value(&nsec3);
-    Some(())
+    line.order(nsec3.cmp(before));
+    line.order(nsec3.canonical_cmp(before));
+    line.mark(",");
+    without_types(line, nsec3);
+}
+
+fn without_types(line: &mut Line<'_>, nsec3: Nsec3<&[u8]>) {
+    let mut nsec3 = nsec3;
+    match RtypeBitmap::from_octets(b"".as_slice()) {
+        Ok(none) if Nsec3::fits_rdlen(nsec3.salt(), nsec3.next_owner(), &none) => {
+            nsec3.set_types(none);
+        }
+        _ => line.lose(),
+    }
+    line.value(&nsec3);
 }
 
 /// The flags of parameters, and whether they say opt-out: as read, and set twice. Of their fields
 /// the same are made.
-pub fn opted(answer: &mut Answer, octets: &[u8]) -> Option<()> {
-    let mut params = Nsec3param::parse(&mut Parser::from_ref(octets)).ok()?;
-    let salt = Nsec3Salt::from_slice(params.salt().as_slice()).ok()?;
-    let (algorithm, iterations) = (params.hash_algorithm(), params.iterations());
-    let is_made = params == Nsec3param::new(algorithm, params.flags(), iterations, salt);
-    answer.value(&params.flags());
-    answer.yes(params.opt_out_flag());
-    answer.mark(",");
+pub fn opted(line: &mut Line<'_>) {
+    let octets = line.octets(1);
+    match Nsec3param::parse(&mut Parser::from_ref(&octets)) {
+        Ok(params) => opt(line, params),
+        Err(_) => line.lose(),
+    }
+}
+
+fn opt(line: &mut Line<'_>, params: Nsec3param<&[u8]>) {
+    let mut params = params;
+    let is_made = match Nsec3Salt::from_slice(params.salt().as_slice()) {
+        Ok(salt) => {
+            let (algorithm, iterations) = (params.hash_algorithm(), params.iterations());
+            params == Nsec3param::new(algorithm, params.flags(), iterations, salt)
+        }
+        Err(_) => false,
+    };
+    line.value(&params.flags());
+    line.yes(params.opt_out_flag());
+    line.mark(",");
     params.set_opt_out_flag();
     params.set_opt_out_flag();
-    answer.value(&params.flags());
-    answer.yes(params.opt_out_flag());
-    answer.mark(", made");
-    answer.yes(is_made);
-    Some(())
+    line.value(&params.flags());
+    line.yes(params.opt_out_flag());
+    line.mark(", made");
+    line.yes(is_made);
 }

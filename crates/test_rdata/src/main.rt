@@ -1,8 +1,12 @@
-//! Answers lines about DNSSEC record data, so that the output is compared with the standards, other
-//! name servers and tools.
+//! Answers lines about names, records, DNSSEC data and denial chains, so that the output is
+//! compared with the standards, other name servers and tools.
 //!
-//! A line begins with what is asked for. All octets are in hexadecimal, numbers in decimal, and `-`
-//! is none of them:
+//! A line begins with what is asked for. A line `section NAME` says which lines follow: `names` are
+//! told in the crate `test_names`, `records` and `chains` in `test_records`, `data` below. The
+//! answer to each line stands behind it, for chains on lines of its own. Lines that begin with `#`
+//! and empty ones are printed as they are.
+//!
+//! All octets are in hexadecimal, numbers in decimal, and `-` is none of them:
 //!
 //! - `tag KEY`: the key tag of DNSKEY data; `flags KEY`: whether it is a zone key, a secure entry
 //!   point, revoked.
@@ -36,12 +40,10 @@
 //! - `signed RRSIG OWNER DATA`: the octets that a signature is made over, of an RRset of data
 //!   joined by commas.
 //! - `faults KIND`: texts of faults.
-//!
-//! Each line is printed with the answer behind it. Lines that begin with `#` are printed as they
-//! are.
 #![tactic(auto)]
 
 mod bitmaps;
+mod data;
 mod faults;
 mod fields;
 mod keys;
@@ -51,101 +53,78 @@ mod ranges;
 mod signatures;
 mod typed;
 
-use denial_data::{Nsec3Salt, OwnerHash, RtypeBitmap};
 use std::alloc::Global;
 use std::io;
-use test_lines::{Answer, answer_each_line, first_word, octets_of};
-use typed::compared;
+use test_lines::{Form, Line};
+use test_records::{chain_lines, record_lines};
 
-/// Answers a line, if it can be read.
-fn answer_to(alloc: Global, answer: &mut Answer, line: &str) -> Option<()> {
-    let (asked, rest) = line.split_once(' ')?;
-    match asked {
-        "data" | "text" | "canonical" | "fault" | "order" | "end" => {
-            typed::answer_to(alloc, answer, asked, rest)
-        }
-        "bitmap" | "each" | "room" | "has" => bitmaps::answer_to(alloc, answer, asked, rest),
-        "longest" => longest::longest(alloc, answer, rest),
-        "faults" => faults::faults(answer, rest),
-        "nsec3" => links::nsec3_of(alloc, answer, rest),
-        "near" | "times" => fields::answer_to_numbers(answer, asked, rest),
-        "time-text" | "salt" | "owner-hash" | "base32hex" => {
-            fields::answer_to(alloc, answer, asked, rest)
-        }
-        _ => {
-            let (first, rest) = first_word(rest);
-            answer_to_octets(alloc, answer, asked, &octets_of(alloc, first)?, rest)
-        }
-    }
+/// Which lines follow.
+#[derive(Clone, Copy)]
+enum Section {
+    Names,
+    Records,
+    Data,
+    Chains,
 }
 
-/// Answers a line that begins with octets.
-fn answer_to_octets(
-    alloc: Global,
-    answer: &mut Answer,
-    asked: &str,
-    octets: &[u8],
-    rest: &str,
-) -> Option<()> {
-    match asked {
-        "tag" | "flags" => keys::answer_to(answer, asked, octets),
-        "fields" => signatures::fields_of(alloc, answer, octets),
-        "opted" => links::opted(answer, octets),
-        "lengths" => bitmaps::accepted_lengths(alloc, answer, octets),
-        "hash-octets" => fields::hash_text(alloc, answer, octets),
-        "hash" => keys::hash_of(alloc, answer, octets, rest),
-        "signed" => signatures::signed_octets(alloc, answer, octets, rest),
-        "nsec-at" => links::nsec_at(alloc, answer, octets, rest.parse().ok()?),
-        "salt-octets" => {
-            fields::salt_of(answer, octets);
-            Some(())
-        }
-        "types" => {
-            bitmaps::types_of(answer, octets);
-            Some(())
-        }
-        "time" => {
-            fields::time_of(alloc, answer, octets);
-            Some(())
-        }
-        _ => answer_to_two(alloc, answer, asked, octets, &octets_of(alloc, rest)?),
-    }
+/// What the lines so far made.
+#[derive(Drop)]
+struct State {
+    section: Section,
+    zone: chain_lines::Zone,
 }
 
-/// Answers a line of octets, twice.
-fn answer_to_two(
-    alloc: Global,
-    answer: &mut Answer,
-    asked: &str,
-    first: &[u8],
-    second: &[u8],
-) -> Option<()> {
-    match asked {
-        "digest" => keys::digest_of(alloc, answer, first, second),
-        "same-fields" => signatures::are_equal_fields(answer, first, second),
-        "signature" => signatures::resigned(answer, first, second),
-        "rooms" => fields::in_four_octets(answer, first, second),
-        "renamed" => links::renamed(answer, first, second),
-        "rehashed" => links::rehashed(answer, first, second),
-        "salts" => {
-            let salt = Nsec3Salt::from_slice(first).ok()?;
-            compared(answer, &salt, &Nsec3Salt::from_slice(second).ok()?);
-            Some(())
+impl State {
+    fn new(alloc: Global) -> State {
+        State {
+            section: Section::Names,
+            zone: chain_lines::Zone::new(alloc),
         }
-        "hashes" => {
-            let hash = OwnerHash::from_slice(first).ok()?;
-            compared(answer, &hash, &OwnerHash::from_slice(second).ok()?);
-            Some(())
+    }
+
+    /// Begins a section.
+    fn begin(&mut self, line: &mut Line<'_>) {
+        match line.word(1) {
+            "names" => self.section = Section::Names,
+            "records" => self.section = Section::Records,
+            "data" => self.section = Section::Data,
+            "chains" => self.section = Section::Chains,
+            _ => line.lose(),
         }
-        "bitmaps" => {
-            let bitmap = RtypeBitmap::from_octets(first).ok()?;
-            compared(answer, &bitmap, &RtypeBitmap::from_octets(second).ok()?);
-            Some(())
+    }
+
+    fn answer(&mut self, line: &mut Line<'_>) {
+        if line.is_section() {
+            self.begin(line);
+            return;
         }
-        _ => None,
+        match self.section {
+            Section::Names => test_names::answer(line),
+            Section::Records => record_lines::answer(line),
+            Section::Data => data::answer(line),
+            Section::Chains => chain_lines::answer(line, &mut self.zone),
+        }
+    }
+
+    fn form(&self) -> Form {
+        match self.section {
+            Section::Chains => Form::Lines,
+            _ => Form::Aside,
+        }
     }
 }
 
 fn main(rt: HostRuntime) -> io::Result<()> {
-    answer_each_line(&rt, rt.alloc(), answer_to)
+    let alloc = rt.alloc();
+    let mut state = State::new(alloc);
+    for text in rt.lines(alloc) {
+        let text = text?;
+        let mut line = Line::new(alloc, &text);
+        if !line.is_comment() {
+            state.answer(&mut line);
+        }
+        let (before, said, behind) = line.printed(state.form());
+        print!(rt; "{text}{before}{said}{behind}")?;
+    }
+    Ok(())
 }

@@ -1,19 +1,18 @@
 //! Ranges of numbers, joined by commas: both ends of each, or the one number that it has.
 
-use std::alloc::Global;
-use test_lines::{Answer, Between};
+use test_lines::Line;
 
 /// Ranges of numbers that are told one by one, in ascending order, whether they are among them.
 #[derive(Drop)]
-pub struct Ranges {
-    text: Answer,
+pub struct Ranges<'l> {
+    text: Line<'l>,
     first: Option<usize>,
 }
 
-impl Ranges {
-    pub fn new(alloc: Global) -> Ranges {
+impl<'l> Ranges<'l> {
+    pub fn new(line: &Line<'l>) -> Ranges<'l> {
         Ranges {
-            text: Answer::list(alloc, Between::Comma),
+            text: line.aside(","),
             first: None,
         }
     }
@@ -29,19 +28,19 @@ impl Ranges {
 
     /// Ends an open range.
     fn end(&mut self, last: usize) {
-        let Some(first) = self.first else {
-            return;
-        };
-        self.first = None;
-        if first == last {
+        if let Some(first) = self.first {
+            self.first = None;
             self.text.value(&first);
-        } else {
-            self.text.value(&format_args!("{first}-{last}"));
+            if first != last {
+                let text = self.text.text_of(&last);
+                self.text.mark("-");
+                self.text.mark(&text);
+            }
         }
     }
 
     /// The ranges, where a number is the last.
-    pub fn ended(self, last: usize) -> Answer {
+    pub fn ended(self, last: usize) -> Line<'l> {
         let mut ranges = self;
         ranges.end(last);
         let Ranges { text, first: _ } = ranges;
