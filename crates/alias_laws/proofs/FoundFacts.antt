@@ -17,16 +17,16 @@ use Rattle.denial_laws.specs.Facts.{Facts, HashLink, Link, Rrset, is_expanded}
 use Rattle.denial_laws.specs.Nsec3Rules.{hash_expanded}
 use Rattle.denial_laws.specs.NsecRules.{closest, encloses_at, expanded, expanded_by, link_covers}
 use Rattle.denial_laws.specs.OwnFacts.{kept_ancestor, link_of, next_closer, own_facts, own_links, own_rrset, own_star, spoken}
-use Rattle.denial_laws.specs.Truth.{AreTrue, IsServable, IsTrueLink, IsTrueRrset, NoSharedHash, is_signed}
-use Rattle.denial_laws.proofs.Adjacent.{Covered}
+use Rattle.denial_laws.specs.Truth.{AreTrue, IsServable, IsTrueLink, IsTrueRrset, NoSharedHash, SaysTruly, is_signed}
 use Rattle.denial_laws.proofs.AtName.{Answers}
+use Rattle.denial_laws.proofs.ChainSays.{chains_say_truly, link_says}
 use Rattle.denial_laws.proofs.Found.{first_is}
 use Rattle.denial_laws.proofs.KeptAncestor.{IsKeptParent, ancestor_lowered, kept_encloser, kept_parent}
 use Rattle.denial_laws.proofs.NameFacts.{above_trans, names_same, star_below, strictly-low, strictly_at, strictly_lowered}
 use Rattle.denial_laws.proofs.Nsec3Own.{expanded_answers}
 use Rattle.denial_laws.proofs.Nsec3Sound.{sound_hashed}
 use Rattle.denial_laws.proofs.Nsec3Wildcard.{signed_star_kept}
-use Rattle.denial_laws.proofs.NsecCovered.{apex_above, cover, exists_covered}
+use Rattle.denial_laws.proofs.NsecCovered.{apex_above, covering, exists_covered}
 use Rattle.denial_laws.proofs.NsecEncloser.{Encloser, encloser, owner_exists}
 use Rattle.denial_laws.proofs.NsecSound.{sound_links}
 use Rattle.denial_laws.proofs.OwnHashes.{own, own_speaks, own_true}
@@ -78,7 +78,7 @@ module _ (z : Zone) (s : IsServable z) (hash : Name → List ℕ) (q : Name) (t 
       → decided z.name hash (own_facts z hash Nsec q t) q t ≡ Some (verdict z false q t)
   finish o qs e r w =
       let facts : Facts = made o qs in
-      let true_facts : AreTrue z hash Nsec q t facts = record { rrset = r; chain = (all_from (IsTrueLink z) (own_links z Nsec qs) (own_links_true z s qs), refl) } in
+      let true_facts : AreTrue z hash Nsec q t facts = record { rrset = r; said = chains_say_truly z hash Nsec q facts s tt (all_from (IsTrueLink z) (own_links z Nsec qs) (own_links_true z s qs), refl) } in
       let said : decided z.name hash facts q t ≡ Some w.0 = ap (λ b. elim b as (λ _. Option Verdict) [ true ↦ decided_inside z.name hash facts q t | false ↦ None ]) within ∙ w.1 in
       ap (λ f. decided z.name hash f q t) e ∙ said ∙ ap (λ v. Some v) (sound_links z hash facts q t w.0 s l true_facts said).0
 
@@ -98,10 +98,11 @@ module _ (z : Zone) (s : IsServable z) (hash : Name → List ℕ) (q : Name) (t 
       covered o i listed h =
           let g : Link = link_of z o in
           let covers_it : link_covers z.name g q ≡ true = own_covers z s o q i direct h in
-          let gap : Covered z (low o) (low (nsec_next z o)) (low q) = cover z s g (own_link_true z s o i) q covers_it in
-          let r : Encloser z g q = encloser z s g q gap (sym (strictly_lowered (apex_of z) q) ∙ apex_above z s (low o) (low (nsec_next z o)) (low q) gap (low-low q) inside) in
+          let says : SaysTruly z g = link_says z s g (own_link_true z s o i) in
+          let gap : covers z.name o (nsec_next z o) q ≡ true = covering z s g says q covers_it in
+          let r : Encloser z g q = encloser z s g says q gap (sym (strictly_lowered (apex_of z) q) ∙ apex_above z s g says q gap inside) in
           let below : strictly_above q (nsec_next z o) ≡ false =
-          sym (strictly-low q (nsec_next z o)) ∙ sym (exists_covered z s (low o) (low (nsec_next z o)) (low q) gap (low-low q) inside (strictly_above (low q) (low (nsec_next z o))) refl) ∙ x in
+          sym (strictly-low q (nsec_next z o)) ∙ sym (exists_covered z s g says q gap inside (strictly_above (low q) (low (nsec_next z o))) refl) ∙ x in
           let is : low r.name ≡ e = (let both : Some (low r.name) ≡ Some e = sym r.is ∙ c in cc) in
           let long : length r.name ≡ length e = same-length r.name e (names_same r.name e (is ∙ sym (ce_lowered z (low q) e (low-low q) c))) in
           let encloses : encloses_at (length e) (closest g q) ≡ true = ap (encloses_at (length e)) r.shown ∙ eq-eqb (length r.name) (length e) long in
@@ -225,9 +226,10 @@ module _ (z : Zone) (s : IsServable z) (hash : Name → List ℕ) (q : Name) (t 
         let g = good (is_open z ex (low q)) refl in
         let true_facts : AreTrue z hash (Nsec3 iterations salt ex) q t (own_facts z hash (Nsec3 iterations salt ex) q t) = record {
           rrset = g.0;
-          chain = (refl, own_true z hash ex s apart.0 iterations salt (qs (verdict z ex q t)));
+          said = chains_say_truly z hash (Nsec3 iterations salt ex) q (own_facts z hash (Nsec3 iterations salt ex) q t) s apart
+              (refl, own_true z hash ex s apart.0 iterations salt (qs (verdict z ex q t)));
         } in
-        g.1.1 ∙ ap (λ v. Some v) (sound_hashed z hash iterations salt ex (own_facts z hash (Nsec3 iterations salt ex) q t) q t g.1.0 s apart l true_facts g.1.1).0
+        g.1.1 ∙ ap (λ v. Some v) (sound_hashed z hash iterations salt ex (own_facts z hash (Nsec3 iterations salt ex) q t) q t g.1.0 s l true_facts g.1.1).0
 
 pub found_decides : (z : Zone) (hash : Name → List ℕ) (mode : Mode) (q : Name) (t : ℕ) → IsServable z → NoSharedHash z hash mode q → t < 65536 → finds z q t ≡ true
     → decided z.name hash (own_facts z hash mode q t) q t ≡ Some (verdict z (optout_of mode) q t)

@@ -1,5 +1,6 @@
--- Records of a version's chain that are verified say true links.
-use Rattle.std.proofs.Common.{◌≡◌, ℕ, ◌<◌, Bool, true, List, [], ◌∷◌, ◌++◌, eqb, sym, ap, subst, ◌∙◌, arith}
+-- Records of a version's chain, and those that were made, say truly where they are verified.
+use Rattle.std.proofs.Common.{◌≡◌, ℕ, ◌<◌, Bool, true, List, [], ◌∷◌, ◌++◌, length, eqb, refl, sym, ap, subst, ◌∙◌, inl, inr, arith}
+use Rattle.std.specs.Int.{w16, to_be_bytes}
 use Rattle.std.specs.List.{AllByRecursion, Contains}
 use Rattle.std.specs.Char.{to_ascii_lowercase}
 use Rattle.std.proofs.lemmas.Bool.{false≢true}
@@ -13,22 +14,25 @@ use Rattle.definitions.proofs.Members.{In, contained, sort_has}
 use Rattle.definitions.proofs.SignedLaws.{Labelled, wire_of}
 use Rattle.denial_laws.specs.Facts.{HashLink, Link}
 use Rattle.denial_laws.specs.OwnFacts.{hash_link_of}
-use Rattle.denial_laws.specs.Truth.{IsTrueLink}
+use Rattle.denial_laws.specs.Truth.{IsServable, IsTrueLink, NoSharedHash, SaysTruly, SaysTrulyHash}
+use Rattle.denial_laws.proofs.ChainSays.{hash_link_says, link_says, owner_respelled}
 use Rattle.messages.specs.HandedRr.{HandedRr}
-use Rattle.messages.specs.Message.{AreOctets, Spelled, data_of, nsec3_of}
-use Rattle.messages.proofs.Lists.{some_is}
+use Rattle.messages.specs.Message.{AreOctets, HashedNext, Spelled, data_of, nsec3_of}
+use Rattle.messages.proofs.Nsec3Read.{nsec3_reads}
+use Rattle.messages.proofs.Lists.{all_at, some_is}
 use Rattle.messages.proofs.ReadNames.{labelled}
 use Rattle.answer_terms.specs.Accepting.{sorted_records}
 use Rattle.answer_terms.proofs.ZoneNaming.{chain_named, lower_name, next_name}
 use Rattle.answer_terms.specs.HashOwner.{hash_spelled}
-use Rattle.answer_judge.specs.Versions.{IsNsecOf, IsNsec3Of, Version, zone_in}
+use Rattle.answer_judge.specs.Versions.{IsNsecMade, IsNsecOf, IsNsec3Made, IsNsec3Of, Version, zone_in}
 use Rattle.answer_judge.proofs.GivenGroups.{SaysHashLink, said_of}
 use Rattle.answer_judge.proofs.GivenHashes.{owner_spells}
+use Rattle.answer_judge.proofs.GivenHashing.{SaysHashing}
 use Rattle.answer_judge.proofs.GivenLists.{has_contained}
 use Rattle.answer_judge_facts.proofs.GivenSorted.{has_in}
 use Rattle.answer_judge.proofs.HonestFacts.{IsHashRecord, IsKnown, IsNextRecord}
 use Rattle.answer_judge.proofs.HonestReads.{ReadsNext, link_read}
-use Rattle.answer_judge.proofs.OwnHashed.{by_hash, by_hash_total, hashed_group, says}
+use Rattle.answer_judge.proofs.OwnHashed.{by_hash, by_hash_total, flag, flag_back, hashed_group, says}
 
 -- ---- a chain of names
 
@@ -41,9 +45,8 @@ module _ (apex : Name) (hash : Name → List ℕ) (v : Version) (known : IsKnown
   abbrev z : Zone
   z = zone_in apex v
 
-  pub next_true : (k : ℕ) (m : List ℕ) (r : Spelled) (l : Link) → AreOctets m → IsNextRecord z hash Nsec k m r l → IsTrueLink z l
-  next_true k m r l octets x =
-      let of : IsNsecOf z x.chain.rrset = x.chain.of in
+  next_of_chain : (k : ℕ) (m : List ℕ) (r : Spelled) (l : Link) → AreOctets m → (x : IsNextRecord z hash Nsec v.made k m r l) → IsNsecOf z x.chain.rrset → IsTrueLink z l
+  next_of_chain k m r l octets x of =
       let o : Name = low x.chain.rrset.owner in
       let bits : List ℕ = bitmap (nsec_types z true o) in
       let read : ReadsNext x.next = link_read k m r x.next octets x.reads in
@@ -56,9 +59,26 @@ module _ (apex : Name) (hash : Name → List ℕ) (v : Version) (known : IsKnown
         bits = said.1 ∙ ap (λ n. bitmap (nsec_types z true n)) (sym owner);
       })
 
+  -- its owner may be spelled otherwise than as it was signed
+  next_of_made : (k : ℕ) (m : List ℕ) (r : Spelled) (l : Link) → AreOctets m → (x : IsNextRecord z hash Nsec v.made k m r l) → IsNsecMade z x.chain.rrset → SaysTruly z l
+  next_of_made k m r l octets x of =
+      let read : ReadsNext x.next = link_read k m r x.next octets x.reads in
+      let said : (x.next.0 ≡ of.next) × (x.next.1 ≡ of.bits) = wire_of x.next.0 of.next x.next.1 of.bits (labelled x.next.0 read.next.name.labels) (labelled of.next of.named.labels) (x.chain.data_is (wire of.next ++ of.bits) of.datas_are) in
+      let here : SaysTruly z (record { owner = r.owner; next = of.next; bits = of.bits }) = owner_respelled z (record { owner = x.chain.rrset.owner; next = of.next; bits = of.bits }) r.owner x.chain.owner_is of.says in
+      subst (SaysTruly z) ((λ i. record { owner = r.owner; next = sym said.0 i; bits = sym said.1 i }) ∙ x.is) here
+
+  pub next_true : AllByRecursion (IsNsecMade z) v.made → (k : ℕ) (m : List ℕ) (r : Spelled) (l : Link) → AreOctets m → IsNextRecord z hash Nsec v.made k m r l → SaysTruly z l
+  next_true truly k m r l octets x = elim x.chain.of [
+    | inl of ↦ link_says z known.servable l (next_of_chain k m r l octets x of)
+    | inr i ↦ next_of_made k m r l octets x (all_at (IsNsecMade z) v.made x.chain.rrset truly (has_contained v.made x.chain.rrset i))
+  ]
+
   -- it has no record of hashes
-  pub no_hashes : (m : List ℕ) (r : Spelled) (l : HashLink) → IsHashRecord z hash Nsec m r l → ⊥
-  no_hashes m r l x = false≢true (ap (λ (n : ℕ). eqb n 50) (sym x.chain.of.rtype_is ∙ x.chain.type_is))
+  pub no_hashes : AllByRecursion (IsNsecMade z) v.made → (m : List ℕ) (r : Spelled) (l : HashLink) → IsHashRecord z hash Nsec v.made m r l → ⊥
+  no_hashes truly m r l x = elim x.chain.of [
+    | inl of ↦ false≢true (ap (λ (n : ℕ). eqb n 50) (sym of.rtype_is ∙ x.chain.type_is))
+    | inr i ↦ let of = all_at (IsNsecMade z) v.made x.chain.rrset truly (has_contained v.made x.chain.rrset i) in false≢true (ap (λ (n : ℕ). eqb n 50) (sym of.rtype_is ∙ x.chain.type_is))
+  ]
 
 -- ---- a chain of hashes
 
@@ -72,15 +92,13 @@ module _ (apex : Name) (hash : Name → List ℕ) (v : Version) (iterations : �
   abbrev mode : Mode
   mode = Nsec3 iterations salt optout
 
-  -- a link of one of its names
-  pub record IsHashOf (l : HashLink) : Type 0 where
-    pub name : Name
-    pub there : Contains (hashed_names hash zone optout) name
-    pub is : hash_link_of zone hash iterations salt optout name ≡ l
+  -- hashed as the zone hashes
+  pub record SaysHere (q : Name) (l : HashLink) : Type 0 where
+    pub says : SaysTrulyHash zone hash optout q l
+    pub hashed : SaysHashing iterations salt l
 
-  pub hash_of : (m : List ℕ) (r : Spelled) (l : HashLink) → IsHashRecord zone hash mode m r l → IsHashOf l
-  hash_of m r l x =
-      let of : IsNsec3Of zone hash iterations salt optout x.chain.rrset = x.chain.of in
+  hash_of_chain : (m : List ℕ) (r : Spelled) (l : HashLink) → (x : IsHashRecord zone hash mode v.made m r l) (of : IsNsec3Of zone hash iterations salt optout x.chain.rrset) → hash_link_of zone hash iterations salt optout of.name ≡ l
+  hash_of_chain m r l x of =
       let o : Name = of.name in
       let named : In o (nsec3_names zone optout) = sort_has (by_hash hash) (by_hash_total hash) (nsec3_names zone optout) o (has_in (hashed_names hash zone optout) o (has_contained (hashed_names hash zone optout) o of.there)) in
       let bytes : AllByRecursion (λ x. x < 256) (hash o) = octets o (contained (nsec3_names zone optout) o named) in
@@ -89,12 +107,33 @@ module _ (apex : Name) (hash : Name → List ℕ) (v : Version) (iterations : �
       let next : x.next ≡ say.next = some_is x.next say.next (sym x.reads ∙ ap nsec3_of data_is ∙ say.reads) in
       let owner : low r.owner ≡ base32hex (hash o) ∷ low apex = x.chain.owner_is ∙ of.owner_is in
       let spelled : hash_spelled r.owner ≡ hash o = (owner_spells apex r.owner (hash o) bytes owner).1 in
-      record {
-        name = o;
-        there = of.there;
-        is = sym say.is ∙ (λ i. said_of (sym spelled i) (sym next i)) ∙ x.is;
-      }
+      sym say.is ∙ (λ i. said_of (sym spelled i) (sym next i)) ∙ x.is
+
+  hash_of_made : (q : Name) (m : List ℕ) (r : Spelled) (l : HashLink) → (x : IsHashRecord zone hash mode v.made m r l) → IsNsec3Made zone hash iterations salt optout q x.chain.rrset → SaysHere q l
+  hash_of_made q m r l x of =
+      let made : HashLink = record { owner = of.hashed; next = of.next; bits = of.bits; opt_out = optout; iterations = iterations; salt = salt } in
+      let datum : List ℕ = 1 ∷ flag optout ∷ to_be_bytes w16 iterations ++ length salt ∷ salt ++ length of.next ∷ of.next ++ of.bits in
+      let read : HashedNext = record { algorithm = 1; flags = flag optout; iterations = iterations; salt = salt; next = of.next; bits = of.bits } in
+      let data_is : data_of m r ≡ datum = x.chain.data_is datum of.datas_are in
+      let next : x.next ≡ read = some_is x.next read (sym x.reads ∙ ap nsec3_of data_is ∙ nsec3_reads 1 (flag optout) iterations salt of.next of.bits small of.windows) in
+      let spelled : hash_spelled r.owner ≡ of.hashed = (owner_spells apex r.owner of.hashed of.octets (x.chain.owner_is ∙ of.owner_is)).1 in
+      let is : made ≡ l = (λ i. record made { opt_out = sym (flag_back optout) i }) ∙ (λ i. said_of (sym spelled i) (sym next i)) ∙ x.is in
+      subst (SaysHere q) is (record { says = of.says; hashed = (refl, refl) })
+
+  pub hash_true : (q : Name) → IsServable zone → NoSharedHash zone hash mode q → AllByRecursion (IsNsec3Made zone hash iterations salt optout q) v.made
+      → (m : List ℕ) (r : Spelled) (l : HashLink) → IsHashRecord zone hash mode v.made m r l → SaysHere q l
+  hash_true q servable apart truly m r l x = elim x.chain.of [
+    | inl of ↦ subst (SaysHere q) (hash_of_chain m r l x of) (record {
+      says = hash_link_says zone hash iterations salt optout q servable apart (hash_link_of zone hash iterations salt optout of.name)
+          (record { name = of.name; named = of.there; owner = refl; next = refl; bits = refl; opts = refl });
+      hashed = (refl, refl);
+    })
+    | inr i ↦ hash_of_made q m r l x (all_at (IsNsec3Made zone hash iterations salt optout q) v.made x.chain.rrset truly (has_contained v.made x.chain.rrset i))
+  ]
 
   -- it has no record of names
-  pub no_names : (k : ℕ) (m : List ℕ) (r : Spelled) (l : Link) → IsNextRecord zone hash mode k m r l → ⊥
-  no_names k m r l x = false≢true (ap (λ (n : ℕ). eqb n 47) (sym x.chain.of.rtype_is ∙ x.chain.type_is))
+  pub no_names : (q : Name) → AllByRecursion (IsNsec3Made zone hash iterations salt optout q) v.made → (k : ℕ) (m : List ℕ) (r : Spelled) (l : Link) → IsNextRecord zone hash mode v.made k m r l → ⊥
+  no_names q truly k m r l x = elim x.chain.of [
+    | inl of ↦ false≢true (ap (λ (n : ℕ). eqb n 47) (sym of.rtype_is ∙ x.chain.type_is))
+    | inr i ↦ let of = all_at (IsNsec3Made zone hash iterations salt optout q) v.made x.chain.rrset truly (has_contained v.made x.chain.rrset i) in false≢true (ap (λ (n : ℕ). eqb n 47) (sym of.rtype_is ∙ x.chain.type_is))
+  ]

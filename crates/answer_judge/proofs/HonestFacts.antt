@@ -1,6 +1,6 @@
 -- What is verified in an honest answer are true facts of a version.
-use Rattle.std.proofs.Common.{◌≡◌, ℕ, ◌<◌, ◌≤◌, true, false, ◌&&◌, List, [], ◌∷◌, ◌++◌, length, Option, Some, None, Ok, eqb, refl, sym, ap, subst, ◌∙◌, inl, inr, arith}
-use Rattle.std.specs.Prelude.{◌==◌, IfSome, nat_le, nat_lt}
+use Rattle.std.proofs.Common.{◌≡◌, ◌⊎◌, ℕ, ◌<◌, ◌≤◌, true, false, ◌&&◌, List, [], ◌∷◌, ◌++◌, length, Option, Some, None, Ok, eqb, refl, sym, ap, subst, ◌∙◌, inl, inr, arith}
+use Rattle.std.specs.Prelude.{◌==◌, Contains, IfSome, nat_le, nat_lt}
 use Rattle.std.specs.List.{AllByRecursion, filter_map}
 use Rattle.std.specs.Option.{option_map}
 use Rattle.std.proofs.lemmas.Bool.{and_from, and_parts, eqb-true, false≢true, leb-true, ltb-true, or_cases}
@@ -11,7 +11,7 @@ use Rattle.definitions.specs.Name.{Name, IsName, low, same, wire, at_or_above}
 use Rattle.definitions.specs.Signing.{Fields, label_count}
 use Rattle.definitions.specs.Zone.{Zone, Rr, has, data_at, is_of}
 use Rattle.definitions.specs.ZoneChain.{Mode, Nsec, Nsec3}
-use Rattle.definitions.proofs.Members.{any_of}
+use Rattle.definitions.proofs.Members.{any_of, in_contained}
 use Rattle.denial_laws.specs.Facts.{HashLink, Link, Rrset}
 use Rattle.denial_laws.specs.Truth.{IsServable, IsTrueRrset, is_added_type, is_signed}
 use Rattle.denial_laws.proofs.ChainBits.{all_at}
@@ -23,7 +23,7 @@ use Rattle.answer_terms.specs.Accepting.{sorted_records}
 use Rattle.answer_terms.specs.Hashing.{hash_in}
 use Rattle.answer_scheme.specs.Answers.{Answers}
 use Rattle.answer_judge.specs.Honest.{IsHonest, Signing, WasSigned, sought_of_answer}
-use Rattle.answer_judge.specs.Versions.{IsOfChain, IsRrsetOf, OfZone, OfChain, OfParameters, SignedRrset, Version, zone_in}
+use Rattle.answer_judge.specs.Versions.{IsOfChain, IsRrsetOf, OfZone, OfChain, OfMade, OfParameters, SignedRrset, Version, zone_in}
 use Rattle.answer_judge_facts.specs.Trusted.{labels_fit, may_expand}
 use Rattle.answer_judge.specs.Judged.{trusting}
 use Rattle.answer_judge.specs.Judging.{JudgeInput}
@@ -60,11 +60,25 @@ expanded_labels apex owner f fewer e = elim (or_cases (f.labels == label_count o
 
 -- ---- a version
 
+-- of the type of a record of denial
+abbrev pub IsOfDenial : SignedRrset → Type 0
+IsOfDenial x = (x.rtype ≡ 47) ⊎ (x.rtype ≡ 50)
+
+denial_added : (x : SignedRrset) → IsOfDenial x → is_added_type x.rtype ≡ true
+denial_added x is = elim is [ inl e ↦ ap is_added_type e | inr e ↦ ap is_added_type e ]
+
+pub denial_no_key : (x : SignedRrset) → IsOfDenial x → x.rtype ≡ 48 → ⊥
+denial_no_key x is e = elim is [
+  | inl k ↦ false≢true (ap (λ (n : ℕ). eqb n 48) (sym k ∙ e))
+  | inr k ↦ false≢true (ap (λ (n : ℕ). eqb n 48) (sym k ∙ e))
+]
+
 -- a version of a zone in order
 pub record IsKnown (apex : Name) (v : Version) : Type 0 where
   pub servable : IsServable (zone_in apex v)
   pub apex_is : IsName apex
   pub handed : AllByRecursion IsHanded (sorted_records v.records)
+  pub denials : AllByRecursion IsOfDenial v.made
 
 pub signed_has : (z : Zone) (o : Name) (t : ℕ) → is_signed z o t ≡ true → has z o t ≡ true
 signed_has z o t h = (and_parts _ (has z o t) h).1
@@ -84,7 +98,7 @@ pub chain_type : (z : Zone) (hash : Name → List ℕ) (mode : Mode) (x : Signed
 chain_type z hash Nsec x is = ap is_added_type is.rtype_is
 chain_type z hash (Nsec3 iterations salt optout) x is = ap is_added_type is.rtype_is
 
-module _ (apex : Name) (hash : Name → List ℕ) (v : Version) (q : Name) (t : ℕ) (asked : is_added_type t ≡ false) where
+module _ (apex : Name) (hash : Name → List ℕ) (v : Version) (denials : AllByRecursion IsOfDenial v.made) (q : Name) (t : ℕ) (asked : is_added_type t ≡ false) where
   abbrev zone : Zone
   zone = zone_in apex v
 
@@ -96,6 +110,7 @@ module _ (apex : Name) (hash : Name → List ℕ) (v : Version) (q : Name) (t : 
 
       go : (g : SignedRrset) → IsRrsetOf apex hash v g → Tells f q items g → IsTrueRrset zone q t (record { datas = items; labels = f.labels })
       go g (OfChain is) y = absurd (added g y.covered (chain_type zone hash v.mode g is))
+      go g (OfMade i) y = absurd (added g y.covered (denial_added g (all_at IsOfDenial v.made g denials (in_contained v.made g i.0 i.1 i.2))))
       go g (OfParameters o e) y = absurd (added g y.covered (ap is_added_type e))
       go g (OfZone signed datas) y =
           let kind : g.rtype ≡ t = sym y.covered ∙ covered in
@@ -107,27 +122,27 @@ module _ (apex : Name) (hash : Name → List ℕ) (v : Version) (q : Name) (t : 
 
 -- ---- records of a chain
 
--- a record is that of a name of the chain: it has this owner, and the one datum of this RRset
-pub record IsChainRecord (z : Zone) (hash : Name → List ℕ) (mode : Mode) (t : ℕ) (r : Spelled) (d : List ℕ) : Type 0 where
+-- a record is that of a name of the chain, or was made: it has this owner, and the one datum of this RRset
+pub record IsChainRecord (z : Zone) (hash : Name → List ℕ) (mode : Mode) (made : List SignedRrset) (t : ℕ) (r : Spelled) (d : List ℕ) : Type 0 where
   pub rrset : SignedRrset
-  pub of : IsOfChain z hash mode rrset
+  pub of : IsOfChain z hash mode rrset ⊎ Contains made rrset
   pub type_is : rrset.rtype ≡ t
   pub owner_is : low r.owner ≡ low rrset.owner
   pub data_is : (e : List ℕ) → rrset.datas ≡ e ∷ [] → d ≡ e
 
 -- an NSEC record that is verified
-pub record IsNextRecord (z : Zone) (hash : Name → List ℕ) (mode : Mode) (k : ℕ) (m : List ℕ) (r : Spelled) (l : Link) : Type 0 where
+pub record IsNextRecord (z : Zone) (hash : Name → List ℕ) (mode : Mode) (made : List SignedRrset) (k : ℕ) (m : List ℕ) (r : Spelled) (l : Link) : Type 0 where
   pub next : Name × List ℕ
   pub reads : nsec_at k m r ≡ Some next
   pub is : record { owner = r.owner; next = next.0; bits = next.1 } ≡ l
-  pub chain : IsChainRecord z hash mode 47 r (wire next.0 ++ next.1)
+  pub chain : IsChainRecord z hash mode made 47 r (wire next.0 ++ next.1)
 
 -- an NSEC3 record that is verified
-pub record IsHashRecord (z : Zone) (hash : Name → List ℕ) (mode : Mode) (m : List ℕ) (r : Spelled) (l : HashLink) : Type 0 where
+pub record IsHashRecord (z : Zone) (hash : Name → List ℕ) (mode : Mode) (made : List SignedRrset) (m : List ℕ) (r : Spelled) (l : HashLink) : Type 0 where
   pub next : HashedNext
   pub reads : nsec3_of (data_of m r) ≡ Some next
   pub is : hash_link_with r.owner next ≡ l
-  pub chain : IsChainRecord z hash mode 50 r (data_of m r)
+  pub chain : IsChainRecord z hash mode made 50 r (data_of m r)
 
 -- ---- what is found in an honest answer
 
@@ -209,7 +224,7 @@ module _ (a : Answers) (k : ℕ) (h : JudgeInput) (v : Version) (known : IsKnown
       let first = used q t (asked_sought k m h.apex read.records q t) (not_keys t asked) f.0 f.1 in
       let by = first.0.by in
       let is : IsTrueRrset zone_here q t (record { datas = rrset q t; labels = by.fields.labels }) =
-      rrset_of h.apex hash v q t asked by.fields (rrset q t) by.covered (due_labels h.apex h.now q by.fields by.due) first.1 in
+      rrset_of h.apex hash v known.denials q t asked by.fields (rrset q t) by.covered (due_labels h.apex h.now q by.fields by.due) first.1 in
       subst (IsTrueRrset zone_here q t) ((λ i. record { datas = rrset q t; labels = (first.2 i).labels }) ∙ f.2) is
 
   pub question_true : IfSome (verified_rrset w k m read.records q t) (IsTrueRrset zone_here q t)
@@ -229,7 +244,7 @@ module _ (a : Answers) (k : ℕ) (h : JudgeInput) (v : Version) (known : IsKnown
       (kept_has (datum_of k m r.owner u) read.records r d i (ap (λ b. elim b as (λ _. Option (List ℕ)) [ true ↦ canonical_data k m r | false ↦ None ]) open_gate ∙ e))
 
   chain_found : (u : ℕ) (r : Spelled) (d : List ℕ) → is_added_type u ≡ true → eqb u 48 ≡ false → (u ≡ 51 → ⊥) → may_expand u ≡ false → (answer_sought k m h.apex read.records q t).is r.owner u ≡ true → Has read.records r → (r.class == 1) ≡ true → (r.rtype == u) ≡ true → canonical_data k m r ≡ Some d
-      → is_verified w k m read.records r.owner u (rrset r.owner u) ≡ true → IsChainRecord zone_here hash v.mode u r d
+      → is_verified w k m read.records r.owner u (rrset r.owner u) ≡ true → IsChainRecord zone_here hash v.mode v.made u r d
   chain_found u r d added not_keys other whole sought i class kind e verified = go x.by.fields x.by.covered labels is.rrset is.of is.tells
     where
       f : (f : Fields) × (verified_by w k m read.records r.owner u (rrset r.owner u) ≡ Some f)
@@ -250,10 +265,8 @@ module _ (a : Answers) (k : ℕ) (h : JudgeInput) (v : Version) (known : IsKnown
       inside : Has (rrset r.owner u) d
       inside = chain_datum u r d i class kind e
 
-      go : (f : Fields) → f.covered ≡ u → f.labels ≡ label_count r.owner → (g : SignedRrset) → IsRrsetOf h.apex hash v g → Tells f r.owner (rrset r.owner u) g → IsChainRecord zone_here hash v.mode u r d
-      go f c l g (OfZone signed datas) y = absurd (not_added h.apex v known.servable (low g.owner) g.rtype (ap is_added_type (sym y.covered ∙ c) ∙ added) (signed_has zone_here (low g.owner) g.rtype signed))
-      go f c l g (OfParameters o e) y = absurd (other (sym c ∙ y.covered ∙ e))
-      go f c l g (OfChain of) y = record {
+      denies : (f : Fields) → f.covered ≡ u → f.labels ≡ label_count r.owner → (g : SignedRrset) → IsOfChain zone_here hash v.mode g ⊎ Contains v.made g → Tells f r.owner (rrset r.owner u) g → IsChainRecord zone_here hash v.mode v.made u r d
+      denies f c l g of y = record {
         rrset = g;
         of = of;
         type_is = sym y.covered ∙ c;
@@ -261,9 +274,15 @@ module _ (a : Answers) (k : ℕ) (h : JudgeInput) (v : Version) (known : IsKnown
         data_is = λ e one. only_item (rrset r.owner u) e d (y.contents ∙ one) inside;
       }
 
+      go : (f : Fields) → f.covered ≡ u → f.labels ≡ label_count r.owner → (g : SignedRrset) → IsRrsetOf h.apex hash v g → Tells f r.owner (rrset r.owner u) g → IsChainRecord zone_here hash v.mode v.made u r d
+      go f c l g (OfZone signed datas) y = absurd (not_added h.apex v known.servable (low g.owner) g.rtype (ap is_added_type (sym y.covered ∙ c) ∙ added) (signed_has zone_here (low g.owner) g.rtype signed))
+      go f c l g (OfParameters o e) y = absurd (other (sym c ∙ y.covered ∙ e))
+      go f c l g (OfChain of) y = denies f c l g (inl of) y
+      go f c l g (OfMade i) y = denies f c l g (inr i) y
+
   -- ---- NSEC
 
-  pub next_record : (r : Spelled) (l : Link) → Has read.records r → link_at w k m read.records r ≡ Some l → IsNextRecord zone_here hash v.mode k m r l
+  pub next_record : (r : Spelled) (l : Link) → Has read.records r → link_at w k m read.records r ≡ Some l → IsNextRecord zone_here hash v.mode v.made k m r l
   next_record r l i e =
       let gate = when (is_link w k m read.records r) (link_of k m r) l e in
       let n = mapped (λ (n : Name × List ℕ). record { owner = r.owner; next = n.0; bits = n.1 }) (nsec_at k m r) l gate.1 in
@@ -277,7 +296,7 @@ module _ (a : Answers) (k : ℕ) (h : JudgeInput) (v : Version) (known : IsKnown
 
   -- ---- NSEC3
 
-  pub hash_record : (r : Spelled) (l : HashLink) → Has read.records r → hash_link_at w k m read.records r ≡ Some l → IsHashRecord zone_here hash v.mode m r l
+  pub hash_record : (r : Spelled) (l : HashLink) → Has read.records r → hash_link_at w k m read.records r ≡ Some l → IsHashRecord zone_here hash v.mode v.made m r l
   hash_record r l i e =
       let gate = when (is_hash_link w k m read.records r) (option_map (hash_link_with r.owner) (nsec3_at m r)) l e in
       let n = mapped (hash_link_with r.owner) (nsec3_at m r) l gate.1 in

@@ -10,13 +10,13 @@ use Rattle.denial_laws.specs.Laws.{IsSaidBy}
 use Rattle.denial_laws.specs.Truth.{is_added_type}
 use Rattle.denial_laws.proofs.Sound.{true_facts_decide_truly}
 use Rattle.messages.specs.Handed.{IsHanded}
-use Rattle.messages.proofs.Lists.{Has, all_at, all_sorted}
+use Rattle.messages.proofs.Lists.{Has, all_at, all_more, all_sorted}
 use Rattle.answer_scheme.specs.Answers.{Answers}
 use Rattle.answer_terms.specs.Accepting.{record_cmp}
 use Rattle.answer_terms.specs.Chainable.{HasChain}
 use Rattle.answer_terms.specs.Hashing.{Hasher, hash_in}
 use Rattle.answer_judge.specs.Honest.{AnswersHonest, IsHonestInput, FewIterations, HasOneRrset, IsSaidByOne, IsVersion, OneAtATime, SaysOneOf, Settled, Signing}
-use Rattle.answer_judge.specs.Versions.{Version, zone_in}
+use Rattle.answer_judge.specs.Versions.{IsMade, SignedRrset, Version, zone_in}
 use Rattle.answer_judge_facts.specs.Trusted.{is_usable}
 use Rattle.answer_judge.specs.Judged.{AnswersAs, judged, keys_of}
 use Rattle.answer_judge.specs.Judging.{Answer, JudgeInput, Refuses, Says}
@@ -26,7 +26,7 @@ use Rattle.answer_judge.proofs.GivenHashing.{hashes_agree}
 use Rattle.answer_judge.proofs.GivenLists.{contained_has, has_contained}
 use Rattle.answer_judge_facts.proofs.GivenSorted.{filter_from}
 use Rattle.answer_judge_facts.proofs.KeptItems.{passes_has}
-use Rattle.answer_judge.proofs.HonestFacts.{IsKnown}
+use Rattle.answer_judge.proofs.HonestFacts.{IsKnown, IsOfDenial}
 use Rattle.answer_judge.proofs.HonestKeys.{all_published}
 use Rattle.answer_judge.proofs.HonestTrue.{AreTrueHere, true_here}
 use Rattle.answer_judge.proofs.HonestUsed.{not_keys}
@@ -64,6 +64,11 @@ fits_records : (hash : Hasher) (z : Zone) (mode : Mode) → FewIterations mode �
 fits_records hash z Nsec few chain = tt
 fits_records hash z (Nsec3 iterations salt optout) few chain = (few, chain.octets)
 
+-- what was made is of the type of a record of denial
+denial_of : (z : Zone) (hash : Name → List ℕ) (mode : Mode) (q : Name) (g : SignedRrset) → IsMade z hash mode q g → IsOfDenial g
+denial_of z hash Nsec q g is = inl is.rtype_is
+denial_of z hash (Nsec3 iterations salt optout) q g is = inr is.rtype_is
+
 module _ (a : Answers) (k : ℕ) (h : JudgeInput) (versions : List Version) (x : IsHonestInput a k h versions) where
   version_is : (v : Version) → Has versions v → IsVersion a h v
   version_is v i = all_at (IsVersion a h) versions v x.versions_are i
@@ -71,7 +76,12 @@ module _ (a : Answers) (k : ℕ) (h : JudgeInput) (versions : List Version) (x :
   known_version : (v : Version) → Has versions v → IsKnown h.apex v
   known_version v i =
       let is : IsVersion a h v = version_is v i in
-      record { servable = is.in_order; apex_is = x.apex_is; handed = all_sorted IsHanded record_cmp v.records is.records_are }
+      record {
+        servable = is.in_order;
+        apex_is = x.apex_is;
+        handed = all_sorted IsHanded record_cmp v.records is.records_are;
+        denials = all_more (IsMade (zone_in h.apex v) (hash_in a.hash v.mode) v.mode h.asked.name) IsOfDenial v.made (denial_of (zone_in h.apex v) (hash_in a.hash v.mode) v.mode h.asked.name) is.truly;
+      }
 
   of_versions : (s : Signing) → Has x.signings s → Has versions s.version
   of_versions s i = has_contained versions s.version (all_at (λ (s : Signing). Contains versions s.version) x.signings s x.of_versions i)
@@ -93,10 +103,10 @@ module _ (a : Answers) (k : ℕ) (h : JudgeInput) (versions : List Version) (x :
       let fits : FitsRecords (zone_in h.apex version) version.mode hash = fits_records a.hash (zone_in h.apex version) version.mode is.few is.chain in
       let f : Facts = facts_of a k h said.keys said.answer in
       let here : AreTrueHere h.apex hash version h.asked.name h.asked.rtype f =
-      true_here a k h version.records said.answer usable asked x.answer_honest.octets_are version.mode (known_version version used.there) used.is_of fits in
+      true_here a k h version.records version.made said.answer usable asked x.answer_honest.octets_are version.mode (known_version version used.there) is.apart is.truly used.is_of fits in
       let agree = hashes_agree a.hash version.mode h.apex f.rrset f.links f.hash_links h.asked.name h.asked.rtype here.hashed in
       let truly : IsSaidBy (zone_in h.apex version) (Rattle.definitions.specs.ZoneChain.optout_of version.mode) h.asked.name h.asked.rtype v =
-      true_facts_decide_truly (zone_in h.apex version) hash version.mode f h.asked.name h.asked.rtype v is.in_order is.apart x.asked_is.rtype here.true_facts (sym agree ∙ said.decided) in
+      true_facts_decide_truly (zone_in h.apex version) hash version.mode f h.asked.name h.asked.rtype v is.in_order x.asked_is.rtype here.true_facts (sym agree ∙ said.decided) in
       record { version = version; there = contained_has versions version used.there; verdict_is = sym truly.0; no_alias = truly.1 }
 
   says_truly : (answer : Answer) → answer ≡ judged a k h → SaysOneOf h versions answer

@@ -18,7 +18,7 @@ use Rattle.answer_terms.specs.Hashing.{hash_in}
 use Rattle.answer_terms.proofs.KeyData.{key_read_back}
 use Rattle.answer_scheme.specs.Answers.{Answers}
 use Rattle.answer_judge.specs.Honest.{IsHonest, NoStranger, Signing, WasSigned, sought_of_keys}
-use Rattle.answer_judge.specs.Versions.{IsOfChain, IsRrsetOf, OfZone, OfChain, OfParameters, SignedRrset, Version, zone_in}
+use Rattle.answer_judge.specs.Versions.{IsOfChain, IsRrsetOf, OfZone, OfChain, OfMade, OfParameters, SignedRrset, Version, zone_in}
 use Rattle.answer_judge_facts.specs.Trusted.{is_trusted, is_usable, matches_key}
 use Rattle.answer_judge.specs.Judged.{ds_authenticates_keys, keys_of, trusting}
 use Rattle.answer_judge.specs.Judging.{JudgeInput}
@@ -26,7 +26,7 @@ use Rattle.answer_judge_facts.specs.DnskeyAnswer.{key_at, keys_in}
 use Rattle.answer_judge_facts.proofs.GivenKeys.{IsKeyData, data_of_key, key_data}
 use Rattle.answer_judge.proofs.GivenLists.{contained_has, has_contained}
 use Rattle.answer_judge_facts.proofs.GivenSorted.{data_has, sorted_from}
-use Rattle.answer_judge.proofs.HonestFacts.{IsKnown, not_added, signed_has}
+use Rattle.answer_judge.proofs.HonestFacts.{IsKnown, IsOfDenial, denial_no_key, not_added, signed_has}
 use Rattle.answer_judge_facts.proofs.KeptItems.{kept_from, passes_has}
 use Rattle.answer_judge.proofs.HonestReads.{IsDatum, ReadsRecord, data_read, message_read, octets_16, octets_join}
 use Rattle.answer_judge.proofs.HonestTold.{IsSignedOf, OfKeys, OfVersion, signed_of}
@@ -97,6 +97,7 @@ chain_other z hash (Nsec3 iterations salt optout) x is e = false≢true (ap (λ 
 no_keys : (apex : Name) (hash : Name → List ℕ) (v : Version) → IsKnown apex v → (g : SignedRrset) → IsRrsetOf apex hash v g → g.rtype ≡ 48 → ⊥
 no_keys apex hash v known g (OfZone signed datas) e = not_added apex v known.servable (low g.owner) g.rtype (ap is_added_type e) (signed_has (zone_in apex v) (low g.owner) g.rtype signed)
 no_keys apex hash v known g (OfChain is) e = chain_other (zone_in apex v) hash v.mode g is e
+no_keys apex hash v known g (OfMade i) e = denial_no_key g (all_at IsOfDenial v.made g known.denials (has_contained v.made g i)) e
 no_keys apex hash v known g (OfParameters o e) f = false≢true (ap (λ n. eqb n 48) (sym e ∙ f))
 
 module _ (a : Answers) (k : ℕ) (h : JudgeInput) (published : List Dnskey) (signings : List Signing) (known : (s : Signing) → Has signings s → IsKnown h.apex s.version) (read : Message)

@@ -87,7 +87,7 @@ signed_times apex mode rs at life g key = λ i. record {
 
 module _ (a : Answers) (apex : Name) (mode : Mode) (rs : List HandedRr) (published : List Dnskey) (signings : List Signing) (at life : ℕ) (apex_is : IsName apex) where
   abbrev v : Version
-  v = record { records = rs; mode = mode }
+  v = record { records = rs; mode = mode; made = [] }
 
   abbrev sorted : List HandedRr
   sorted = sorted_records rs

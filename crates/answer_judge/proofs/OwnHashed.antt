@@ -72,10 +72,10 @@ digits_low (a ∷ b ∷ c ∷ d ∷ e ∷ o) h = λ i.
 
 -- ---- flags
 
-abbrev flag : Bool → ℕ
+abbrev pub flag : Bool → ℕ
 flag b = if b then 1 else 0
 
-flag_back : (b : Bool) → (flag b == 1) ≡ b
+pub flag_back : (b : Bool) → (flag b == 1) ≡ b
 flag_back true = refl
 flag_back false = refl
 

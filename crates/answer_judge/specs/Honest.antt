@@ -20,7 +20,7 @@ use Rattle.answer_judge.specs.Judging.{Answer, Says, Refuses, JudgeInput}
 use Rattle.answer_judge_facts.specs.DnskeyAnswer.{keys_in}
 use Rattle.answer_judge_facts.specs.Sought.{Sought, answer_sought, keys_sought}
 use Rattle.answer_judge_facts.specs.Times.{Times, times_of}
-use Rattle.answer_judge.specs.Versions.{Version, SignedRrset, IsRrsetOf, zone_in}
+use Rattle.answer_judge.specs.Versions.{Version, SignedRrset, IsMade, IsRrsetOf, zone_in}
 
 -- ---- what was signed
 
@@ -115,13 +115,14 @@ FewIterations Nsec = Unit {0}
 FewIterations (Nsec3 iterations salt optout) = iterations < 65536
 
 -- A version of a zone in order: a chain can be made of its records, and the names of the chain share no hash with one another
--- or with a name that the question concerns.
+-- or with a name that the question concerns. Records of denial that were made say what is so.
 pub record IsVersion (a : Answers) (h : JudgeInput) (v : Version) : Type 0 where
   pub records_are : AllByRecursion IsHanded v.records
   pub in_order : IsServable (zone_in h.apex v)
   pub few : FewIterations v.mode
   pub chain : HasChain a.hash v.mode (zone_in h.apex v)
   pub apart : NoSharedHash (zone_in h.apex v) (hash_in a.hash v.mode) v.mode h.asked.name
+  pub truly : AllByRecursion (IsMade (zone_in h.apex v) (hash_in a.hash v.mode) v.mode h.asked.name) v.made
 
 -- Signatures that begin and end in the same seconds are of one version.
 abbrev pub OneAtATime : List Signing → Type 0

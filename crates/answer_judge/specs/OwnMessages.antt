@@ -1,5 +1,5 @@
 -- Nothing is forged in what a publisher gave, under whatever scheme: its signatures are over the RRsets that stand beside them.
-use Rattle.std.specs.Prelude.{◌≡◌, ◌<◌, ℕ, ◌+◌, ◌%◌, List, Contains}
+use Rattle.std.specs.Prelude.{◌≡◌, ◌<◌, ℕ, ◌+◌, ◌%◌, List, [], Contains}
 use Rattle.std.specs.List.{AllByRecursion}
 use Rattle.definitions.specs.Dnskey.{Dnskey}
 use Rattle.definitions.specs.Name.{IsName}
@@ -17,7 +17,7 @@ use Rattle.answer_judge.specs.OwnFacts.{TellsZone}
 -- records that are served with a chain, signed from a second on for so many seconds
 abbrev pub signing_of : Mode → List HandedRr → ℕ → ℕ → Signing
 signing_of mode rs at life = record {
-  version = record { records = rs; mode = mode };
+  version = record { records = rs; mode = mode; made = [] };
   times = record { inception = at % 4294967296; expiration = (at + life) % 4294967296 };
 }
 

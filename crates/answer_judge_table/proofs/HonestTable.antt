@@ -29,7 +29,7 @@ module _ (fewer passes : Tried → Bool) (true_are : AreTrue fewer passes) (k : 
   }
 
   version_stays : (v : Version) → IsVersion (answers_with passes) h v → IsVersion (answers_with fewer) h v
-  version_stays v is = record { records_are = is.records_are; in_order = is.in_order; few = is.few; chain = is.chain; apart = is.apart }
+  version_stays v is = record { records_are = is.records_are; in_order = is.in_order; few = is.few; chain = is.chain; apart = is.apart; truly = is.truly }
 
   versions_stay : (versions : List Version) → AllByRecursion (IsVersion (answers_with passes) h) versions → AllByRecursion (IsVersion (answers_with fewer) h) versions
   versions_stay [] are = tt

@@ -186,6 +186,7 @@ versions_are w at set keys bytes asked (rs ∷ all) is apart = (
     few = few_within w.answers.hash (zone_of w.zone.apex rs) w.zone.mode w.zone.limit is.0.short_limit is.0.accepted.faultless.within_limit is.0.accepted.chain;
     chain = is.0.accepted.chain;
     apart = apart.0;
+    truly = tt;
   },
   versions_are w at set keys bytes asked all is.1 apart.1,
 )

@@ -29,7 +29,7 @@ use Rattle.answer_laws.specs.ThroughRolls.{past_with}
 
 -- the zone where it has these records; its chain stays as it is
 abbrev pub version_of : World → List HandedRr → Version
-version_of w rs = record { records = rs; mode = w.zone.mode }
+version_of w rs = record { records = rs; mode = w.zone.mode; made = [] }
 
 -- The versions that were signed, each at the times of a zone answer that was handed out, with one more event. A DNSKEY answer
 -- has no RRset of a version, and what is refused hands nothing out.

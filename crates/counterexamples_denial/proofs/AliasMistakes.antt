@@ -9,6 +9,7 @@ use Rattle.denial_laws.specs.Truth.{IsTrueLink, IsTrueHashLink}
 use Rattle.counterexamples_denial.specs.Mistakes.{without_aliases, without_redirections}
 use Rattle.counterexamples_denial.specs.Falsely.{DecidesFalsely}
 use Rattle.counterexamples_denial.proofs.WireHash.{none_shared}
+use Rattle.counterexamples_denial.proofs.ChainsSay.{hashes_say, links_say}
 use Rattle.counterexamples_denial.proofs.Zones.{example, b, link, hash_link, by_links, by_hashes, hashed_apex_bits, hashed_apex_spelled}
 use Rattle.counterexamples_denial.proofs.AliasZones.{aliasing, redirecting, aliasing_served, redirecting_served, cname_bits, dname_bits, hashed_cname_bits, hashed_dname_bits, cname_spelled, dname_spelled, hashed_cname_spelled, hashed_dname_spelled}
 
@@ -26,9 +27,8 @@ aliases_falsely = record {
   rtype = 1;
   said = NoType;
   servable = aliasing_served;
-  unshared = tt;
   fits = omega arith;
-  holds = record { rrset = tt; chain = ((alias_holds, tt), refl) };
+  holds = record { rrset = tt; said = links_say aliasing aliasing_served b (by_links (link b example cname_bits ∷ [])) ((alias_holds, tt), refl) };
   says = refl;
   otherwise = λ e. let n : true ≡ false = e.1 in cc;
 }
@@ -53,9 +53,8 @@ hashed_aliases_falsely = record {
   rtype = 1;
   said = NoType;
   servable = aliasing_served;
-  unshared = none_shared aliasing (Nsec3 0 [] false) b;
   fits = omega arith;
-  holds = record { rrset = tt; chain = (refl, (hashed_alias_holds, tt)) };
+  holds = record { rrset = tt; said = hashes_say aliasing aliasing_served false b (by_hashes (hash_link false b example hashed_cname_bits ∷ [])) (refl, (hashed_alias_holds, tt)) };
   says = refl;
   otherwise = λ e. let n : true ≡ false = e.1 in cc;
 }
@@ -77,9 +76,8 @@ redirections_falsely = record {
   rtype = 1;
   said = NoName;
   servable = redirecting_served;
-  unshared = tt;
   fits = omega arith;
-  holds = record { rrset = tt; chain = ((redirect_holds, tt), refl) };
+  holds = record { rrset = tt; said = links_say redirecting redirecting_served x_b (by_links (link b example dname_bits ∷ [])) ((redirect_holds, tt), refl) };
   says = refl;
   otherwise = λ e. let n : true ≡ false = e.1 in cc;
 }
@@ -114,9 +112,8 @@ hashed_redirections_falsely = record {
   rtype = 1;
   said = NoName;
   servable = redirecting_served;
-  unshared = none_shared redirecting (Nsec3 0 [] false) x_b;
   fits = omega arith;
-  holds = record { rrset = tt; chain = (refl, (hashed_redirect_holds, (above_holds, tt))) };
+  holds = record { rrset = tt; said = hashes_say redirecting redirecting_served false x_b (by_hashes (hash_link false b example hashed_dname_bits ∷ hash_link false example b hashed_apex_bits ∷ [])) (refl, (hashed_redirect_holds, (above_holds, tt))) };
   says = refl;
   otherwise = λ e. let n : true ≡ false = e.1 in cc;
 }

@@ -9,6 +9,7 @@ use Rattle.counterexamples_denial.specs.Mistakes.{all_open, without_delegations,
 use Rattle.counterexamples_denial.specs.Falsely.{DecidesFalsely}
 use Rattle.counterexamples_denial.proofs.WireHash.{none_shared}
 use Rattle.counterexamples_denial.proofs.NsecMistakes.{star_rrset, star_rrset_holds}
+use Rattle.counterexamples_denial.proofs.ChainsSay.{hashes_say}
 use Rattle.counterexamples_denial.proofs.Zones.{example, star, b, d, bare, delegating, starred, beside, bare_served, delegating_served, starred_served, beside_served, hash_link, by_hashes, hashed_apex_bits, hashed_address_bits, hashed_delegation_bits, hashed_apex_spelled, hashed_address_spelled, hashed_delegation_spelled}
 
 -- nothing is looked at: the SOA record is there, and is left open
@@ -21,9 +22,8 @@ hashed_open_falsely = record {
   rtype = 6;
   said = Open;
   servable = bare_served;
-  unshared = none_shared bare (Nsec3 0 [] true) example;
   fits = omega arith;
-  holds = record { rrset = tt; chain = (refl, tt) };
+  holds = record { rrset = tt; said = hashes_say bare bare_served true example (by_hashes []) (refl, tt) };
   says = refl;
   otherwise = λ e. let n : Open ≡ Records ((1 ∷ []) ∷ []) = e.0 in cc;
 }
@@ -59,9 +59,8 @@ hashed_delegations_falsely = record {
   rtype = 1;
   said = NoName;
   servable = delegating_served;
-  unshared = none_shared delegating (Nsec3 0 [] false) (codes "y" ∷ d);
   fits = omega arith;
-  holds = record { rrset = tt; chain = (refl, (cut_holds, (above_holds, tt))) };
+  holds = record { rrset = tt; said = hashes_say delegating delegating_served false (codes "y" ∷ d) (by_hashes (hash_link false d example hashed_delegation_bits ∷ hash_link false example d hashed_apex_bits ∷ [])) (refl, (cut_holds, (above_holds, tt))) };
   says = refl;
   otherwise = λ e. let n : NoName ≡ Delegated = e.0 in cc;
 }
@@ -76,9 +75,8 @@ hashed_child_types_falsely = record {
   rtype = 1;
   said = NoType;
   servable = delegating_served;
-  unshared = none_shared delegating (Nsec3 0 [] false) d;
   fits = omega arith;
-  holds = record { rrset = tt; chain = (refl, (cut_holds, tt)) };
+  holds = record { rrset = tt; said = hashes_say delegating delegating_served false d (by_hashes (hash_link false d example hashed_delegation_bits ∷ [])) (refl, (cut_holds, tt)) };
   says = refl;
   otherwise = λ e. let n : NoType ≡ Delegated = e.0 in cc;
 }
@@ -114,9 +112,8 @@ hashed_wildcards_falsely = record {
   rtype = 1;
   said = NoName;
   servable = starred_served;
-  unshared = none_shared starred (Nsec3 0 [] false) b;
   fits = omega arith;
-  holds = record { rrset = tt; chain = (refl, (star_holds, (apex_holds, tt))) };
+  holds = record { rrset = tt; said = hashes_say starred starred_served false b (by_hashes (hash_link false star example hashed_address_bits ∷ hash_link false example star hashed_apex_bits ∷ [])) (refl, (star_holds, (apex_holds, tt))) };
   says = refl;
   otherwise = λ e. let n : NoName ≡ StarRecords ((192 ∷ 0 ∷ 2 ∷ 1 ∷ []) ∷ []) = e.0 in cc;
 }
@@ -141,9 +138,8 @@ hashed_label_counts_falsely = record {
   rtype = 1;
   said = StarRecords ((192 ∷ 0 ∷ 2 ∷ 1 ∷ []) ∷ []);
   servable = beside_served;
-  unshared = none_shared beside (Nsec3 0 [] false) (codes "x" ∷ b);
   fits = omega arith;
-  holds = record { rrset = star_rrset_holds; chain = (refl, (beside_holds, tt)) };
+  holds = record { rrset = star_rrset_holds; said = hashes_say beside beside_served false (codes "x" ∷ b) (record { rrset = Some star_rrset; links = []; hash_links = hash_link false b example hashed_address_bits ∷ [] }) (refl, (beside_holds, tt)) };
   says = refl;
   otherwise = λ e. let n : StarRecords ((192 ∷ 0 ∷ 2 ∷ 1 ∷ []) ∷ []) ≡ NoName = e.0 in cc;
 }
@@ -169,9 +165,8 @@ opt_out_falsely = record {
   rtype = 1;
   said = NoName;
   servable = delegating_served;
-  unshared = none_shared delegating (Nsec3 0 [] true) d;
   fits = omega arith;
-  holds = record { rrset = tt; chain = (refl, (alone_holds, tt)) };
+  holds = record { rrset = tt; said = hashes_say delegating delegating_served true d (by_hashes (hash_link true example example hashed_apex_bits ∷ [])) (refl, (alone_holds, tt)) };
   says = refl;
   otherwise = λ e. let n : NoName ≡ Open = e.0 in cc;
 }

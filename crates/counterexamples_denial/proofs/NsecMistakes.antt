@@ -8,6 +8,7 @@ use Rattle.denial_laws.specs.Facts.{Rrset}
 use Rattle.denial_laws.specs.Truth.{IsTrueLink, IsTrueRrset}
 use Rattle.counterexamples_denial.specs.Mistakes.{all_open, nothing, without_delegations, without_child_types, without_wildcards, without_label_counts, by_wire_octets, without_non_terminals}
 use Rattle.counterexamples_denial.specs.Falsely.{DecidesFalsely, MissesOwnAnswer}
+use Rattle.counterexamples_denial.proofs.ChainsSay.{links_say}
 use Rattle.counterexamples_denial.proofs.Zones.{example, star, b, d, a_b, star_a, aa_b, b_b, bare, delegating, starred, beside, deep, crossed, bare_served, delegating_served, starred_served, beside_served, deep_served, crossed_served, link, by_links, apex_bits, address_bits, delegation_bits, apex_spelled, address_spelled, delegation_spelled}
 
 -- nothing is looked at: the SOA record is there, and is left open
@@ -20,9 +21,8 @@ open_falsely = record {
   rtype = 6;
   said = Open;
   servable = bare_served;
-  unshared = tt;
   fits = omega arith;
-  holds = record { rrset = tt; chain = (tt, refl) };
+  holds = record { rrset = tt; said = links_say bare bare_served example (by_links []) (tt, refl) };
   says = refl;
   otherwise = λ e. let n : Open ≡ Records ((1 ∷ []) ∷ []) = e.0 in cc;
 }
@@ -56,9 +56,8 @@ delegations_falsely = record {
   rtype = 1;
   said = NoName;
   servable = delegating_served;
-  unshared = tt;
   fits = omega arith;
-  holds = record { rrset = tt; chain = ((cut_holds, tt), refl) };
+  holds = record { rrset = tt; said = links_say delegating delegating_served (codes "y" ∷ d) (by_links (link d example delegation_bits ∷ [])) ((cut_holds, tt), refl) };
   says = refl;
   otherwise = λ e. let n : NoName ≡ Delegated = e.0 in cc;
 }
@@ -73,9 +72,8 @@ child_types_falsely = record {
   rtype = 1;
   said = NoType;
   servable = delegating_served;
-  unshared = tt;
   fits = omega arith;
-  holds = record { rrset = tt; chain = ((cut_holds, tt), refl) };
+  holds = record { rrset = tt; said = links_say delegating delegating_served d (by_links (link d example delegation_bits ∷ [])) ((cut_holds, tt), refl) };
   says = refl;
   otherwise = λ e. let n : NoType ≡ Delegated = e.0 in cc;
 }
@@ -93,9 +91,8 @@ wildcards_falsely = record {
   rtype = 1;
   said = NoName;
   servable = starred_served;
-  unshared = tt;
   fits = omega arith;
-  holds = record { rrset = tt; chain = ((star_holds, tt), refl) };
+  holds = record { rrset = tt; said = links_say starred starred_served b (by_links (link star example address_bits ∷ [])) ((star_holds, tt), refl) };
   says = refl;
   otherwise = λ e. let n : NoName ≡ StarRecords ((192 ∷ 0 ∷ 2 ∷ 1 ∷ []) ∷ []) = e.0 in cc;
 }
@@ -119,9 +116,8 @@ label_counts_falsely = record {
   rtype = 1;
   said = StarRecords ((192 ∷ 0 ∷ 2 ∷ 1 ∷ []) ∷ []);
   servable = beside_served;
-  unshared = tt;
   fits = omega arith;
-  holds = record { rrset = star_rrset_holds; chain = ((beside_holds, tt), refl) };
+  holds = record { rrset = star_rrset_holds; said = links_say beside beside_served (codes "x" ∷ b) (record { rrset = Some star_rrset; links = link b example address_bits ∷ []; hash_links = [] }) ((beside_holds, tt), refl) };
   says = refl;
   otherwise = λ e. let n : StarRecords ((192 ∷ 0 ∷ 2 ∷ 1 ∷ []) ∷ []) ≡ NoName = e.0 in cc;
 }
@@ -143,9 +139,8 @@ wire_octets_falsely = record {
   rtype = 1;
   said = NoName;
   servable = crossed_served;
-  unshared = tt;
   fits = omega arith;
-  holds = record { rrset = tt; chain = ((first_holds, (last_holds, tt)), refl) };
+  holds = record { rrset = tt; said = links_say crossed crossed_served aa_b (by_links (link star_a aa_b address_bits ∷ link b_b example address_bits ∷ [])) ((first_holds, (last_holds, tt)), refl) };
   says = refl;
   otherwise = λ e. let n : NoName ≡ Records ((192 ∷ 0 ∷ 2 ∷ 1 ∷ []) ∷ []) = e.0 in cc;
 }
@@ -163,9 +158,8 @@ non_terminals_falsely = record {
   rtype = 1;
   said = NoName;
   servable = deep_served;
-  unshared = tt;
   fits = omega arith;
-  holds = record { rrset = tt; chain = ((deep_holds, tt), refl) };
+  holds = record { rrset = tt; said = links_say deep deep_served b (by_links (link example a_b apex_bits ∷ [])) ((deep_holds, tt), refl) };
   says = refl;
   otherwise = λ e. let n : NoName ≡ NoType = e.0 in cc;
 }

@@ -10,7 +10,7 @@ same_rules apex hash f q t = refl
 pub never_false : RightChoicesAreNeverFalse
 never_false mode d =
     let says = sym (same_rules d.zone.name d.hash d.facts d.name d.rtype) ∙ d.says in
-    d.otherwise (true_facts_decide_truly d.zone d.hash mode d.facts d.name d.rtype d.said d.servable d.unshared d.fits d.holds says)
+    d.otherwise (true_facts_decide_truly d.zone d.hash mode d.facts d.name d.rtype d.said d.servable d.fits d.holds says)
 
 pub none_missed : RightChoicesMissNothing
 none_missed mode d =

@@ -22,7 +22,6 @@ pub record DecidesFalsely (rule : Rule) (mode : Mode) : Type 0 where
   pub rtype : ℕ
   pub said : Verdict
   pub servable : IsServable zone
-  pub unshared : NoSharedHash zone hash mode name
   pub fits : rtype < 65536
   pub holds : AreTrue zone hash mode name rtype facts
   pub says : rule zone.name hash facts name rtype ≡ Some said

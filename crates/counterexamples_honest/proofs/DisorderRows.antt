@@ -59,7 +59,7 @@ alias_is = record {
   keys_octets = refl;
   answer_octets = refl;
   some = λ e. cc;
-  versions_are = (record { records_are = (soa_is, (opaque a 5 (wire x) a_is refl, (opaque a 1 address a_is refl, tt))); in_order = alias_order; few = tt; chain = tt }, tt);
+  versions_are = (record { records_are = (soa_is, (opaque a 5 (wire x) a_is refl, (opaque a 1 address a_is refl, tt))); in_order = alias_order; few = tt; chain = tt; truly = λ _. tt }, tt);
   of_versions = (at_place (beside_alias ∷ []) beside_alias 0 refl refl, tt);
 }
 
@@ -124,7 +124,7 @@ below_is = record {
   keys_octets = refl;
   answer_octets = refl;
   some = λ e. cc;
-  versions_are = (record { records_are = (soa_is, (opaque b 39 (wire x) b_is refl, (opaque x_b 1 address x_b_is refl, tt))); in_order = below_order; few = tt; chain = tt }, tt);
+  versions_are = (record { records_are = (soa_is, (opaque b 39 (wire x) b_is refl, (opaque x_b 1 address x_b_is refl, tt))); in_order = below_order; few = tt; chain = tt; truly = λ _. tt }, tt);
   of_versions = (at_place (below_redirect ∷ []) below_redirect 0 refl refl, tt);
 }
 
@@ -213,7 +213,7 @@ cut_is = record {
   keys_octets = refl;
   answer_octets = refl;
   some = λ e. cc;
-  versions_are = (record { records_are = (soa_is, (delegation b x b_is x_is refl, (opaque b 39 (wire x) b_is refl, tt))); in_order = cut_order; few = tt; chain = tt }, tt);
+  versions_are = (record { records_are = (soa_is, (delegation b x b_is x_is refl, (opaque b 39 (wire x) b_is refl, tt))); in_order = cut_order; few = tt; chain = tt; truly = λ _. tt }, tt);
   of_versions = (at_place (cut_redirect ∷ []) cut_redirect 0 refl refl, tt);
 }
 
@@ -281,7 +281,7 @@ hand_is = record {
   keys_octets = refl;
   answer_octets = refl;
   some = λ e. cc;
-  versions_are = (record { records_are = (soa_is, (opaque a 1 address a_is refl, (opaque example 47 next_handed example_is refl, tt))); in_order = hand_order; few = tt; chain = tt }, tt);
+  versions_are = (record { records_are = (soa_is, (opaque a 1 address a_is refl, (opaque example 47 next_handed example_is refl, tt))); in_order = hand_order; few = tt; chain = tt; truly = λ _. tt }, tt);
   of_versions = (at_place (chained_by_hand ∷ []) chained_by_hand 0 refl refl, tt);
 }
 

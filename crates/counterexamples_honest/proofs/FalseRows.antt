@@ -257,7 +257,7 @@ bare_chain = record {
 }
 
 bare_row : IsInOrder without_hashes_apart bare
-bare_row = record { records_are = bare_is; in_order = in_order without_hashes_apart (zone_in example bare) bare_served; few = ltb-true 0 65536 refl; chain = bare_chain }
+bare_row = record { records_are = bare_is; in_order = in_order without_hashes_apart (zone_in example bare) bare_served; few = ltb-true 0 65536 refl; chain = bare_chain; truly = λ _. tt }
 
 hashed_is : IsRow without_hashes_apart hashed_at
 unfolding octet_of window_size window_count

@@ -18,7 +18,7 @@ use Rattle.counterexamples_honest.specs.Rows.{forged_late, next_of_b, of_strange
 use Rattle.counterexamples_honest.specs.World.{a, address, b, ds, example, false_address, fields, own_key, plain, star, stranger, x_b}
 use Rattle.counterexamples_honest.proofs.Dealt.{at_place, foreign, late, no_signature, signed, unforged}
 use Rattle.counterexamples_honest.proofs.Known.{foreign_known, no_stranger}
-use Rattle.counterexamples_honest.proofs.OwnKeys.{a_is, b_is, in_order, item, own_keys_known, own_keys_unforged, read_of, signed_from, small_is, small_served, star_is, starred_is, starred_served, x_b_is}
+use Rattle.counterexamples_honest.proofs.OwnKeys.{a_is, b_is, in_order, item, own_keys_known, own_keys_unforged, read_of, signed_from, small_is, small_served, star_is, starred_is, starred_served, where_all, x_b_is}
 use Rattle.counterexamples_honest.proofs.Premises.{all_honest}
 use Rattle.counterexamples_honest.proofs.Row.{AnswerUnforged, IsInOrder, IsRow, KeysUnforged, Row, SignedOf, handed_in, honest_in, of_version, own_published}
 
@@ -37,7 +37,7 @@ own_at = record {
 }
 
 pub small_row : (p : Premises) → IsInOrder p small
-small_row p = record { records_are = small_is; in_order = in_order p (zone_in example small) small_served; few = tt; chain = tt }
+small_row p = record { records_are = small_is; in_order = in_order p (zone_in example small) small_served; few = tt; chain = tt; truly = λ _. where_all p.denials_true tt }
 
 own_is : IsRow all own_at
 own_is = record { name_is = a_is; type_fits = refl; keys_octets = refl; answer_octets = refl; some = λ e. cc; versions_are = (small_row all, tt); of_versions = (at_place (small ∷ []) small 0 refl refl, tt) }
@@ -82,7 +82,7 @@ spliced_at = record {
 }
 
 starred_row : IsInOrder all starred
-starred_row = record { records_are = starred_is; in_order = in_order all (zone_in example starred) starred_served; few = tt; chain = tt }
+starred_row = record { records_are = starred_is; in_order = in_order all (zone_in example starred) starred_served; few = tt; chain = tt; truly = λ _. tt }
 
 spliced_is : IsRow all spliced_at
 unfolding octet_of window_size window_count

@@ -4,6 +4,7 @@ pub mod DisorderRows
 pub mod Handed
 pub mod HonestRows
 pub mod Known
+pub mod MadeRows
 pub mod Mixtures
 pub mod OwnKeys
 pub mod Premises

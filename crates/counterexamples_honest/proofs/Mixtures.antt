@@ -18,7 +18,7 @@ use Rattle.counterexamples_honest.specs.Premises.{IsMixture, Premises, SaysFalse
 use Rattle.counterexamples_honest.specs.Rows.{first_version, mixed, mixed_answer, mixed_at_once, next_of_apex_later, next_of_b, own_keys, second_version}
 use Rattle.counterexamples_honest.specs.World.{b, ds, example, fields, own_key, plain, x}
 use Rattle.counterexamples_honest.proofs.Dealt.{at_place, no_signature, signed, unforged}
-use Rattle.counterexamples_honest.proofs.OwnKeys.{b_is, example_is, first_is, first_served, in_order, item, own_keys_known, own_keys_unforged, read_of, second_is, second_served, signed_from, x_is}
+use Rattle.counterexamples_honest.proofs.OwnKeys.{b_is, example_is, first_is, first_served, in_order, item, own_keys_known, own_keys_unforged, read_of, second_is, second_served, signed_from, where_all, x_is}
 use Rattle.counterexamples_honest.proofs.Premises.{all_honest}
 use Rattle.counterexamples_honest.proofs.Row.{AnswerUnforged, IsInOrder, IsRow, Row, SignedOf, handed_in, honest_in, of_version, own_published}
 
@@ -39,10 +39,10 @@ mixed_row later = record {
 }
 
 pub first_row : (p : Premises) → IsInOrder p first_version
-first_row p = record { records_are = first_is; in_order = in_order p (zone_in example first_version) first_served; few = tt; chain = tt }
+first_row p = record { records_are = first_is; in_order = in_order p (zone_in example first_version) first_served; few = tt; chain = tt; truly = λ _. where_all p.denials_true tt }
 
 pub second_row : (p : Premises) → IsInOrder p second_version
-second_row p = record { records_are = second_is; in_order = in_order p (zone_in example second_version) second_served; few = tt; chain = tt }
+second_row p = record { records_are = second_is; in_order = in_order p (zone_in example second_version) second_served; few = tt; chain = tt; truly = λ _. where_all p.denials_true tt }
 
 pub of_first : Contains both first_version
 of_first = at_place both first_version 0 refl refl

@@ -80,7 +80,7 @@ no_type z t none o h =
     let kind : (r.0.rtype == t) ≡ true = (and_parts (labels_eq (low r.0.spelled) o) (r.0.rtype == t) r.1.1).1 in
     false≢true (sym (all_at (λ (x : Rr). (x.rtype == t) ≡ false) z.records r.0 (all_fail (λ (x : Rr). x.rtype == t) z.records none) (in_has z.records r.0 r.1.0)) ∙ kind)
 
-where_all : {A : Type 0} (b : Bool) → A → Where b A
+pub where_all : {A : Type 0} (b : Bool) → A → Where b A
 where_all true a = a
 where_all false a = tt
 

@@ -28,6 +28,7 @@ is_version a h v x = record {
   few = x.few;
   chain = x.chain;
   apart = x.apart;
+  truly = x.truly;
 }
 
 -- what was signed of published keys was signed of published keys

@@ -144,7 +144,7 @@ idle_row = record {
     signings = [];
     apex_is = example_is;
     one = λ e. cc;
-    versions_are = (record { records_are = (small_row all).records_are; in_order = (small_row all).in_order; few = tt; chain = tt; apart = tt }, tt);
+    versions_are = (record { records_are = (small_row all).records_are; in_order = (small_row all).in_order; few = tt; chain = tt; apart = tt; truly = tt }, tt);
     asked_is = question a 1 a_is refl;
     flags_are = (ltb-true 257 65536 refl, (ltb-true 0 65536 refl, tt));
     keys_octets = small_octets idle_keys refl;
@@ -222,7 +222,7 @@ alias_is = record {
   keys_octets = refl;
   answer_octets = refl;
   some = λ e. cc;
-  versions_are = (record { records_are = (soa_is, (opaque a 5 (wire x) a_is refl, tt)); in_order = in_order all (zone_in example aliased) aliased_served; few = tt; chain = tt }, tt);
+  versions_are = (record { records_are = (soa_is, (opaque a 5 (wire x) a_is refl, tt)); in_order = in_order all (zone_in example aliased) aliased_served; few = tt; chain = tt; truly = λ _. tt }, tt);
   of_versions = (at_place (aliased ∷ []) aliased 0 refl refl, tt);
 }
 
@@ -308,7 +308,7 @@ redirect_is = record {
   keys_octets = refl;
   answer_octets = refl;
   some = λ e. cc;
-  versions_are = (record { records_are = (soa_is, (opaque b 39 (wire x) b_is refl, tt)); in_order = in_order all (zone_in example redirected) redirected_served; few = tt; chain = tt }, tt);
+  versions_are = (record { records_are = (soa_is, (opaque b 39 (wire x) b_is refl, tt)); in_order = in_order all (zone_in example redirected) redirected_served; few = tt; chain = tt; truly = λ _. tt }, tt);
   of_versions = (at_place (redirected ∷ []) redirected 0 refl refl, tt);
 }
 

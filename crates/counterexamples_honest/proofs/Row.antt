@@ -13,7 +13,7 @@ use Rattle.messages.specs.Handed.{IsHanded}
 use Rattle.answer_terms.specs.Chainable.{HasChain}
 use Rattle.answer_terms.specs.Hashing.{hash_in}
 use Rattle.answer_judge.specs.Honest.{FewIterations, IsSaidByOne, NoStranger, NothingForged, Settled, Signing, WasSigned, SignedOfVersion, is_alias_in, sought_of_answer, sought_of_keys, verdict_of}
-use Rattle.answer_judge.specs.Versions.{IsRrsetOf, Version, zone_in}
+use Rattle.answer_judge.specs.Versions.{IsMade, IsRrsetOf, Version, zone_in}
 use Rattle.answer_judge.specs.Judging.{JudgeInput}
 use Rattle.answer_judge.proofs.GivenLists.{has_contained}
 use Rattle.counterexamples_honest.specs.Premises.{AreHonestIn, IsServableIn, IsVersionIn, Premises, Where}
@@ -43,6 +43,7 @@ pub record IsInOrder (p : Premises) (v : Version) : Type 0 where
   pub in_order : IsServableIn p (zone_in example v)
   pub few : FewIterations v.mode
   pub chain : HasChain plain.hash v.mode (zone_in example v)
+  pub truly : (q : Name) → Where p.denials_true (AllByRecursion (IsMade (zone_in example v) (hash_in plain.hash v.mode) v.mode q) v.made)
 
 -- names and octets are such, and each version is one
 pub record IsRow (p : Premises) (r : Row) : Type 0 where
@@ -86,7 +87,7 @@ versions_in : (p : Premises) (r : Row) (versions : List Version) → AllByRecurs
 versions_in p r [] are apart = tt
 versions_in p r (v ∷ versions) are apart =
     let is : IsInOrder p v = are.0 in
-    (record { records_are = is.records_are; in_order = is.in_order; few = is.few; chain = is.chain; apart = apart.0 }, versions_in p r versions are.1 apart.1)
+    (record { records_are = is.records_are; in_order = is.in_order; few = is.few; chain = is.chain; apart = apart.0; truly = is.truly r.name }, versions_in p r versions are.1 apart.1)
 
 pub honest_in : (p : Premises) (r : Row) → IsRow p r
     → Where p.ds_some (r.set ≡ [] → ⊥)

@@ -13,7 +13,7 @@ use Rattle.answer_terms.specs.Chainable.{HasChain}
 use Rattle.answer_terms.specs.Hashing.{hash_in}
 use Rattle.answer_scheme.specs.Answers.{Answers}
 use Rattle.answer_judge.specs.Honest.{AnswersHonest, IsHonestInput, FewIterations, IsSaidByOne, NoStranger, NothingForged, Settled, Signing, WasSigned, sought_of_answer, sought_of_keys}
-use Rattle.answer_judge.specs.Versions.{Version, zone_in}
+use Rattle.answer_judge.specs.Versions.{IsMade, Version, zone_in}
 use Rattle.answer_judge.specs.Judged.{judged}
 use Rattle.answer_judge.specs.Judging.{Answer, JudgeInput, Refuses, Says}
 use Rattle.answer_judge.specs.declared.verdict.Refusal.TheVariants.{MixedVersions}
@@ -33,6 +33,8 @@ pub record Premises : Type 0 where
   -- the names of the chain have different hashes, and no name of the chain shares its hash with another name that the
   -- question concerns
   pub hashes_apart : Bool
+  -- records of denial that were made for questions say what is so
+  pub denials_true : Bool
   -- the zone never changed, or signatures must be of one moment and at one moment it had one version, or one RRset of the
   -- zone answer is signed
   pub settled : Bool
@@ -53,6 +55,7 @@ all = record {
   keys_known = true;
   answer_unforged = true;
   hashes_apart = true;
+  denials_true = true;
   settled = true;
   ordinary = true;
   alone = true;
@@ -79,6 +82,9 @@ without_answer_unforged = record all { answer_unforged = false }
 
 abbrev pub without_hashes_apart : Premises
 without_hashes_apart = record all { hashes_apart = false }
+
+abbrev pub without_denials_true : Premises
+without_denials_true = record all { denials_true = false }
 
 abbrev pub without_settled : Premises
 without_settled = record all { settled = false }
@@ -118,6 +124,7 @@ pub record IsVersionIn (p : Premises) (a : Answers) (h : JudgeInput) (v : Versio
   pub few : FewIterations v.mode
   pub chain : HasChain a.hash v.mode (zone_in h.apex v)
   pub apart : Where p.hashes_apart (NoSharedHash (zone_in h.apex v) (hash_in a.hash v.mode) v.mode h.asked.name)
+  pub truly : Where p.denials_true (AllByRecursion (IsMade (zone_in h.apex v) (hash_in a.hash v.mode) v.mode h.asked.name) v.made)
 
 -- What is handed in is honest as far as some premises ask. Keys that stand in DNSKEY RRsets which were signed are signed keys.
 pub record AreHonestIn (p : Premises) (a : Answers) (h : JudgeInput) (versions : List Version) : Type 0 where

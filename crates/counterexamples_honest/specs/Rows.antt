@@ -15,7 +15,7 @@ use Rattle.counterexamples_honest.specs.World.{a, address, address_of, alias_of,
 
 -- with a chain of names
 abbrev pub by_names : List HandedRr → Version
-by_names rs = record { records = rs; mode = Nsec }
+by_names rs = record { records = rs; mode = Nsec; made = [] }
 
 -- an address
 abbrev pub small : Version
@@ -27,7 +27,7 @@ starred = by_names (soa ∷ address_of star ∷ address_of b ∷ [])
 
 -- the apex alone, with a chain of hashes
 abbrev pub bare : Version
-bare = record { records = soa ∷ []; mode = Nsec3 0 [] false }
+bare = record { records = soa ∷ []; mode = Nsec3 0 [] false; made = [] }
 
 -- a wildcard's text beside an address, and later a text of a name's own
 abbrev pub first_version : Version
@@ -56,6 +56,12 @@ next_handed = wire example ++ bitmap (6 ∷ 46 ∷ 47 ∷ 48 ∷ [])
 
 abbrev pub chained_by_hand : Version
 chained_by_hand = by_names (soa ∷ address_of a ∷ handed example 47 next_handed ∷ [])
+
+-- ---- records of denial that were made
+
+-- one that denies an address which is there
+abbrev pub lied : Version
+lied = record small { made = record { owner = example; rtype = 47; datas = next_handed ∷ [] } ∷ [] }
 
 -- ---- DNSKEY answers
 

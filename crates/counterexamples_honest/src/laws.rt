@@ -10,6 +10,7 @@ ghost use Rattle.counterexamples_honest.specs.Premises.{AllAreHonest, IsHonestCa
 ghost use Rattle.counterexamples_honest.specs.Premises.{NoneIsFalse, RefusesFalsehood};
 ghost use Rattle.counterexamples_honest.specs.Premises.{SaysFalsely, without_alone};
 ghost use Rattle.counterexamples_honest.specs.Premises.{without_answer_unforged, without_childless};
+ghost use Rattle.counterexamples_honest.specs.Premises.{without_denials_true};
 ghost use Rattle.counterexamples_honest.specs.Premises.{without_ds, without_hashes_apart};
 ghost use Rattle.counterexamples_honest.specs.Premises.{without_keys_known, without_keys_published};
 ghost use Rattle.counterexamples_honest.specs.Premises.{without_keys_unforged, without_ordinary};
@@ -159,6 +160,12 @@ pub fn no_dname_may_stand_at_a_delegation()
 /// 2.3).
 pub fn no_record_may_be_of_a_type_that_signing_adds()
     ensures { SaysFalsely without_ordinary }
+{}
+
+/// A record of denial that a signer makes for a question, and that says what is not so, denies what
+/// the zone has (RFC 4470).
+pub fn denials_that_are_made_must_be_true()
+    ensures { SaysFalsely without_denials_true }
 {}
 
 /// Two versions at one moment are not told apart, so at one moment a zone is to have one version.

@@ -1,21 +1,24 @@
--- A link of a zone's NSEC chain that covers a name: each live owner stands up to the link's owner, or from its next name on.
-use Rattle.std.proofs.Common.{◌≡◌, Bool, true, false, List, [], ◌∷◌, refl, sym, ap, subst, ◌∙◌, ◌⊎◌, inl, inr}
+-- A link that covers a name: each live owner stands up to the link's owner, or from its next name on. No live owner lies between
+-- one of the chain and the next.
+use Rattle.std.proofs.Common.{◌≡◌, Bool, true, false, ◌||◌, List, [], ◌∷◌, refl, sym, ap, subst, ◌∙◌, ◌⊎◌, inl, inr}
 use Rattle.std.specs.Prelude.{if◌then◌else◌}
 use Rattle.std.specs.declared.cmp.Ordering.{Ordering}
 use Rattle.std.specs.declared.cmp.Ordering.TheVariants.{Less, Equal, Greater}
+use Rattle.std.specs.Ordering.{is_lt}
 use Rattle.std.specs.Cmp.{IsTotalOrder}
-use Rattle.std.proofs.lemmas.Bool.{and_parts, or_cases, false_from_ne_true}
+use Rattle.std.proofs.lemmas.Bool.{and_parts, and_cases, or_cases, or_parts, false≢true, false_from_ne_true}
 use Rattle.std.proofs.lemmas.Cmp.{tied_itself}
 use Rattle.definitions.specs.Name.{Name, low, same, labels_eq, name_cmp, at_or_above, strictly_above}
 use Rattle.definitions.specs.Covering.{before, covers}
-use Rattle.definitions.specs.Zone.{Zone, apex_of, owners, kept_owners}
+use Rattle.definitions.specs.Zone.{Zone, apex_of, owners, is_live, kept_owners}
 use Rattle.definitions.specs.ZoneChain.{links, behind, nsec_names, nsec_next}
-use Rattle.definitions.proofs.Members.{In, in_contained, Rises, not_less, sort_rises}
+use Rattle.definitions.proofs.Members.{In, contained, in_contained, Rises, not_less, sort_rises}
 use Rattle.definitions.proofs.NameLaws.{name_cmp_total, labels_decide, same_is_equal, interval, apex_first}
-use Rattle.definitions.proofs.ZoneNames.{above_itself, kept-live, apex_kept, live_owner, owner_in_chain}
+use Rattle.definitions.proofs.ZoneNames.{above_itself, low-low, kept-live, apex_kept, live_owner, owner_lowered, owner_in_chain}
 use Rattle.denial_laws.specs.Facts.{Link}
-use Rattle.denial_laws.specs.Truth.{IsServable, IsTrueLink}
+use Rattle.denial_laws.specs.Truth.{IsServable, SaysTruly}
 use Rattle.denial_laws.proofs.NameFacts.{same_names, names_same, covers-low, strictly_from, strictly_at, not_after, not_before, less_not_greater, before_less, before_unlike, strictly_before, up_to_before, before_up_to}
+use Rattle.denial_laws.proofs.ZoneCuts.{kept_inside, kept_uncut, uncut_live}
 
 -- ---- what stands behind an item of items that rise
 
@@ -83,11 +86,10 @@ module _ {A : Type 0} (R : A → A → Ordering) (o : IsTotalOrder R) (eq : A �
 
 -- ---- a name that is covered
 
--- The owner is before the name, and each live owner is up to the owner, or the name is before the next one and this is not
+-- The owner is live and before the name, and each live owner is up to it, or the name is before the next name and this is not
 -- behind the live owner.
 pub record Covered (z : Zone) (o n q : Name) : Type 0 where
-  pub owner : In o (nsec_names z)
-  pub next : In n (nsec_names z)
+  pub live : is_live z o ≡ true
   pub before : name_cmp o q ≡ Less
   pub apart : (w : Name) → In w (nsec_names z) → (name_cmp w o ≡ Greater → ⊥) ⊎ ((name_cmp q n ≡ Less) × (name_cmp n w ≡ Greater → ⊥))
 
@@ -98,6 +100,8 @@ module _ (z : Zone) (s : IsServable z) where
   pub chain_inside : (o : Name) → In o (nsec_names z) → at_or_above (apex_of z) o ≡ true
   chain_inside o i = (and_parts (at_or_above (apex_of z) o) _ (live_owner z o i).1).0
 
+  -- ---- the chain
+
   next_follows : (o : Name) → In o (nsec_names z) → Follows name_cmp name_cmp_total labels_eq (λ a b. (labels_decide a b).0) (λ a. (labels_decide a a).1 refl) (apex_of z) (nsec_names z) o (nsec_next z o)
   next_follows o i = follows name_cmp name_cmp_total labels_eq (λ a b. (labels_decide a b).0) (λ a. (labels_decide a a).1 refl) (apex_of z) (apex_of z) (nsec_names z) (sort_rises name_cmp name_cmp_total (kept_owners z false)) o i
 
@@ -106,6 +110,31 @@ module _ (z : Zone) (s : IsServable z) where
     | inl k ↦ k.0
     | inr k ↦ subst (λ n. In n (nsec_names z)) (sym k.0) apex_in
   ]
+
+  from_next : (n w : Name) → (w ≡ n) ⊎ (name_cmp n w ≡ Less) → name_cmp n w ≡ Greater → ⊥
+  from_next n w h g = elim h [
+    | inl e ↦ let x : Equal ≡ Greater = sym (tied_itself name_cmp_total n) ∙ ap (name_cmp n) (sym e) ∙ g in cc
+    | inr l ↦ less_not_greater n w l g
+  ]
+
+  -- no live owner lies between a live owner and the next
+  pub chain_gap : (o w : Name) → In o (nsec_names z) → In w (nsec_names z) → covers (apex_of z) o (nsec_next z o) w ≡ false
+  chain_gap o w i j = false_from_ne_true (covers (apex_of z) o (nsec_next z o) w) (λ h.
+      let n : Name = nsec_next z o in
+      let parts = and_parts (before o w) _ h in
+      let l : name_cmp o w ≡ Less = before_less o w parts.0 in
+      elim (next_follows o i) [
+        | inl k ↦ elim (or_cases (same n (apex_of z)) (before w n) parts.1) [
+          | inl e ↦
+              let first : name_cmp (apex_of z) n ≡ Less = up_to_before (apex_of z) o n (apex_first (apex_of z) o (chain_inside o i)) k.1 in
+              let x : Equal ≡ Greater = sym (same_is_equal n (apex_of z) e) ∙ not_after (apex_of z) n first in
+              cc
+          | inr b ↦ from_next n w (k.2 w j l) (not_after w n (before_less w n b))
+        ]
+        | inr k ↦ k.1 w j l
+      ])
+
+  -- ---- a record that says truly
 
   -- an owner is up to another one, or behind it
   sides : (w o : Name) → (name_cmp w o ≡ Greater → ⊥) ⊎ (name_cmp o w ≡ Less)
@@ -116,43 +145,37 @@ module _ (z : Zone) (s : IsServable z) where
       go Equal e = inl (λ g. let x : Equal ≡ Greater = sym e ∙ g in cc)
       go Greater e = inr (not_before w o e)
 
-  from_next : (n w : Name) → (w ≡ n) ⊎ (name_cmp n w ≡ Less) → name_cmp n w ≡ Greater → ⊥
-  from_next n w h g = elim h [
-    | inl e ↦ let x : Equal ≡ Greater = sym (tied_itself name_cmp_total n) ∙ ap (name_cmp n) (sym e) ∙ g in cc
-    | inr l ↦ less_not_greater n w l g
-  ]
+  pub said_live : (f : Link) → SaysTruly z f → is_live z (low f.owner) ≡ true
+  said_live f g = uncut_live z (low f.owner) (low-low f.owner) (kept_inside z false (low f.owner) g.there) (kept_uncut z false (low f.owner) g.there)
 
-  covered_by : (o q : Name) → In o (nsec_names z) → covers (apex_of z) o (nsec_next z o) q ≡ true → Covered z o (nsec_next z o) q
-  covered_by o q i h =
-      let n : Name = nsec_next z o in
-      let parts = and_parts (before o q) _ h in
+  pub link_covered : (f : Link) → SaysTruly z f → (q : Name) → covers z.name f.owner f.next q ≡ true → Covered z (low f.owner) (low f.next) (low q)
+  link_covered f g q h =
+      let o : Name = low f.owner in
+      let n : Name = low f.next in
+      let lq : Name = low q in
+      let parts = and_parts (before o lq) _ (covers-low z.name f.owner f.next q ∙ h) in
       record {
-        owner = i;
-        next = next_in o i;
-        before = before_less o q parts.0;
-        apart = λ w j. elim (sides w o) [
+        live = said_live f g;
+        before = before_less o lq parts.0;
+        apart = λ w i. elim (sides w o) [
           | inl up ↦ inl up
-          | inr l ↦ elim (next_follows o i) [
-            | inl k ↦ inr (
-              elim (or_cases (same n (apex_of z)) (before q n) parts.1) [
-                | inl e ↦
-                    let first : name_cmp (apex_of z) n ≡ Less = up_to_before (apex_of z) o n (apex_first (apex_of z) o (chain_inside o i)) k.1 in
-                    let x : Equal ≡ Greater = sym (same_is_equal n (apex_of z) e) ∙ not_after (apex_of z) n first in
-                    cc
-                | inr b ↦ before_less q n b
-              ],
-              from_next n w (k.2 w j l),
-            )
-            | inr k ↦ absurd (k.1 w j l)
-          ]
+          | inr l ↦
+              let lw : low w ≡ w = owner_lowered z w (live_owner z w i).0 in
+              let free : covers (apex_of z) o n w ≡ false = ap (covers (apex_of z) o n) (sym lw) ∙ covers-low z.name f.owner f.next w ∙ g.gap w (contained (nsec_names z) w i) in
+              let beyond = elim (and_cases (before o w) (same n (apex_of z) || before w n) free) as (λ _. (same n (apex_of z) || before w n) ≡ false) [
+                | inl e ↦ absurd (false≢true (sym e ∙ ap is_lt l))
+                | inr e ↦ e
+              ] in
+              let last = or_parts (same n (apex_of z)) (before w n) beyond in
+              inr (
+                elim (or_cases (same n (apex_of z)) (before lq n) parts.1) [
+                  | inl e ↦ absurd (false≢true (sym last.0 ∙ e))
+                  | inr b ↦ before_less lq n b
+                ],
+                λ g. false≢true (sym last.1 ∙ ap is_lt (not_before n w g)),
+              )
         ];
       }
-
-  pub link_covered : (f : Link) → IsTrueLink z f → (q : Name) → covers z.name f.owner f.next q ≡ true → Covered z (low f.owner) (low f.next) (low q)
-  link_covered f k q h =
-      let o : Name = low f.owner in
-      let i : In o (nsec_names z) = in_contained (nsec_names z) o k.owner.0 k.owner.1 k.owner.2 in
-      subst (λ n. Covered z o n (low q)) (sym k.next) (covered_by o (low q) i (ap (λ n. covers (apex_of z) o n (low q)) (sym k.next) ∙ covers-low z.name f.owner f.next q ∙ h))
 
   module _ (o n q : Name) (k : Covered z o n q) where
     -- no live owner is the name

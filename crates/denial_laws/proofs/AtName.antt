@@ -8,9 +8,9 @@ use Rattle.definitions.specs.Zone.{Zone, Verdict, NoType, Delegated, is_delegati
 use Rattle.definitions.proofs.ZoneNames.{above_itself, low-low}
 use Rattle.denial_laws.specs.Aliases.{is_redirected}
 use Rattle.denial_laws.specs.NsecRules.{is_cut, lacks, star_lacks, at_name}
-use Rattle.denial_laws.specs.Truth.{IsServable, is_star}
+use Rattle.denial_laws.specs.Truth.{IsServable, ShowsTypes, is_star}
 use Rattle.denial_laws.specs.Laws.{IsSaidBy, is_asked_type}
-use Rattle.denial_laws.proofs.ChainBits.{ShowsTypes, cut_test}
+use Rattle.denial_laws.proofs.ChainBits.{LacksTypes, cut_test}
 use Rattle.denial_laws.proofs.Verdicts.{verdict_no_type, verdict_delegated, verdict_ds, lacking}
 use Rattle.denial_laws.proofs.ZoneCuts.{cut_from, kept_live, kept_inside, kept_exists, kept_delegation, no_star_ns}
 use Rattle.denial_laws.proofs.Unaliased.{kept_unredirected, no_alias, cut_unaliased, there_unaliased, unaliased}
@@ -32,12 +32,12 @@ pub lacks_cname : (z : Zone) (n : Name) (bits : List ℕ) (t : ℕ) → ShowsTyp
 lacks_cname z n bits t k h = sym k.alias ∙ not-true (bitmap_has bits 5) (and_parts (not (bitmap_has bits t)) _ h).1
 
 -- bits of a name that lacks the type and has no CNAME
-pub lacks_from : (z : Zone) (n : Name) (bits : List ℕ) (t : ℕ) → t < 65536 → is_asked_type t ≡ true → ShowsTypes z n bits → has z n t ≡ false → has z n 5 ≡ false → lacks bits t ≡ true
-lacks_from z n bits t l asked k h c = and_from _ _ (not_from_false (bitmap_has bits t) (k.lacks t l asked h)) (not_from_false (bitmap_has bits 5) (k.alias ∙ c))
+pub lacks_from : (z : Zone) (n : Name) (bits : List ℕ) (t : ℕ) → t < 65536 → is_asked_type t ≡ true → ShowsTypes z n bits → LacksTypes z n bits → has z n t ≡ false → has z n 5 ≡ false → lacks bits t ≡ true
+lacks_from z n bits t l asked k m h c = and_from _ _ (not_from_false (bitmap_has bits t) (m t l asked h)) (not_from_false (bitmap_has bits 5) (k.alias ∙ c))
 
 -- bits of such a wildcard: they have no NS
-pub star_lacks_from : (z : Zone) → IsServable z → (n : Name) (bits : List ℕ) (t : ℕ) → is_star n ≡ true → t < 65536 → is_asked_type t ≡ true → ShowsTypes z n bits → has z n t ≡ false → has z n 5 ≡ false → star_lacks bits t ≡ true
-star_lacks_from z s n bits t star l asked k h c = and_from (lacks bits t) _ (lacks_from z n bits t l asked k h c) (or_right (t == 43) _ (not_from_false (bitmap_has bits 2) (k.two ∙ no_star_ns z s n star)))
+pub star_lacks_from : (z : Zone) → IsServable z → (n : Name) (bits : List ℕ) (t : ℕ) → is_star n ≡ true → t < 65536 → is_asked_type t ≡ true → ShowsTypes z n bits → LacksTypes z n bits → has z n t ≡ false → has z n 5 ≡ false → star_lacks bits t ≡ true
+star_lacks_from z s n bits t star l asked k m h c = and_from (lacks bits t) _ (lacks_from z n bits t l asked k m h c) (or_right (t == 43) _ (not_from_false (bitmap_has bits 2) (k.two ∙ no_star_ns z s n star)))
 
 -- ---- they prove the zone's verdict, or nothing
 

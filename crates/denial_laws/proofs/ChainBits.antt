@@ -12,7 +12,7 @@ use Rattle.definitions.proofs.BitmapLaws.{spells_set}
 use Rattle.definitions.proofs.Members.{In, any_of}
 use Rattle.definitions.proofs.ZoneNames.{low-low}
 use Rattle.denial_laws.specs.Aliases.{IsOrderly, is_alias_type}
-use Rattle.denial_laws.specs.Truth.{IsServable, is_added_type, is_foreign_type}
+use Rattle.denial_laws.specs.Truth.{IsServable, ShowsTypes, is_added_type, is_foreign_type}
 use Rattle.denial_laws.specs.NsecRules.{is_cut}
 use Rattle.denial_laws.specs.Laws.{is_asked_type}
 use Rattle.denial_laws.proofs.NameFacts.{same_names, names_same, strictly_from, strictly_unlike}
@@ -161,14 +161,9 @@ nsec3_has z o =
 
 -- ---- what bits say
 
--- Bits of a name's record: of NS, CNAME and DNAME whether the name has it, and of a type that is asked for whether the name
--- has it, at a delegation of DS alone.
-pub record ShowsTypes (z : Zone) (o : Name) (bits : List ℕ) : Type 0 where
-  pub two : bitmap_has bits 2 ≡ has z o 2
-  pub alias : bitmap_has bits 5 ≡ has z o 5
-  pub redirect : bitmap_has bits 39 ≡ has z o 39
-  pub shows : (t : ℕ) → t < 65536 → (is_delegation z o ≡ false) ⊎ (t ≡ 43) → has z o t ≡ true → bitmap_has bits t ≡ true
-  pub lacks : (t : ℕ) → t < 65536 → is_asked_type t ≡ true → has z o t ≡ false → bitmap_has bits t ≡ false
+-- bits of a chain's record have no type that is asked for and that the name lacks
+abbrev pub LacksTypes : Zone → Name → List ℕ → Type 0
+LacksTypes z o bits = (t : ℕ) → t < 65536 → is_asked_type t ≡ true → has z o t ≡ false → bitmap_has bits t ≡ false
 
 module _ (z : Zone) (s : IsServable z) (o : Name) (ts : List ℕ) (k : HasTypes z o ts) where
   bit : (t : ℕ) → t < 65536 → bitmap_has (bitmap ts) t ≡ list_any (nat_eq t) ts
@@ -213,14 +208,22 @@ module _ (z : Zone) (s : IsServable z) (o : Name) (ts : List ℕ) (k : HasTypes 
     alias = bit 5 (omega arith) ∙ alias_shown (is_delegation z o) refl;
     redirect = bit 39 (omega arith) ∙ redirect_shown (is_delegation z o) refl;
     shows = λ t l c h. bit t l ∙ type_shown t c h (is_delegation z o) refl;
-    lacks = λ t l a n. bit t l ∙ type_lacks t a n (is_delegation z o) refl;
   }
+
+  lacking : LacksTypes z o (bitmap ts)
+  lacking t l a n = bit t l ∙ type_lacks t a n (is_delegation z o) refl
 
 pub nsec_shows : (z : Zone) → IsServable z → (o : Name) → ShowsTypes z o (bitmap (nsec_types z true o))
 nsec_shows z s o = shown z s o (nsec_types z true o) (nsec_has z o)
 
+pub nsec_lacks : (z : Zone) → IsServable z → (o : Name) → LacksTypes z o (bitmap (nsec_types z true o))
+nsec_lacks z s o = lacking z s o (nsec_types z true o) (nsec_has z o)
+
 pub nsec3_shows : (z : Zone) → IsServable z → (o : Name) → ShowsTypes z o (bitmap (nsec3_types z true o))
 nsec3_shows z s o = shown z s o (nsec3_types z true o) (nsec3_has z o)
+
+pub nsec3_lacks : (z : Zone) → IsServable z → (o : Name) → LacksTypes z o (bitmap (nsec3_types z true o))
+nsec3_lacks z s o = lacking z s o (nsec3_types z true o) (nsec3_has z o)
 
 -- ---- which owners are delegations
 

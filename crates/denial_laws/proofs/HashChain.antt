@@ -19,9 +19,9 @@ use Rattle.definitions.proofs.OwnChains.{one_nsec3_record_speaks}
 use Rattle.definitions.proofs.ZoneNames.{low-low, above_lowered, same_lowered, chain_kept}
 use Rattle.denial_laws.specs.Facts.{HashLink}
 use Rattle.denial_laws.specs.Nsec3Rules.{is_at, covers_hash}
-use Rattle.denial_laws.specs.Truth.{IsServable, IsTrueHashLink, concerned, parents}
+use Rattle.denial_laws.specs.Truth.{IsServable, IsTrueHashLink, ShowsTypes, concerned, parents}
 use Rattle.denial_laws.proofs.NameFacts.{above-low}
-use Rattle.denial_laws.proofs.ChainBits.{ShowsTypes, nsec3_shows}
+use Rattle.denial_laws.proofs.ChainBits.{LacksTypes, nsec3_shows, nsec3_lacks}
 use Rattle.denial_laws.proofs.ZoneCuts.{tail_low}
 
 -- ---- which names a question concerns
@@ -107,6 +107,9 @@ module _ (z : Zone) (hash : Name → List ℕ) (ex : Bool) (s : IsServable z) (n
 
     pub matched_shows : (x : Name) → SharesNone hash (nsec3_names z ex) (low x) → is_at (hash (low x)) l ≡ true → ShowsTypes z (low x) l.bits
     matched_shows x shares h = subst (ShowsTypes z (low x)) (sym (k.bits ∙ ap (λ n. bitmap (nsec3_types z true n)) (matched_name x shares h))) (nsec3_shows z s (low x))
+
+    pub matched_lacks : (x : Name) → SharesNone hash (nsec3_names z ex) (low x) → is_at (hash (low x)) l ≡ true → LacksTypes z (low x) l.bits
+    matched_lacks x shares h = subst (LacksTypes z (low x)) (sym (k.bits ∙ ap (λ n. bitmap (nsec3_types z true n)) (matched_name x shares h))) (nsec3_lacks z s (low x))
 
     -- where it covers a name's hash, the name is not kept: the name's own record would speak for the hash too
     pub covered_gone : (x : Name) → covers_hash (hash (low x)) l ≡ true → kept z ex x ≡ false

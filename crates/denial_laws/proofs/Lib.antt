@@ -13,6 +13,8 @@ pub mod SignedNames
 pub mod NsecCovered
 pub mod NsecWildcard
 pub mod NsecSound
+pub mod ChainSays
+pub mod HashSays
 pub mod HashChain
 pub mod Nsec3Matched
 pub mod Nsec3Climb

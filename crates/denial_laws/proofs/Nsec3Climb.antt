@@ -7,20 +7,19 @@ use Rattle.std.proofs.lemmas.Bool.{and_parts, and_from, and_left, or_cases, not-
 use Rattle.definitions.specs.Name.{Name, low, same, labels_eq, at_or_above, strictly_above}
 use Rattle.definitions.specs.Bitmap.{bitmap_has}
 use Rattle.definitions.specs.Zone.{Zone, Verdict, NoName, StarRecords, StarNoType, Delegated, Open, apex_of, is_delegation, kept, exists, has, star_under, data_at, at_star}
-use Rattle.definitions.specs.ZoneChain.{nsec3_names}
-use Rattle.definitions.specs.Laws.{NoneShare, SharesNone}
 use Rattle.definitions.proofs.Members.{any_of}
 use Rattle.definitions.proofs.ZoneNames.{above_itself, low-low, lowered_above}
 use Rattle.denial_laws.specs.Facts.{HashLink}
 use Rattle.denial_laws.specs.NsecRules.{first_some, is_cut, lacks, star_lacks}
 use Rattle.denial_laws.specs.Nsec3Rules.{is_at, covers_hash, is_matched, encloses, cut_above, star_at, beyond, enclosed, by_closest_encloser}
 use Rattle.denial_laws.specs.Aliases.{has_alias}
-use Rattle.denial_laws.specs.Truth.{IsServable, IsTrueHashLink, concerned}
+use Rattle.denial_laws.specs.Truth.{IsServable, SaysTrulyHash}
 use Rattle.denial_laws.specs.Laws.{IsSaidBy}
 use Rattle.denial_laws.proofs.NameFacts.{same_names, names_same, above-low, strictly_at, strictly_unlike, strictly_above_at}
 use Rattle.denial_laws.proofs.ChainBits.{all_at, cut_test}
 use Rattle.denial_laws.proofs.Found.{either_from, first_from, none_from}
-use Rattle.denial_laws.proofs.HashChain.{concerns_name, concerns_star, matched_kept, matched_shows, covered_gone}
+use Rattle.denial_laws.proofs.HashChain.{concerns_name, concerns_star}
+use Rattle.denial_laws.proofs.HashSays.{Concerns, said_kept, said_shows, said_gone}
 use Rattle.denial_laws.proofs.AtName.{on_true, not_there, lacks_cname}
 use Rattle.denial_laws.proofs.Verdicts.{verdict_delegated, IsGap, gap_gone, gap_unredirected, gap_child, gap_left_open, gap_open, gap_encloser, gap_star}
 use Rattle.denial_laws.proofs.ZoneCuts.{cut_from, kept_live, kept_inside, kept_lowered, kept_exists, kept_delegation, no_star_cut}
@@ -88,22 +87,22 @@ gap_says z s false l e q t v g n false same r f h =
 gap_says z s true l e q t v g n false same r f h = absurd (false≢true same)
 gap_says z s false l e q t v g n true same r f h = absurd (false≢true (sym same))
 
-module _ (z : Zone) (hash : Name → List ℕ) (ex : Bool) (s : IsServable z) (none : NoneShare hash (nsec3_names z ex)) (q : Name) (t : ℕ) (l : t < 65536) where
+module _ (z : Zone) (hash : Name → List ℕ) (ex : Bool) (s : IsServable z) (q : Name) (t : ℕ) (l : t < 65536) where
   abbrev AllTrue : List HashLink → Type 0
-  AllTrue fs = AllByRecursion (IsTrueHashLink z hash ex) fs
+  AllTrue fs = AllByRecursion (SaysTrulyHash z hash ex q) fs
 
   -- NS in the bits of an ancestor
-  cut_truly : (a : List ℕ) (p : Name) → at_or_above (a ∷ p) q ≡ true → SharesNone hash (nsec3_names z ex) (low p) → (fs : List HashLink) → AllTrue fs → (v : Verdict)
+  cut_truly : (a : List ℕ) (p : Name) → at_or_above (a ∷ p) q ≡ true → Concerns z q p → (fs : List HashLink) → AllTrue fs → (v : Verdict)
       → first_some (cut_above z.name p (hash (low p))) fs ≡ Some v → IsSaidBy z ex q t v
   cut_truly a p above shares fs all v h =
       let found = first_from (cut_above z.name p (hash (low p))) fs v h in
       let f : HashLink = found.0 in
-      let k = all_at (IsTrueHashLink z hash ex) fs f all found.1.0 in
+      let k = all_at (SaysTrulyHash z hash ex q) fs f all found.1.0 in
       let r = on_true (encloses (hash (low p)) f && is_cut z.name p f.bits) (Some Delegated) v found.1.1 in
       let both = and_parts (encloses (hash (low p)) f) (is_cut z.name p f.bits) r.0 in
       let at = (and_parts (is_at (hash (low p)) f) (not (bitmap_has f.bits 39)) both.0).0 in
-      let there : kept z ex (low p) ≡ true = kept_lowered z ex p ∙ matched_kept z hash ex s none f k p shares at in
-      let d : is_delegation z (low p) ≡ true = sym (cut_test z p f.bits (kept_inside z ex (low p) there) (matched_shows z hash ex s none f k p shares at)) ∙ both.1 in
+      let there : kept z ex (low p) ≡ true = kept_lowered z ex p ∙ said_kept z hash ex q f k p shares at in
+      let d : is_delegation z (low p) ≡ true = sym (cut_test z p f.bits (kept_inside z ex (low p) there) (said_shows z hash ex q f k p shares at)) ∙ both.1 in
       let is : Delegated ≡ v = cc in
       let strictly : strictly_above p q ≡ true = strictly_above_at p (a ∷ p) q (above_itself p) above in
       let owner = kept_delegation z ex (low p) d there in
@@ -114,7 +113,7 @@ module _ (z : Zone) (hash : Name → List ℕ) (ex : Bool) (s : IsServable z) (n
       )
 
   -- the wildcard, which exists if it has a CNAME
-  star_says : (p : Name) → (has z (star_under (low p)) 5 ≡ true → exists z (star_under (low p)) ≡ true) → (f : HashLink) → IsTrueHashLink z hash ex f → SharesNone hash (nsec3_names z ex) (low (star_under p)) → ex ≡ false → (v : Verdict)
+  star_says : (p : Name) → (has z (star_under (low p)) 5 ≡ true → exists z (star_under (low p)) ≡ true) → (f : HashLink) → SaysTrulyHash z hash ex q f → Concerns z q (star_under p) → ex ≡ false → (v : Verdict)
       → star_at (hash (low (star_under p))) t f ≡ Some v → SaysByStar z (star_under (low p)) t v
   star_says p typed f k shares plain v h = go (is_at (hash (low (star_under p))) f) refl h
     where
@@ -127,8 +126,8 @@ module _ (z : Zone) (hash : Name → List ℕ) (ex : Bool) (s : IsServable z) (n
       go true e h =
           let r = on_true (star_lacks f.bits t) (Some StarNoType) v h in
           let is : StarNoType ≡ v = cc in
-          let there : exists z (star_under (low p)) ≡ true = kept_exists z ex (star_under (low p)) (kept_lowered z ex (star_under p) ∙ matched_kept z hash ex s none f k (star_under p) shares e) in
-          let shows = matched_shows z hash ex s none f k (star_under p) shares e in
+          let there : exists z (star_under (low p)) ≡ true = kept_exists z ex (star_under (low p)) (kept_lowered z ex (star_under p) ∙ said_kept z hash ex q f k (star_under p) shares e) in
+          let shows = said_shows z hash ex q f k (star_under p) shares e in
           let lacking = (and_parts (lacks f.bits t) _ r.0).0 in
           let gone : has z (star_under (low p)) t ≡ false = not_there z (star_under (low p)) f.bits t l shows (inl (no_star_cut z s (star_under (low p)) refl)) lacking in (
             sym is ∙ (λ i. if sym there i then (if sym gone i then StarRecords (data_at z (star_under (low p)) t) else StarNoType) else NoName),
@@ -137,34 +136,34 @@ module _ (z : Zone) (hash : Name → List ℕ) (ex : Bool) (s : IsServable z) (n
       go false e h =
           let r = on_true (covers_hash (hash (low (star_under p))) f) (Some NoName) v h in
           let is : NoName ≡ v = cc in
-          let gone : exists z (star_under (low p)) ≡ false = ap (λ b. kept z b (star_under (low p))) (sym plain) ∙ kept_lowered z ex (star_under p) ∙ covered_gone z hash ex s none f k (star_under p) r.0 in (
+          let gone : exists z (star_under (low p)) ≡ false = ap (λ b. kept z b (star_under (low p))) (sym plain) ∙ kept_lowered z ex (star_under p) ∙ said_gone z hash ex q f k (star_under p) shares r.0 in (
             sym is ∙ (λ i. if sym gone i then (if has z (star_under (low p)) t then StarRecords (data_at z (star_under (low p)) t) else StarNoType) else NoName),
             no_alias z (star_under (low p)) t (false_from_ne_true (has z (star_under (low p)) 5) (λ c. false≢true (sym gone ∙ typed c))),
           )
 
-  star_truly : (p : Name) → (has z (star_under (low p)) 5 ≡ true → exists z (star_under (low p)) ≡ true) → SharesNone hash (nsec3_names z ex) (low (star_under p)) → ex ≡ false → (fs : List HashLink) → AllTrue fs → (v : Verdict)
+  star_truly : (p : Name) → (has z (star_under (low p)) 5 ≡ true → exists z (star_under (low p)) ≡ true) → Concerns z q (star_under p) → ex ≡ false → (fs : List HashLink) → AllTrue fs → (v : Verdict)
       → first_some (star_at (hash (low (star_under p))) t) fs ≡ Some v → SaysByStar z (star_under (low p)) t v
   star_truly p typed shares plain fs all v h =
       let found = first_from (star_at (hash (low (star_under p))) t) fs v h in
-      star_says p typed found.0 (all_at (IsTrueHashLink z hash ex) fs found.0 all found.1.0) shares plain v found.1.1
+      star_says p typed found.0 (all_at (SaysTrulyHash z hash ex q) fs found.0 all found.1.0) shares plain v found.1.1
 
   -- a record at an ancestor shows that the ancestor has no DNAME
-  no_dname : (p : Name) → SharesNone hash (nsec3_names z ex) (low p) → (fs : List HashLink) → AllTrue fs → list_any (encloses (hash (low p))) fs ≡ true → has z (low p) 39 ≡ false
+  no_dname : (p : Name) → Concerns z q p → (fs : List HashLink) → AllTrue fs → list_any (encloses (hash (low p))) fs ≡ true → has z (low p) 39 ≡ false
   no_dname p shares fs all encloser =
       let o = any_of (encloses (hash (low p))) fs encloser in
       let both = and_parts (is_at (hash (low p)) o.0) (not (bitmap_has o.0.bits 39)) o.1.1 in
-      sym (matched_shows z hash ex s none o.0 (all_at (IsTrueHashLink z hash ex) fs o.0 all o.1.0) p shares both.0).redirect ∙ not-true (bitmap_has o.0.bits 39) both.1
+      sym (said_shows z hash ex q o.0 (all_at (SaysTrulyHash z hash ex q) fs o.0 all o.1.0) p shares both.0).redirect ∙ not-true (bitmap_has o.0.bits 39) both.1
 
   -- an ancestor that a record matches, which is no delegation, and the next closer name, which one covers
-  gap_from : (a : List ℕ) (p : Name) → at_or_above (a ∷ p) q ≡ true → SharesNone hash (nsec3_names z ex) (low p) → (fs : List HashLink) → AllTrue fs
+  gap_from : (a : List ℕ) (p : Name) → at_or_above (a ∷ p) q ≡ true → Concerns z q p → Concerns z q (a ∷ p) → (fs : List HashLink) → AllTrue fs
       → first_some (cut_above z.name p (hash (low p))) fs ≡ None → list_any (encloses (hash (low p))) fs ≡ true
-      → (f : HashLink) → IsTrueHashLink z hash ex f → covers_hash (hash (low (a ∷ p))) f ≡ true → IsGap z ex (str_to_ascii_lowercase a) (low p) (low q)
-  gap_from a p above shares fs all uncut encloser f k covers =
+      → (f : HashLink) → SaysTrulyHash z hash ex q f → covers_hash (hash (low (a ∷ p))) f ≡ true → IsGap z ex (str_to_ascii_lowercase a) (low p) (low q)
+  gap_from a p above shares closer fs all uncut encloser f k covers =
       let o = any_of (encloses (hash (low p))) fs encloser in
-      let m = all_at (IsTrueHashLink z hash ex) fs o.0 all o.1.0 in
+      let m = all_at (SaysTrulyHash z hash ex q) fs o.0 all o.1.0 in
       let at = (and_parts (is_at (hash (low p)) o.0) (not (bitmap_has o.0.bits 39)) o.1.1).0 in
-      let there : kept z ex (low p) ≡ true = kept_lowered z ex p ∙ matched_kept z hash ex s none o.0 m p shares at in
-      let test = cut_test z p o.0.bits (kept_inside z ex (low p) there) (matched_shows z hash ex s none o.0 m p shares at) in
+      let there : kept z ex (low p) ≡ true = kept_lowered z ex p ∙ said_kept z hash ex q o.0 m p shares at in
+      let test = cut_test z p o.0.bits (kept_inside z ex (low p) there) (said_shows z hash ex q o.0 m p shares at) in
       record {
         lowered = low-low (a ∷ p);
         there = there;
@@ -173,40 +172,40 @@ module _ (z : Zone) (hash : Name → List ℕ) (ex : Bool) (s : IsServable z) (n
             let nothing = none_from (cut_above z.name p (hash (low p))) fs uncut o.0 o.1.0 in
             let wrong : Some Delegated ≡ None = sym said ∙ nothing in
             cc);
-        gone = kept_lowered z ex (a ∷ p) ∙ covered_gone z hash ex s none f k (a ∷ p) covers;
+        gone = kept_lowered z ex (a ∷ p) ∙ said_gone z hash ex q f k (a ∷ p) closer covers;
         above = above-low (a ∷ p) q ∙ above;
       }
 
-  beyond_truly : (a : List ℕ) (p : Name) → at_or_above (a ∷ p) q ≡ true → SharesNone hash (nsec3_names z ex) (low p) → SharesNone hash (nsec3_names z ex) (low (star_under p)) → (fs : List HashLink) → AllTrue fs
+  beyond_truly : (a : List ℕ) (p : Name) → at_or_above (a ∷ p) q ≡ true → Concerns z q p → Concerns z q (a ∷ p) → Concerns z q (star_under p) → (fs : List HashLink) → AllTrue fs
       → first_some (cut_above z.name p (hash (low p))) fs ≡ None → list_any (encloses (hash (low p))) fs ≡ true → (v : Verdict)
       → first_some (beyond hash p t fs (hash (low (a ∷ p)))) fs ≡ Some v → IsSaidBy z ex q t v
-  beyond_truly a p above shares star fs all uncut encloser v h =
+  beyond_truly a p above shares closer star fs all uncut encloser v h =
       let found = first_from (beyond hash p t fs (hash (low (a ∷ p)))) fs v h in
       let f : HashLink = found.0 in
-      let k = all_at (IsTrueHashLink z hash ex) fs f all found.1.0 in
+      let k = all_at (SaysTrulyHash z hash ex q) fs f all found.1.0 in
       let wildcard : Option Verdict = first_some (star_at (hash (low (star_under p))) t) fs in
       let r = on_true (covers_hash (hash (low (a ∷ p))) f) (elim f.opt_out [ true ↦ Some Open | false ↦ wildcard ]) v found.1.1 in
-      let gap : IsGap z ex (str_to_ascii_lowercase a) (low p) (low q) = gap_from a p above shares fs all uncut encloser f k r.0 in
+      let gap : IsGap z ex (str_to_ascii_lowercase a) (low p) (low q) = gap_from a p above shares closer fs all uncut encloser f k r.0 in
       gap_says z s ex (str_to_ascii_lowercase a) (low p) q t v gap (no_dname p shares fs all encloser) f.opt_out k.opts wildcard
       (λ plain w. star_truly p (gap_child z ex (str_to_ascii_lowercase a) (low p) (low q) gap (42 ∷ []) 5) star plain fs all v w) r.1
 
-  enclosed_truly : (a : List ℕ) (p : Name) → at_or_above (a ∷ p) q ≡ true → SharesNone hash (nsec3_names z ex) (low p) → SharesNone hash (nsec3_names z ex) (low (star_under p)) → (fs : List HashLink) → AllTrue fs → (v : Verdict)
+  enclosed_truly : (a : List ℕ) (p : Name) → at_or_above (a ∷ p) q ≡ true → Concerns z q p → Concerns z q (a ∷ p) → Concerns z q (star_under p) → (fs : List HashLink) → AllTrue fs → (v : Verdict)
       → enclosed z.name hash (a ∷ p) p t fs ≡ Some v → IsSaidBy z ex q t v
-  enclosed_truly a p above shares star fs all v h =
+  enclosed_truly a p above shares closer star fs all v h =
       let covering : Option Verdict = elim (list_any (encloses (hash (low p))) fs) [ true ↦ first_some (beyond hash p t fs (hash (low (a ∷ p)))) fs | false ↦ None ] in
       elim (either_from (first_some (cut_above z.name p (hash (low p))) fs) covering v h) [
         | inl c ↦ cut_truly a p above shares fs all v c
         | inr c ↦
             let r = on_true (list_any (encloses (hash (low p))) fs) (first_some (beyond hash p t fs (hash (low (a ∷ p)))) fs) v c.1 in
-            beyond_truly a p above shares star fs all c.0 r.0 v r.1
+            beyond_truly a p above shares closer star fs all c.0 r.0 v r.1
       ]
 
-  pub climbed_truly : ((n : Name) → Contains (concerned (apex_of z) (low q)) n → SharesNone hash (nsec3_names z ex) n) → at_or_above z.name q ≡ true → (fs : List HashLink) → AllTrue fs → (v : Verdict)
+  pub climbed_truly : at_or_above z.name q ≡ true → (fs : List HashLink) → AllTrue fs → (v : Verdict)
       → by_closest_encloser z.name hash q t fs ≡ Some v → IsSaidBy z ex q t v
-  climbed_truly shares inside fs all v h =
+  climbed_truly inside fs all v h =
       let k = climbed_from z.name hash q t fs v inside h in
       let p : Name = k.parent in
       let apex : at_or_above (apex_of z) p ≡ true = lowered_above z.name p ∙ k.inside in
       let under : strictly_above p q ≡ true = strictly_above_at p (k.label ∷ p) q (above_itself p) k.above in
-      let up : at_or_above p q ≡ true = strictly_at p q under in
-      enclosed_truly k.label p k.above (shares (low p) (concerns_name (apex_of z) p q apex up)) (shares (low (star_under p)) (concerns_star (apex_of z) p q apex under)) fs all v k.enclosed
+      let closer : at_or_above (apex_of z) (k.label ∷ p) ≡ true = strictly_at (apex_of z) (k.label ∷ p) apex in
+      enclosed_truly k.label p k.above (concerns_name (apex_of z) p q apex (strictly_at p q under)) (concerns_name (apex_of z) (k.label ∷ p) q closer k.above) (concerns_star (apex_of z) p q apex under) fs all v k.enclosed

@@ -21,6 +21,7 @@ use Rattle.denial_laws.proofs.NameFacts.{same_names, names_same, above_cases, st
 use Rattle.denial_laws.proofs.KeptAncestor.{IsKeptParent, kept_parent, kept_encloser, ancestor_lowered}
 use Rattle.denial_laws.proofs.AtName.{Answers}
 use Rattle.denial_laws.proofs.Nsec3Own.{no_type_answers, cut_at_answers, cut_above_answers, gap_denied, star_answers, expanded_answers}
+use Rattle.denial_laws.proofs.ChainSays.{chains_say_truly}
 use Rattle.denial_laws.proofs.Nsec3Sound.{sound_hashed}
 use Rattle.denial_laws.proofs.Nsec3Wildcard.{signed_star_kept}
 use Rattle.denial_laws.proofs.OwnHashes.{own, own_true, own_speaks}
@@ -292,6 +293,7 @@ complete_hashed z hash iterations salt ex q t s apart l inside asked u =
     let g = good z hash iterations salt ex q t s l asked apart inside u (is_open z ex (low q)) refl in
     let true_facts : AreTrue z hash (Nsec3 iterations salt ex) q t (own_facts z hash (Nsec3 iterations salt ex) q t) = record {
       rrset = g.0;
-      chain = (refl, own_true z hash ex s apart.0 iterations salt (spoken z (Nsec3 iterations salt ex) (low q) (verdict z false q t) (verdict z ex q t)));
+      said = chains_say_truly z hash (Nsec3 iterations salt ex) q (own_facts z hash (Nsec3 iterations salt ex) q t) s apart
+          (refl, own_true z hash ex s apart.0 iterations salt (spoken z (Nsec3 iterations salt ex) (low q) (verdict z false q t) (verdict z ex q t)));
     } in
-    g.1.1 ∙ ap (λ v. Some v) (sound_hashed z hash iterations salt ex (own_facts z hash (Nsec3 iterations salt ex) q t) q t g.1.0 s apart l true_facts g.1.1).0
+    g.1.1 ∙ ap (λ v. Some v) (sound_hashed z hash iterations salt ex (own_facts z hash (Nsec3 iterations salt ex) q t) q t g.1.0 s l true_facts g.1.1).0

@@ -12,12 +12,12 @@ use Rattle.denial_laws.specs.Facts.{Rrset, HashLink}
 use Rattle.denial_laws.specs.NsecRules.{first_some}
 use Rattle.denial_laws.specs.Nsec3Rules.{is_at, covers_hash, at_hash, star_at, enclosed, by_closest_encloser, hash_denied, last_labels, hash_expanded_by, hash_expanded}
 use Rattle.denial_laws.specs.OwnFacts.{next_closer}
-use Rattle.denial_laws.specs.Truth.{IsServable, IsTrueHashLink, NoSharedHash}
+use Rattle.denial_laws.specs.Truth.{IsServable, IsTrueHashLink, NoSharedHash, ShowsTypes}
 use Rattle.denial_laws.specs.Laws.{is_asked_type}
 use Rattle.denial_laws.proofs.NameFacts.{same_names, names_same, same_above, above_cases, above_either, above_both, shorter_above, strictly_at, strictly_above_at, at_strictly_above, strictly_shorter}
-use Rattle.denial_laws.proofs.ChainBits.{ShowsTypes, all_at, cut_test, cut_no_dname}
+use Rattle.denial_laws.proofs.ChainBits.{LacksTypes, all_at, cut_test, cut_no_dname}
 use Rattle.denial_laws.proofs.Found.{first_is}
-use Rattle.denial_laws.proofs.HashChain.{concerns_name, concerns_star, matched_shows}
+use Rattle.denial_laws.proofs.HashChain.{concerns_name, concerns_star, matched_shows, matched_lacks}
 use Rattle.denial_laws.proofs.KeptAncestor.{closer_is, IsKeptParent, closer_gone}
 use Rattle.denial_laws.proofs.AtName.{lacks_from, star_lacks_from, Answers, cut_answers, lack_answers}
 use Rattle.denial_laws.proofs.Nsec3Answers.{matched_answers, above_answers, gap_answers, star_matched, star_covered, Climbs, climbs}
@@ -47,12 +47,15 @@ module _ (z : Zone) (hash : Name → List ℕ) (ex : Bool) (s : IsServable z) (i
   shown : (p : Name) → SharesNone hash (nsec3_names z ex) (low p) → (f : IsAmong records (is_at (hash (low p)))) → ShowsTypes z (low p) f.link.bits
   shown p h f = matched_shows z hash ex s apart.0 f.link (true_one f.link f.inside) p h f.passes
 
+  lacking : (p : Name) → SharesNone hash (nsec3_names z ex) (low p) → (f : IsAmong records (is_at (hash (low p)))) → LacksTypes z (low p) f.link.bits
+  lacking p h f = matched_lacks z hash ex s apart.0 f.link (true_one f.link f.inside) p h f.passes
+
   -- ---- the name's own record
 
   pub no_type_answers : In (low q) qs → kept z ex q ≡ true → has z (low q) t ≡ false → has z (low q) 5 ≡ false → Answers (hash_denied z.name hash q t records)
   no_type_answers i k h c =
       let f = at_kept q i k in
-      matched_answers z.name hash t records q f (lack_answers z.name q t f.link.bits (lacks_from z (low q) f.link.bits t l asked (shown q (shares q inside (above_itself q)) f) h c))
+      matched_answers z.name hash t records q f (lack_answers z.name q t f.link.bits (lacks_from z (low q) f.link.bits t l asked (shown q (shares q inside (above_itself q)) f) (lacking q (shares q inside (above_itself q)) f) h c))
 
   pub cut_at_answers : In (low q) qs → kept z ex q ≡ true → is_delegation z (low q) ≡ true → (t == 43) ≡ false → Answers (hash_denied z.name hash q t records)
   cut_at_answers i k d n =
@@ -137,7 +140,7 @@ module _ (z : Zone) (hash : Name → List ℕ) (ex : Bool) (s : IsServable z) (i
       elim c [
         | inl b ↦
             let f = at_kept (star_under p) listed (alike ∙ b.0) in
-            star_matched z.name hash t records p f (star_lacks_from z s (low (star_under p)) f.link.bits t refl l asked (shown (star_under p) h f) (ap (λ n. has z n t) star ∙ b.1) (ap (λ n. has z n 5) star ∙ b.2))
+            star_matched z.name hash t records p f (star_lacks_from z s (low (star_under p)) f.link.bits t refl l asked (shown (star_under p) h f) (lacking (star_under p) h f) (ap (λ n. has z n t) star ∙ b.1) (ap (λ n. has z n 5) star ∙ b.2))
         | inr n ↦
             let f = own_covers z hash ex s apart.0 iterations salt qs (star_under p) listed h (alike ∙ n) in
             star_covered z.name hash t records p f (own_unmatched z hash ex s apart.0 iterations salt qs (star_under p) h (alike ∙ n) f.link f.inside)

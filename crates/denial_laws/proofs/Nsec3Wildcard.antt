@@ -13,12 +13,13 @@ use Rattle.definitions.specs.Laws.{NoneShare}
 use Rattle.definitions.proofs.ZoneNames.{above_itself, low-low, above_lowered, lowered_above}
 use Rattle.denial_laws.specs.Facts.{Rrset, HashLink, is_expanded}
 use Rattle.denial_laws.specs.Nsec3Rules.{covers_hash, last_labels, hash_expanded_by, hash_expanded}
-use Rattle.denial_laws.specs.Truth.{IsServable, IsTrueRrset, IsTrueHashLink, is_signed, is_star}
+use Rattle.denial_laws.specs.Truth.{IsServable, IsTrueRrset, SaysTrulyHash, is_signed, is_star}
 use Rattle.denial_laws.specs.Laws.{IsSaidBy}
 use Rattle.denial_laws.proofs.NameFacts.{above-low, shorter_above, strictly_at, strictly_above_at, star_below}
 use Rattle.denial_laws.proofs.ChainBits.{all_at}
 use Rattle.denial_laws.proofs.Found.{first_from}
-use Rattle.denial_laws.proofs.HashChain.{covered_gone}
+use Rattle.denial_laws.proofs.HashChain.{concerns_name}
+use Rattle.denial_laws.proofs.HashSays.{said_gone}
 use Rattle.denial_laws.proofs.AtName.{on_true}
 use Rattle.denial_laws.proofs.SignedNames.{star_owner}
 use Rattle.denial_laws.proofs.Nsec3Climb.{gap_says}
@@ -79,7 +80,7 @@ signed_star_says z s e t signed =
 
 -- ---- the rule
 
-module _ (z : Zone) (hash : Name → List ℕ) (ex : Bool) (s : IsServable z) (none : NoneShare hash (nsec3_names z ex)) (q : Name) (t : ℕ) where
+module _ (z : Zone) (hash : Name → List ℕ) (ex : Bool) (s : IsServable z) (q : Name) (t : ℕ) where
   -- below the parent of a signed wildcard
   star_gap : (a : List ℕ) (e : Name) → at_or_above (a ∷ e) q ≡ true → at_or_above (apex_of z) e ≡ true → is_signed z (star_under (low e)) t ≡ true → kept z ex (a ∷ e) ≡ false → IsGap z ex (str_to_ascii_lowercase a) (low e) (low q)
   star_gap a e above inside signed gone =
@@ -93,7 +94,7 @@ module _ (z : Zone) (hash : Name → List ℕ) (ex : Bool) (s : IsServable z) (n
         above = above-low (a ∷ e) q ∙ above;
       }
 
-  pub hash_expanded_truly : at_or_above z.name q ≡ true → (r : Rrset) → IsTrueRrset z q t r → is_expanded r q ≡ true → (fs : List HashLink) → AllByRecursion (IsTrueHashLink z hash ex) fs → (v : Verdict)
+  pub hash_expanded_truly : at_or_above z.name q ≡ true → (r : Rrset) → IsTrueRrset z q t r → is_expanded r q ≡ true → (fs : List HashLink) → AllByRecursion (SaysTrulyHash z hash ex q) fs → (v : Verdict)
       → hash_expanded hash q r fs ≡ Some v → IsSaidBy z ex q t v
   hash_expanded_truly inside r true_rrset x fs all v h =
       let fewer : r.labels < length q = omega (arith, ltb-true r.labels (label_count q) x, count_within q) in
@@ -106,9 +107,12 @@ module _ (z : Zone) (hash : Name → List ℕ) (ex : Bool) (s : IsServable z) (n
       let signed : is_signed z (star_under (low e)) t ≡ true = ap (λ n. is_signed z n t) (sym owner) ∙ true_rrset.signed in
       let found = first_from (hash_expanded_by (hash (low (last_labels (r.labels + 1) q))) r) fs v h in
       let f : HashLink = found.0 in
-      let k = all_at (IsTrueHashLink z hash ex) fs f all found.1.0 in
+      let k = all_at (SaysTrulyHash z hash ex q) fs f all found.1.0 in
       let m = on_true (covers_hash (hash (low (last_labels (r.labels + 1) q))) f) (elim f.opt_out [ true ↦ Some Open | false ↦ Some (StarRecords r.datas) ]) v found.1.1 in
-      let gone : kept z ex (last.label ∷ e) ≡ false = ap (kept z ex) (sym last.is) ∙ covered_gone z hash ex s none f k (last_labels (r.labels + 1) q) m.0 in
+      let closer : Name = last_labels (r.labels + 1) q in
+      let inside_closer : at_or_above (apex_of z) closer ≡ true = ap (at_or_above (apex_of z)) last.is ∙ strictly_at (apex_of z) (last.label ∷ e) apex in
+      let above_closer : at_or_above closer q ≡ true = ap (λ n. at_or_above n q) last.is ∙ last.above in
+      let gone : kept z ex (last.label ∷ e) ≡ false = ap (kept z ex) (sym last.is) ∙ said_gone z hash ex q f k closer (concerns_name (apex_of z) closer q inside_closer above_closer) m.0 in
       let typed : has z (star_under (low e)) t ≡ true = (and_parts (is_live z (star_under (low e)) && (not (is_delegation z (star_under (low e))) || (t == 43))) (has z (star_under (low e)) t) signed).1 in
       let plain : has z (low e) 39 ≡ false = false_from_ne_true (has z (low e) 39) (λ d. none_below z s.aliases (low e) (star_under (low e)) d (has_owner z (star_under (low e)) t typed) (star_below (low e))) in
       gap_says z s ex (str_to_ascii_lowercase last.label) (low e) q t v (star_gap last.label e last.above apex signed gone) plain f.opt_out k.opts (Some (StarRecords r.datas)) (λ _ w.

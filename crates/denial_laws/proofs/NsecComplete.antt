@@ -16,17 +16,18 @@ use Rattle.denial_laws.specs.Facts.{Rrset, Link, Facts}
 use Rattle.denial_laws.specs.NsecRules.{first_some, is_cut, lacks, star_lacks, at_name, at_owner, below_cut, link_covers, closest, at_star, covered, denied, encloses_at, expanded_by, expanded}
 use Rattle.denial_laws.specs.Deciding.{decided_inside, decided}
 use Rattle.denial_laws.specs.OwnFacts.{spoken, link_of, own_rrset, own_links, own_facts}
-use Rattle.denial_laws.specs.Truth.{IsServable, IsTrueLink, IsTrueRrset, AreTrue, is_star}
+use Rattle.denial_laws.specs.Truth.{IsServable, IsTrueLink, IsTrueRrset, ShowsTypes, SaysTruly, AreTrue, is_star}
 use Rattle.denial_laws.specs.Laws.{is_asked_type}
 use Rattle.denial_laws.proofs.NameFacts.{names_same, same-low, before_unlike, strictly-low, strictly_lowered, above_cases, strictly_at}
 use Rattle.denial_laws.proofs.AtName.{Answers, lacks_from, star_lacks_from, cut_answers, lack_answers}
 use Rattle.denial_laws.proofs.KeptAncestor.{kept_encloser}
-use Rattle.denial_laws.proofs.ChainBits.{ShowsTypes, nsec_shows, cut_test, asked_no_cname}
+use Rattle.denial_laws.proofs.ChainBits.{nsec_shows, nsec_lacks, cut_test, asked_no_cname}
 use Rattle.denial_laws.proofs.ZoneCuts.{IsCut, ce_encloses, ce_lowered, delegation_owner, delegation_low, cut_is, cut_live}
 use Rattle.denial_laws.proofs.Found.{first_is, left_is, right_is}
 use Rattle.denial_laws.proofs.Adjacent.{Covered, chain_inside}
 use Rattle.denial_laws.proofs.NsecEncloser.{Encloser, encloser, owner_exists}
-use Rattle.denial_laws.proofs.NsecCovered.{cover, exists_covered, apex_above, tells_cut}
+use Rattle.denial_laws.proofs.ChainSays.{link_says, chains_say_truly}
+use Rattle.denial_laws.proofs.NsecCovered.{cover, covering, exists_covered, apex_above, tells_cut}
 use Rattle.denial_laws.proofs.NsecSound.{sound_links}
 use Rattle.denial_laws.proofs.VerdictView.{View, Signed, Missing, Cut, Starred, Unstarred, Gone, view, star_uncut}
 use Rattle.denial_laws.proofs.Unaliased.{IsUnaliased, beside_unredirected, there_no_cname, star_no_cname}
@@ -40,11 +41,14 @@ LacksBoth z o t = (has z o t ≡ false) × (has z o 5 ≡ false)
 module _ (z : Zone) (s : IsServable z) (q : Name) (t : ℕ) (l : t < 65536) (k : is_asked_type t ≡ true) (u : IsUnaliased z false (low q) t) where
   -- bits of a name that lacks the type
   own_lacks : (o : Name) → LacksBoth z o t → lacks (bitmap (nsec_types z true o)) t ≡ true
-  own_lacks o h = lacks_from z o (bitmap (nsec_types z true o)) t l k (nsec_shows z s o) h.0 h.1
+  own_lacks o h = lacks_from z o (bitmap (nsec_types z true o)) t l k (nsec_shows z s o) (nsec_lacks z s o) h.0 h.1
 
   -- bits of a wildcard that lacks it
   star_lacking : (o : Name) → is_star o ≡ true → LacksBoth z o t → star_lacks (bitmap (nsec_types z true o)) t ≡ true
-  star_lacking o w h = star_lacks_from z s o (bitmap (nsec_types z true o)) t w l k (nsec_shows z s o) h.0 h.1
+  star_lacking o w h = star_lacks_from z s o (bitmap (nsec_types z true o)) t w l k (nsec_shows z s o) (nsec_lacks z s o) h.0 h.1
+
+  says : (o : Name) → In o (nsec_names z) → SaysTruly z (link_of z o)
+  says o i = link_says z s (link_of z o) (own_link_true z s o i)
 
   -- ---- a record of the name
 
@@ -67,7 +71,7 @@ module _ (z : Zone) (s : IsServable z) (q : Name) (t : ℕ) (l : t < 65536) (k :
   star_beside o i n c = go (strictly_above (star_under n) (nsec_next z o)) refl
     where
       reach : Covered z (low o) (low (nsec_next z o)) (low (star_under n))
-      reach = cover z s (link_of z o) (own_link_true z s o i) (star_under n) c
+      reach = cover z s (link_of z o) (says o i) (star_under n) c
 
       unlike : same o (star_under n) ≡ false
       unlike = false_from_ne_true (same o (star_under n)) (λ e. before_unlike (low o) (low (star_under n)) reach.before (same-low o (star_under n) ∙ e))
@@ -100,15 +104,15 @@ module _ (z : Zone) (s : IsServable z) (q : Name) (t : ℕ) (l : t < 65536) (k :
     -- ---- the name is there without the type
 
     module _ (o : Name) (i : In o (nsec_names z)) (h : covers (apex_of z) o (nsec_next z o) (low q) ≡ true) (a : at_or_above (apex_of z) (low q) ≡ true) where
-      gap : Covered z (low o) (low (nsec_next z o)) (low q)
-      gap = cover z s (link_of z o) (own_link_true z s o i) q (own_covers z s o q i u.unredirected h)
+      gap : covers z.name o (nsec_next z o) q ≡ true
+      gap = covering z s (link_of z o) (says o i) q (own_covers z s o q i u.unredirected h)
 
       -- the next name is below it exactly where it exists
       next_below : (b : Bool) → exists z (low q) ≡ b → strictly_above q (nsec_next z o) ≡ b
-      next_below b x = sym (strictly-low q (nsec_next z o)) ∙ sym (exists_covered z s (low o) (low (nsec_next z o)) (low q) gap (low-low q) a (strictly_above (low q) (low (nsec_next z o))) refl) ∙ x
+      next_below b x = sym (strictly-low q (nsec_next z o)) ∙ sym (exists_covered z s (link_of z o) (says o i) q gap a (strictly_above (low q) (low (nsec_next z o))) refl) ∙ x
 
       shown : Encloser z (link_of z o) q
-      shown = encloser z s (link_of z o) q gap (sym (strictly_lowered (apex_of z) q) ∙ apex_above z s (low o) (low (nsec_next z o)) (low q) gap (low-low q) a)
+      shown = encloser z s (link_of z o) (says o i) q gap (sym (strictly_lowered (apex_of z) q) ∙ apex_above z s (link_of z o) (says o i) q gap a)
 
       abbrev beyond : Bool → Bool → Option Name → Option Verdict
       beyond c b e = elim c [
@@ -187,7 +191,7 @@ module _ (z : Zone) (s : IsServable z) (q : Name) (t : ℕ) (l : t < 65536) (k :
               cut_test z q (bitmap (nsec_types z true c)) live (subst (λ n. ShowsTypes z n (bitmap (nsec_types z true c))) is (nsec_shows z s c)) ∙ ap (is_delegation z) (sym is) ∙ r.delegation in
               let told = cut_answers z.name q t (bitmap (nsec_types z true c)) (and_from _ _ at_cut (not_from_false (t == 43) ds)) in
               by_owner (link_of z c) g (told.0, at_owner_is c is ∙ told.1)
-          | inr m ↦ by_cut (link_of z c) g (Delegated, tells_cut z s (link_of z c) (own_link_true z s c i) q (ap (is_delegation z) lc ∙ r.delegation) (ap (λ n. strictly_above n (low q)) lc ∙ m))
+          | inr m ↦ by_cut (link_of z c) g (Delegated, tells_cut z s (link_of z c) (says c i) q (ap (is_delegation z) lc ∙ r.delegation) (ap (λ n. strictly_above n (low q)) lc ∙ m))
         ]
 
     -- ---- a wildcard's RRset
@@ -221,7 +225,7 @@ module _ (z : Zone) (s : IsServable z) (hash : Name → List ℕ) (q : Name) (t 
       → decided z.name hash (own_facts z hash Nsec q t) q t ≡ Some (verdict z false q t)
   finish o qs e r w =
       let facts : Facts = made o qs in
-      let true_facts : AreTrue z hash Nsec q t facts = record { rrset = r; chain = (all_from (IsTrueLink z) (own_links z Nsec qs) (own_links_true z s qs), refl) } in
+      let true_facts : AreTrue z hash Nsec q t facts = record { rrset = r; said = chains_say_truly z hash Nsec q facts s tt (all_from (IsTrueLink z) (own_links z Nsec qs) (own_links_true z s qs), refl) } in
       let said : decided z.name hash facts q t ≡ Some w.0 = ap (λ b. elim b as (λ _. Option Verdict) [ true ↦ decided_inside z.name hash facts q t | false ↦ None ]) (sym (lowered_above z.name q) ∙ a) ∙ w.1 in
       ap (λ f. decided z.name hash f q t) e ∙ said ∙ ap (λ v. Some v) (sound_links z hash facts q t w.0 s l true_facts said).0
 

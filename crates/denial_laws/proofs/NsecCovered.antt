@@ -1,7 +1,7 @@
 -- What an NSEC record of a delegation above a name proves, and one that covers the name, is the zone's verdict.
 use Rattle.std.proofs.Common.{◌≡◌, ℕ, ◌<◌, Bool, true, false, ◌&&◌, not, List, Option, Some, None, refl, sym, ap, subst, ◌∙◌, ◌⊎◌, inl, inr}
 use Rattle.std.specs.Prelude.{◌==◌, if◌then◌else◌}
-use Rattle.std.proofs.lemmas.Bool.{and_parts, and_from, and_left, not-true, not_from_false, false≢true, false_from_ne_true}
+use Rattle.std.proofs.lemmas.Bool.{and_parts, and_from, and_left, or_right, not-true, not_from_false, false≢true, false_from_ne_true}
 use Rattle.definitions.specs.Name.{Name, low, same, labels_eq, at_or_above, strictly_above}
 use Rattle.definitions.specs.Covering.{covers}
 use Rattle.definitions.specs.Bitmap.{bitmap_has}
@@ -10,71 +10,84 @@ use Rattle.definitions.specs.Zone as zone
 use Rattle.definitions.specs.ZoneChain.{nsec_names}
 use Rattle.definitions.proofs.Members.{In}
 use Rattle.definitions.proofs.NameLaws.{labels_decide}
-use Rattle.definitions.proofs.ZoneNames.{kept-live, above_lowered, low-low, same_lowered, owner_lowered, live_owner, owner_in_chain}
+use Rattle.definitions.proofs.ZoneNames.{kept-live, above_itself, above_lowered, low-low, same_lowered, owner_lowered, live_owner, owner_in_chain}
 use Rattle.denial_laws.specs.Facts.{Link}
 use Rattle.denial_laws.specs.NsecRules.{first_some, is_cut, lacks, star_lacks, below_cut, link_covers, redirects, closest, at_star, covered}
 use Rattle.denial_laws.specs.Aliases.{is_redirected}
-use Rattle.denial_laws.specs.Truth.{IsServable, IsTrueLink, is_star}
+use Rattle.denial_laws.specs.Truth.{IsServable, SaysTruly, ShowsTypes, is_star}
 use Rattle.denial_laws.specs.Laws.{IsSaidBy}
 use Rattle.denial_laws.proofs.NameFacts.{above-low, strictly-low, strictly_lowered, same_names, names_same, above_cases, strictly_at, strictly_unlike, strictly_from, above_trans, at_strictly_above}
-use Rattle.denial_laws.proofs.ChainBits.{ShowsTypes, cut_no_dname}
+use Rattle.denial_laws.proofs.ChainBits.{cut_no_dname}
 use Rattle.denial_laws.proofs.ZoneCuts.{NoneAbove, NoneStrictlyAbove, IsCut, has_owner, delegation_owner, delegation_low, no_star_cut, uncut, cut_is, cut_live, cut_from, uncut_live, live_uncut}
-use Rattle.denial_laws.proofs.Unaliased.{unredirected, none_below, cut_unredirected, no_alias, cut_unaliased, there_unaliased, star_unaliased, unaliased}
+use Rattle.denial_laws.proofs.Unaliased.{unredirected, no_redirector, kept_unredirected, cut_unredirected, no_alias, cut_unaliased, there_unaliased, star_unaliased, unaliased}
 use Rattle.denial_laws.proofs.Found.{first_from, unlike_none}
-use Rattle.denial_laws.proofs.Adjacent.{Covered, apex_in, link_covered, no_owner, below_next, above_owner}
+use Rattle.denial_laws.proofs.Adjacent.{Covered, apex_in, said_live, link_covered, no_owner, below_next, above_owner}
 use Rattle.denial_laws.proofs.NsecEncloser.{Encloser, encloser, exists_from, exists_is, owner_exists}
 use Rattle.denial_laws.proofs.AtName.{on_true, not_there, lacks_cname}
-use Rattle.denial_laws.proofs.NsecOwner.{link_owner, link_shows, link_cut}
+use Rattle.denial_laws.proofs.NsecOwner.{link_cut}
 use Rattle.denial_laws.proofs.Verdicts.{lacking, verdict_delegated, verdict_existing, verdict_by_star}
 
 lets : {A : Type 0} (b : Bool) (x : A) → b ≡ true → (elim b as (λ _. Option A) [ true ↦ Some x | false ↦ None ]) ≡ Some x
 lets b x e = ap (λ b. elim b as (λ _. Option _) [ true ↦ Some x | false ↦ None ]) e
 
-module _ (z : Zone) (s : IsServable z) where
-  -- ---- a name between a live owner and the next
+-- ---- a name that a record covers
 
-  module _ (o n q : Name) (k : Covered z o n q) (lq : low q ≡ q) where
-    -- it exists exactly where the next name is below it
-    pub exists_covered : at_or_above (apex_of z) q ≡ true → (b : Bool) → strictly_above q n ≡ b → exists z q ≡ b
-    exists_covered a true e = exists_is z s q n a k.next (strictly_at q n e)
-    exists_covered a false e = false_from_ne_true (exists z q) (λ x.
-        let w = exists_from z s q x in
-        false≢true (sym e ∙ below_next z s o n q k w.0 w.1.0 w.1.1))
+module _ (z : Zone) (s : IsServable z) (f : Link) (g : SaysTruly z f) (q : Name) (c : covers z.name f.owner f.next q ≡ true) where
+  abbrev o : Name
+  o = low f.owner
 
-    pub untyped : at_or_above (apex_of z) q ≡ true → NoneStrictlyAbove z q → (t : ℕ) → has z q t ≡ false
-    untyped a c t = false_from_ne_true (has z q t) (λ h.
-        no_owner z s o n q k q (owner_in_chain z q (has_owner z q t h) (uncut_live z q lq a c)) (names_same q q refl))
+  abbrev n : Name
+  n = low f.next
 
-    pub apex_above : at_or_above (apex_of z) q ≡ true → strictly_above (apex_of z) q ≡ true
-    apex_above a = strictly_from (apex_of z) q a (no_owner z s o n q k (apex_of z) (apex_in z s))
+  abbrev x : Name
+  x = low q
 
-    -- no delegation is at or above it, or the owner is one
-    pub cut_or_none : NoneAbove z q ⊎ ((is_delegation z o ≡ true) × (strictly_above o q ≡ true))
-    cut_or_none = go (cut z q) refl
-      where
-        go : (c : Option Name) → cut z q ≡ c → NoneAbove z q ⊎ ((is_delegation z o ≡ true) × (strictly_above o q ≡ true))
-        go None e = inl (uncut z q lq e)
-        go (Some c) e =
-            let r : IsCut z q c = cut_is z q c lq e in
-            let i : In c (nsec_names z) = owner_in_chain z c (delegation_owner z c r.delegation) (cut_live z q c r) in
-            let lo : low o ≡ o = owner_lowered z o (live_owner z o k.owner).0 in
-            elim (above_cases c q r.above) [
-              | inl h ↦ absurd (no_owner z s o n q k c i h)
-              | inr h ↦ elim (above_cases c o (above_owner z s o n q k c i h)) [
-                | inl m ↦
-                    let is : c ≡ o = same_lowered c o (delegation_low z c r.delegation) lo m in
-                    inr (ap (is_delegation z) (sym is) ∙ r.delegation, ap (λ n. strictly_above n q) (sym is) ∙ h)
-                | inr m ↦ absurd (live_uncut z o lo (live_owner z o k.owner).1 c r.delegation m)
-              ]
+  k : Covered z o n x
+  k = link_covered z s f g q c
+
+  -- it exists exactly where the next name is below it
+  pub exists_covered : at_or_above (apex_of z) x ≡ true → (b : Bool) → strictly_above x n ≡ b → exists z x ≡ b
+  exists_covered a true e = g.shown q q c (above_itself q) (sym (above-low z.name q) ∙ a) (or_right (at_or_above q f.owner) (at_or_above q f.next) (strictly_at q f.next (sym (strictly-low q f.next) ∙ e)))
+  exists_covered a false e = false_from_ne_true (exists z x) (λ there.
+      let w = exists_from z s x there in
+      false≢true (sym e ∙ below_next z s o n x k w.0 w.1.0 w.1.1))
+
+  pub untyped : at_or_above (apex_of z) x ≡ true → NoneStrictlyAbove z x → (t : ℕ) → has z x t ≡ false
+  untyped a c t = false_from_ne_true (has z x t) (λ h.
+      no_owner z s o n x k x (owner_in_chain z x (has_owner z x t h) (uncut_live z x (low-low q) a c)) (names_same x x refl))
+
+  pub apex_above : at_or_above (apex_of z) x ≡ true → strictly_above (apex_of z) x ≡ true
+  apex_above a = strictly_from (apex_of z) x a (no_owner z s o n x k (apex_of z) (apex_in z s))
+
+  -- no delegation is at or above it, or the owner is one
+  pub cut_or_none : NoneAbove z x ⊎ ((is_delegation z o ≡ true) × (strictly_above o x ≡ true))
+  cut_or_none = go (cut z x) refl
+    where
+      go : (c : Option Name) → cut z x ≡ c → NoneAbove z x ⊎ ((is_delegation z o ≡ true) × (strictly_above o x ≡ true))
+      go None e = inl (uncut z x (low-low q) e)
+      go (Some c) e =
+          let r : IsCut z x c = cut_is z x c (low-low q) e in
+          let i : In c (nsec_names z) = owner_in_chain z c (delegation_owner z c r.delegation) (cut_live z x c r) in
+          elim (above_cases c x r.above) [
+            | inl h ↦ absurd (no_owner z s o n x k c i h)
+            | inr h ↦ elim (above_cases c o (above_owner z s o n x k c i h)) [
+              | inl m ↦
+                  let is : c ≡ o = same_lowered c o (delegation_low z c r.delegation) (low-low f.owner) m in
+                  inr (ap (is_delegation z) (sym is) ∙ r.delegation, ap (λ n. strictly_above n x) (sym is) ∙ h)
+              | inr m ↦ absurd (live_uncut z o (low-low f.owner) k.live c r.delegation m)
             ]
+          ]
 
 -- ---- records
 
-module _ (z : Zone) (s : IsServable z) (f : Link) (k : IsTrueLink z f) (q : Name) where
-  pub cover : link_covers z.name f q ≡ true → Covered z (low f.owner) (low f.next) (low q)
-  cover h = link_covered z s f k q (and_parts (covers z.name f.owner f.next q) (not (redirects q f)) h).0
+module _ (z : Zone) (s : IsServable z) (f : Link) (k : SaysTruly z f) (q : Name) where
+  pub covering : link_covers z.name f q ≡ true → covers z.name f.owner f.next q ≡ true
+  covering h = (and_parts (covers z.name f.owner f.next q) (not (redirects q f)) h).0
 
-  -- nothing redirects what it covers: a DNAME above the name would own the record, since nothing stands below it
+  pub cover : link_covers z.name f q ≡ true → Covered z (low f.owner) (low f.next) (low q)
+  cover h = link_covered z s f k q (covering h)
+
+  -- nothing redirects what it covers: a DNAME above the name would be at the owner, since nothing stands below it
   pub link_unredirected : link_covers z.name f q ≡ true → is_redirected z (low q) ≡ false
   link_unredirected h = unredirected z (low q) (λ d r.
       let o : Name = low f.owner in
@@ -82,10 +95,10 @@ module _ (z : Zone) (s : IsServable z) (f : Link) (k : IsTrueLink z f) (q : Name
       elim (above_cases d o (above_owner z s o (low f.next) (low q) (cover h) d (owner_in_chain z d owner r.live) r.above)) [
         | inl m ↦
             let is : d ≡ o = same_lowered d o (owner_lowered z d owner) (low-low f.owner) m in
-            let bit : bitmap_has f.bits 39 ≡ true = (link_shows z s f k).redirect ∙ ap (λ n. has z n 39) (sym is) ∙ r.redirects in
+            let bit : bitmap_has f.bits 39 ≡ true = k.types.redirect ∙ ap (λ n. has z n 39) (sym is) ∙ r.redirects in
             let above : strictly_above f.owner q ≡ true = sym (strictly-low f.owner q) ∙ ap (λ n. strictly_above n (low q)) (sym is) ∙ r.above in
             false≢true (sym (not-true (redirects q f) (and_parts (covers z.name f.owner f.next q) (not (redirects q f)) h).1) ∙ and_from _ _ above bit)
-        | inr m ↦ none_below z s.aliases d o r.redirects (live_owner z o (link_owner z s f k)).0 m
+        | inr m ↦ no_redirector z o d (low-low f.owner) (kept_unredirected z s.aliases false o k.there) (record { redirects = r.redirects; live = r.live; above = m })
       ])
 
   pub below_cut_truly : (t : ℕ) (v : Verdict) → below_cut z.name q f ≡ Some v → IsSaidBy z false q t v
@@ -97,7 +110,7 @@ module _ (z : Zone) (s : IsServable z) (f : Link) (k : IsTrueLink z f) (q : Name
       let above : strictly_above o (low q) ≡ true = strictly-low f.owner q ∙ both.1 in
       let unlike : labels_eq o (low q) ≡ false = false_from_ne_true (labels_eq o (low q)) (λ e. strictly_unlike o (low q) above (names_same o (low q) (ap low ((labels_decide o (low q)).0 e)))) in
       let d : is_delegation z o ≡ true = sym (link_cut z s f k) ∙ both.0 in
-      let live = (live_owner z o (link_owner z s f k)).1 in
+      let live = said_live z s f k in
       let up = strictly_at o (low q) above in (
         sym is ∙ sym (verdict_delegated z false q o t d (kept-live z o ∙ live) up (and_left (labels_eq o (low q)) (t == 43) unlike)),
         unaliased z false q t (cut_unredirected z s.aliases (low q) o d live up) (λ _. cut_unaliased z (low q) t o (cut_from z (low q) o (low-low q) d live up)),
@@ -107,10 +120,10 @@ module _ (z : Zone) (s : IsServable z) (f : Link) (k : IsTrueLink z f) (q : Name
   pub tells_cut : is_delegation z (low f.owner) ≡ true → strictly_above (low f.owner) (low q) ≡ true → below_cut z.name q f ≡ Some Delegated
   tells_cut d a = lets (is_cut z.name f.owner f.bits && strictly_above f.owner q && not (bitmap_has f.bits 39)) Delegated
       (and_from (is_cut z.name f.owner f.bits && strictly_above f.owner q) _ (and_from (is_cut z.name f.owner f.bits) _ (link_cut z s f k ∙ d) (sym (strictly-low f.owner q) ∙ a))
-      (not_from_false (bitmap_has f.bits 39) ((link_shows z s f k).redirect ∙ cut_no_dname z s.aliases (low f.owner) d)))
+      (not_from_false (bitmap_has f.bits 39) (k.types.redirect ∙ cut_no_dname z s.aliases (low f.owner) d)))
 
   no_cut : link_covers z.name f q ≡ true → below_cut z.name q f ≡ None → NoneAbove z (low q)
-  no_cut h n = elim (cut_or_none z s (low f.owner) (low f.next) (low q) (cover h) (low-low q)) [
+  no_cut h n = elim (cut_or_none z s f k q (covering h)) [
     | inl none ↦ none
     | inr c ↦ absurd (unlike_none (below_cut z.name q f) Delegated (tells_cut c.0 c.1) n)
   ]
@@ -124,16 +137,14 @@ module _ (z : Zone) (s : IsServable z) (f : Link) (k : IsTrueLink z f) (q : Name
           → (zone.at_star z (low q) t ≡ v) × (has z (low q) 5 ≡ false)
       between false d m n h = absurd cc
       between true true m n h =
-          let k : Covered z (low f.owner) (low f.next) (low q) = cover m in
           let is : StarNoType ≡ v = cc in
-          let x : exists z (low q) ≡ true = exists_covered z s (low f.owner) (low f.next) (low q) k (low-low q) a true (strictly-low q f.next ∙ n) in
-          let y : (t : ℕ) → has z (low q) t ≡ false = untyped z s (low f.owner) (low f.next) (low q) k (low-low q) a c in
+          let x : exists z (low q) ≡ true = exists_covered z s f k q (covering m) a true (strictly-low q f.next ∙ n) in
+          let y : (t : ℕ) → has z (low q) t ≡ false = untyped z s f k q (covering m) a c in
           ((λ i. if x i then (if y t i then StarRecords (data_at z (low q) t) else StarNoType) else NoName) ∙ is, y 5)
       between true false m n h =
-          let k : Covered z (low f.owner) (low f.next) (low q) = cover m in
           let is : NoName ≡ v = cc in
-          let x : exists z (low q) ≡ false = exists_covered z s (low f.owner) (low f.next) (low q) k (low-low q) a false (strictly-low q f.next ∙ n) in
-          (ap (λ b. if b then (if has z (low q) t then StarRecords (data_at z (low q) t) else StarNoType) else NoName) x ∙ is, untyped z s (low f.owner) (low f.next) (low q) k (low-low q) a c 5)
+          let x : exists z (low q) ≡ false = exists_covered z s f k q (covering m) a false (strictly-low q f.next ∙ n) in
+          (ap (λ b. if b then (if has z (low q) t then StarRecords (data_at z (low q) t) else StarNoType) else NoName) x ∙ is, untyped z s f k q (covering m) a c 5)
 
       go : (b : Bool) → same f.owner q ≡ b
           → (elim b as (λ _. Option Verdict) [
@@ -144,16 +155,16 @@ module _ (z : Zone) (s : IsServable z) (f : Link) (k : IsTrueLink z f) (q : Name
           let r = on_true (star_lacks f.bits t) (Some StarNoType) v h in
           let is : StarNoType ≡ v = cc in
           let same_name : low f.owner ≡ low q = same_names f.owner q m in
-          let x : exists z (low q) ≡ true = owner_exists z s (low q) (subst (λ n. In n (nsec_names z)) same_name (link_owner z s f k)) in
+          let x : exists z (low q) ≡ true = subst (λ n. exists z n ≡ true) same_name k.there in
           let d : is_delegation z (low q) ≡ false = no_star_cut z s (low q) (ap (λ n. is_star (low n)) st) in
-          let shows : ShowsTypes z (low q) f.bits = subst (λ n. ShowsTypes z n f.bits) same_name (link_shows z s f k) in
+          let shows : ShowsTypes z (low q) f.bits = subst (λ n. ShowsTypes z n f.bits) same_name k.types in
           let lacking = (and_parts (lacks f.bits t) _ r.0).0 in
           let y : has z (low q) t ≡ false = not_there z (low q) f.bits t l shows (inl d) lacking in
           ((λ i. if x i then (if y i then StarRecords (data_at z (low q) t) else StarNoType) else NoName) ∙ is, lacks_cname z (low q) f.bits t shows lacking)
       go false m h = between (link_covers z.name f q) (strictly_above q f.next) refl refl h
 
 -- a name that a record covers, where the record tells of no delegation
-module _ (z : Zone) (s : IsServable z) (q : Name) (t : ℕ) (l : t < 65536) (fs : List Link) (ks : (g : Link) → In g fs → IsTrueLink z g) (a : at_or_above (apex_of z) (low q) ≡ true) where
+module _ (z : Zone) (s : IsServable z) (q : Name) (t : ℕ) (l : t < 65536) (fs : List Link) (ks : (g : Link) → In g fs → SaysTruly z g) (a : at_or_above (apex_of z) (low q) ≡ true) where
   pub covered_truly : (f : Link) → In f fs → below_cut z.name q f ≡ None → (v : Verdict) → covered z.name q t fs f ≡ Some v → IsSaidBy z false q t v
   covered_truly f i n v h =
       let r = on_true (link_covers z.name f q) (elim (strictly_above q f.next) [
@@ -166,20 +177,19 @@ module _ (z : Zone) (s : IsServable z) (q : Name) (t : ℕ) (l : t < 65536) (fs 
           → (elim b as (λ _. Option Verdict) [ true ↦ Some NoType | false ↦ elim (closest f q) [ None ↦ None | Some e ↦ first_some (at_star z.name (star_under e) t) fs ] ]) ≡ Some v
           → IsSaidBy z false q t v
       go m true e h =
-          let k : Covered z (low f.owner) (low f.next) (low q) = cover z s f (ks f i) q m in
+          let c = covering z s f (ks f i) q m in
           let is : NoType ≡ v = cc in
-          let below : strictly_above (low q) (low f.next) ≡ true = strictly-low q f.next ∙ e in
-          let none : NoneAbove z (low q) = λ d i b. live_uncut z (low f.next) (low-low f.next) (live_owner z (low f.next) k.next).1 d i (at_strictly_above d (low q) (low f.next) b below) in
-          let x : exists z (low q) ≡ true = exists_covered z s (low f.owner) (low f.next) (low q) k (low-low q) a true below in
-          let y : (t : ℕ) → has z (low q) t ≡ false = untyped z s (low f.owner) (low f.next) (low q) k (low-low q) a (λ d i b. none d i (strictly_at d (low q) b)) in (
+          let none : NoneAbove z (low q) = no_cut z s f (ks f i) q m n in
+          let x : exists z (low q) ≡ true = exists_covered z s f (ks f i) q c a true (strictly-low q f.next ∙ e) in
+          let y : (t : ℕ) → has z (low q) t ≡ false = untyped z s f (ks f i) q c a (λ d i b. none d i (strictly_at d (low q) b)) in (
             sym is ∙ sym (verdict_existing z q t none x ∙ lacking z (low q) t (y t)),
             unaliased z false q t (link_unredirected z s f (ks f i) q m) (λ _. there_unaliased z (low q) t x (no_alias z (low q) t (y 5))),
           )
       go m false e h =
-          let k : Covered z (low f.owner) (low f.next) (low q) = cover z s f (ks f i) q m in
+          let reach = covering z s f (ks f i) q m in
           let none : NoneAbove z (low q) = no_cut z s f (ks f i) q m n in
-          let x : exists z (low q) ≡ false = exists_covered z s (low f.owner) (low f.next) (low q) k (low-low q) a false (strictly-low q f.next ∙ e) in
-          let c : Encloser z f q = encloser z s f q k (sym (strictly_lowered (apex_of z) q) ∙ apex_above z s (low f.owner) (low f.next) (low q) k (low-low q) a) in
+          let x : exists z (low q) ≡ false = exists_covered z s f (ks f i) q reach a false (strictly-low q f.next ∙ e) in
+          let c : Encloser z f q = encloser z s f (ks f i) q reach (sym (strictly_lowered (apex_of z) q) ∙ apex_above z s f (ks f i) q reach a) in
           let found : first_some (at_star z.name (star_under c.name) t) fs ≡ Some v =
           sym (ap (λ (o : Option Name). elim o as (λ _. Option Verdict) [ None ↦ None | Some e ↦ first_some (at_star z.name (star_under e) t) fs ]) c.shown) ∙ h in
           let g = first_from (at_star z.name (star_under c.name) t) fs v found in

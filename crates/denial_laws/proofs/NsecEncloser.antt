@@ -1,17 +1,18 @@
 -- The closest encloser that a covering record shows is the zone's.
 use Rattle.std.proofs.Common.{◌≡◌, ℕ, Bool, true, false, ◌||◌, List, [], ◌∷◌, Option, Some, refl, sym, ap, ◌∙◌, inl, inr}
 use Rattle.std.specs.Prelude.{if◌then◌else◌}
-use Rattle.std.proofs.lemmas.Bool.{or_cases, or_left, or_right, false≢true, false_from_ne_true}
+use Rattle.std.proofs.lemmas.Bool.{and_parts, or_left, or_right, false≢true, false_from_ne_true}
 use Rattle.definitions.specs.Name.{Name, low, same, at_or_above, strictly_above}
+use Rattle.definitions.specs.Covering.{covers}
 use Rattle.definitions.specs.Zone.{Zone, apex_of, exists, ce}
 use Rattle.definitions.specs.ZoneChain.{nsec_names}
 use Rattle.definitions.proofs.Members.{In}
-use Rattle.definitions.proofs.ZoneNames.{above_itself, above_lowered, kept-live, live_owner, owner_in_chain}
+use Rattle.definitions.proofs.ZoneNames.{above_itself, above_lowered, lowered_above, kept-live, live_owner, owner_in_chain}
 use Rattle.denial_laws.specs.Facts.{Link}
-use Rattle.denial_laws.specs.Truth.{IsServable}
-use Rattle.denial_laws.specs.NsecRules.{closest}
+use Rattle.denial_laws.specs.Truth.{IsServable, SaysTruly}
+use Rattle.denial_laws.specs.NsecRules.{shows, closest}
 use Rattle.denial_laws.proofs.NameFacts.{above-low, same_names, above-same, strictly_at, strictly_from, above_trans}
-use Rattle.denial_laws.proofs.Adjacent.{Covered, chain_inside, beside}
+use Rattle.denial_laws.proofs.Adjacent.{Covered, chain_inside, link_covered, beside}
 use Rattle.denial_laws.proofs.ZoneCuts.{IsKeptBy, kept_by, by_kept, kept_live}
 
 module _ (z : Zone) (s : IsServable z) where
@@ -40,9 +41,12 @@ pub record Encloser (z : Zone) (f : Link) (q : Name) : Type 0 where
   pub inside : at_or_above (apex_of z) name ≡ true
   pub longest : (c : Name) → strictly_above c q ≡ true → at_or_above c f.owner ≡ true → at_or_above c name ≡ true
 
-module _ (z : Zone) (s : IsServable z) (f : Link) (q : Name) (k : Covered z (low f.owner) (low f.next) (low q)) where
+module _ (z : Zone) (s : IsServable z) (f : Link) (g : SaysTruly z f) (q : Name) (h : covers z.name f.owner f.next q ≡ true) where
+  k : Covered z (low f.owner) (low f.next) (low q)
+  k = link_covered z s f g q h
+
   -- an ancestor is at or above the owner or the next name exactly where it exists
-  exists_shown : (p : Name) → at_or_above p q ≡ true → exists z (low p) ≡ true → (at_or_above p f.owner || at_or_above p f.next) ≡ true
+  exists_shown : (p : Name) → at_or_above p q ≡ true → exists z (low p) ≡ true → shows f p ≡ true
   exists_shown p h e =
       let w = exists_from z s (low p) e in
       elim (beside z s (low f.owner) (low f.next) (low q) k (low p) w.0 (above-low p q ∙ h) w.1.0 w.1.1) [
@@ -50,25 +54,20 @@ module _ (z : Zone) (s : IsServable z) (f : Link) (q : Name) (k : Covered z (low
         | inr a ↦ or_right (at_or_above p f.owner) (at_or_above p f.next) (sym (above-low p f.next) ∙ a)
       ]
 
-  shown_exists : (p : Name) → at_or_above (apex_of z) p ≡ true → (at_or_above p f.owner || at_or_above p f.next) ≡ true → exists z (low p) ≡ true
-  shown_exists p a h =
-      let inside : at_or_above (apex_of z) (low p) ≡ true = above_lowered (apex_of z) p ∙ a in
-      elim (or_cases (at_or_above p f.owner) (at_or_above p f.next) h) [
-        | inl b ↦ exists_is z s (low p) (low f.owner) inside k.owner (above-low p f.owner ∙ b)
-        | inr b ↦ exists_is z s (low p) (low f.next) inside k.next (above-low p f.next ∙ b)
-      ]
+  shown_exists : (p : Name) → at_or_above (apex_of z) p ≡ true → at_or_above p q ≡ true → shows f p ≡ true → exists z (low p) ≡ true
+  shown_exists p a up e = g.shown p q h up (sym (lowered_above z.name p) ∙ a) e
 
   -- the apex is at or above the owner
-  apex_shown : (p : Name) → same (apex_of z) p ≡ true → (at_or_above p f.owner || at_or_above p f.next) ≡ true
+  apex_shown : (p : Name) → same (apex_of z) p ≡ true → shows f p ≡ true
   apex_shown p e = or_left (at_or_above p f.owner) (at_or_above p f.next)
-      (sym (above-same (apex_of z) p f.owner (same_names (apex_of z) p e)) ∙ sym (above_lowered (apex_of z) f.owner) ∙ chain_inside z s (low f.owner) k.owner)
+      (sym (above-same (apex_of z) p f.owner (same_names (apex_of z) p e)) ∙ sym (above_lowered (apex_of z) f.owner) ∙ (and_parts (at_or_above (apex_of z) (low f.owner)) _ k.live).0)
 
-  found : (l : List ℕ) (p : Name) (b : Bool) → (at_or_above p f.owner || at_or_above p f.next) ≡ b → at_or_above (l ∷ p) q ≡ true → at_or_above (apex_of z) p ≡ true
+  found : (l : List ℕ) (p : Name) (b : Bool) → shows f p ≡ b → at_or_above (l ∷ p) q ≡ true → at_or_above (apex_of z) p ≡ true
       → (strictly_above (apex_of z) p ≡ true → at_or_above p q ≡ true → Encloser z f p) → Encloser z f (l ∷ p)
   found l p true e h a later = record {
     name = p;
     shown = ap (λ b. elim b as (λ _. Option Name) [ true ↦ Some p | false ↦ closest f p ]) e;
-    is = ap (λ b. if b then Some (low p) else ce z (low p)) (shown_exists p a e);
+    is = ap (λ b. if b then Some (low p) else ce z (low p)) (shown_exists p a (above_trans p (l ∷ p) q (strictly_at p (l ∷ p) (above_itself p)) h) e);
     above = above_itself p;
     inside = a;
     longest = λ c b _. b;
@@ -88,7 +87,7 @@ module _ (z : Zone) (s : IsServable z) (f : Link) (q : Name) (k : Covered z (low
 
   enclosed : (p : Name) → at_or_above p q ≡ true → strictly_above (apex_of z) p ≡ true → Encloser z f p
   enclosed [] h a = absurd (false≢true a)
-  enclosed (l ∷ p) h a = found l p (at_or_above p f.owner || at_or_above p f.next) refl h a (λ b below. enclosed p below b)
+  enclosed (l ∷ p) h a = found l p (shows f p) refl h a (λ b below. enclosed p below b)
 
   pub encloser : strictly_above (apex_of z) q ≡ true → Encloser z f q
   encloser a = enclosed q (above_itself q) a

@@ -9,7 +9,7 @@ use Rattle.denial_laws.specs.Facts.{Rrset, Link, HashLink, Facts, is_expanded}
 use Rattle.denial_laws.specs.NsecRules.{first_some, at_owner, below_cut, covered, denied, expanded_by, expanded}
 use Rattle.denial_laws.specs.Nsec3Rules.{hash_denied, hash_expanded}
 use Rattle.denial_laws.specs.Deciding.{by_chain, by_wildcard, decided_inside, decided}
-use Rattle.denial_laws.specs.Truth.{IsServable, IsTrueLink, IsTrueRrset, AreTrue}
+use Rattle.denial_laws.specs.Truth.{IsServable, SaysTruly, IsTrueRrset, AreTrue}
 use Rattle.denial_laws.specs.Laws.{IsSaidBy}
 use Rattle.denial_laws.proofs.NameFacts.{above-low}
 use Rattle.denial_laws.proofs.ChainBits.{all_at}
@@ -21,7 +21,7 @@ use Rattle.denial_laws.proofs.NsecCovered.{below_cut_truly, covered_truly}
 use Rattle.denial_laws.proofs.NsecWildcard.{expanded_truly}
 
 module _ (z : Zone) (s : IsServable z) (q : Name) (t : ℕ) (l : t < 65536) (a : at_or_above (apex_of z) (low q) ≡ true) where
-  module _ (fs : List Link) (ks : (g : Link) → In g fs → IsTrueLink z g) where
+  module _ (fs : List Link) (ks : (g : Link) → In g fs → SaysTruly z g) where
     denied_truly : (v : Verdict) → denied z.name q t fs ≡ Some v → IsSaidBy z false q t v
     denied_truly v h = elim (either_from (first_some (at_owner z.name q t) fs) _ v h) [
       | inl e ↦ let f = first_from (at_owner z.name q t) fs v e in owner_truly z s q t l f.0 (ks f.0 f.1.0) v f.1.1
@@ -49,18 +49,18 @@ sound_links z hash f q t v s l k h =
     let inside = on_true (at_or_above z.name q) (decided_inside z.name hash f q t) v h in
     go (above-low z.name q ∙ inside.0) f.rrset k.rrset inside.1
   where
-    true_links : (g : Link) → In g f.links → IsTrueLink z g
-    true_links g i = all_at (IsTrueLink z) f.links g k.chain.0 i
+    true_links : (g : Link) → In g f.links → SaysTruly z g
+    true_links g i = all_at (SaysTruly z) f.links g k.said.0 i
 
     of_star : at_or_above (apex_of z) (low q) ≡ true → (r : Rrset) → IsTrueRrset z q t r → (b : Bool) → is_expanded r q ≡ b
         → (elim b as (λ _. Option Verdict) [ false ↦ Some (Records r.datas) | true ↦ by_wildcard z.name hash f r q ]) ≡ Some v → IsSaidBy z false q t v
     of_star a r m false e h = let is : Records r.datas ≡ v = cc in subst (IsSaidBy z false q t) is (records_truly z s false q t r m e)
-    of_star a r m true e h = wildcard_truly z s q t l a f.links true_links r m e v (sym (star_by_links z hash f q t k.chain.1 r) ∙ h)
+    of_star a r m true e h = wildcard_truly z s q t l a f.links true_links r m e v (sym (star_by_links z hash f q t k.said.1 r) ∙ h)
 
     go : at_or_above (apex_of z) (low q) ≡ true → (o : Option Rrset) → IfSome o (IsTrueRrset z q t)
         → (elim o as (λ _. Option Verdict) [
           | None ↦ by_chain z.name hash f q t
           | Some r ↦ elim (is_expanded r q) [ false ↦ Some (Records r.datas) | true ↦ by_wildcard z.name hash f r q ]
         ]) ≡ Some v → IsSaidBy z false q t v
-    go a None m h = denied_truly z s q t l a f.links true_links v (sym (by_links z hash f q t k.chain.1) ∙ h)
+    go a None m h = denied_truly z s q t l a f.links true_links v (sym (by_links z hash f q t k.said.1) ∙ h)
     go a (Some r) m h = of_star a r m (is_expanded r q) refl h

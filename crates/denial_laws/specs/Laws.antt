@@ -7,7 +7,7 @@ use Rattle.definitions.specs.ZoneChain.{Mode, Nsec, Nsec3, optout_of}
 use Rattle.denial_laws.specs.Aliases.{is_aliased}
 use Rattle.denial_laws.specs.Facts.{Facts}
 use Rattle.denial_laws.specs.Deciding.{decided, hashed}
-use Rattle.denial_laws.specs.Truth.{IsServable, AreTrue, NoSharedHash, concerned, is_foreign_type}
+use Rattle.denial_laws.specs.Truth.{IsServable, AreChain, SayTruly, AreTrue, NoSharedHash, concerned, is_foreign_type}
 use Rattle.denial_laws.specs.OwnFacts.{own_facts}
 use Rattle.denial_laws.specs.Saying.{IsVerdict}
 
@@ -19,18 +19,26 @@ OneVerdict = (z : Zone) (optout : Bool) (name : Name) (t : ℕ) (v : Verdict) �
 abbrev pub IsSaidBy : Zone → Bool → Name → ℕ → Verdict → Type 0
 IsSaidBy z optout q t v = (v ≡ verdict z optout q t) × (is_aliased z optout q t ≡ false)
 
--- Sound: whatever true facts are handed in, what they decide is the zone's verdict, and the name is no alias.
+-- Sound: whatever true facts are handed in, what they decide is the zone's verdict, and the name is no alias. Their records of
+-- denial may be those of a chain, or such that a signer made for the question.
 abbrev pub TrueFactsDecideTruly : Type 0
 TrueFactsDecideTruly =
     (z : Zone) (hash : Name → List ℕ) (mode : Mode) (f : Facts) (q : Name) (t : ℕ) (v : Verdict)
-    → IsServable z → NoSharedHash z hash mode q → t < 65536 → AreTrue z hash mode q t f
+    → IsServable z → t < 65536 → AreTrue z hash mode q t f
     → decided z.name hash f q t ≡ Some v → IsSaidBy z (optout_of mode) q t v
+
+-- The records of a zone's chain say truly, where no two names of it share a hash, and none shares its hash with another name that
+-- the question concerns.
+abbrev pub ChainsSayTruly : Type 0
+ChainsSayTruly =
+    (z : Zone) (hash : Name → List ℕ) (mode : Mode) (q : Name) (f : Facts)
+    → IsServable z → NoSharedHash z hash mode q → AreChain z hash mode f → SayTruly z hash mode q f
 
 -- what facts decide is what any zone says of which they are true
 abbrev pub DecidesTruly : Name → (Name → List ℕ) → Facts → Name → ℕ → Option Verdict → Type 0
 DecidesTruly apex hash f q t None = Unit {0}
 DecidesTruly apex hash f q t (Some v) =
-    (z : Zone) (mode : Mode) → z.name ≡ apex → IsServable z → NoSharedHash z hash mode q → AreTrue z hash mode q t f
+    (z : Zone) (mode : Mode) → z.name ≡ apex → IsServable z → AreTrue z hash mode q t f
     → IsSaidBy z (optout_of mode) q t v
 
 -- Types that are asked for: not those that signing adds, aliases, and types that are no data (RFC 1035, 3.2.3; RFC 6891, 6.1;

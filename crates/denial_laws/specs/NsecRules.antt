@@ -53,11 +53,15 @@ below_cut apex q f = elim (is_cut apex f.owner f.bits && strictly_above f.owner 
 abbrev pub link_covers : Name → Link → Name → Bool
 link_covers apex f q = covers apex f.owner f.next q && not (redirects q f)
 
--- The closest encloser that a covering record shows: the longest ancestor at or above its owner or next name
--- (RFC 4592, 3.3.1). An ancestor further up would let another wildcard speak for the name.
+-- a record shows that a name exists: its owner or its next name is at or below it
+abbrev pub shows : Link → Name → Bool
+shows f p = at_or_above p f.owner || at_or_above p f.next
+
+-- The closest encloser that a covering record shows: the longest ancestor that it shows to exist (RFC 4592, 3.3.1). An ancestor
+-- further up would let another wildcard speak for the name.
 abbrev pub closest : Link → Name → Option Name
 closest f [] = None
-closest f (l ∷ q) = elim (at_or_above q f.owner || at_or_above q f.next) [ true ↦ Some q | false ↦ closest f q ]
+closest f (l ∷ q) = elim (shows f q) [ true ↦ Some q | false ↦ closest f q ]
 
 -- the wildcard: there without the type, there with names below it alone, or not there; without this look a name that it stands
 -- for would pass for one that does not exist

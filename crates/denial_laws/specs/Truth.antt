@@ -1,15 +1,17 @@
--- When facts are true of a zone: each record is one that the zone has signed.
-use Rattle.std.specs.Prelude.{◌≡◌, ℕ, ◌≤◌, Bool, true, false, not, ◌&&◌, ◌||◌, ◌==◌, List, [], ◌∷◌, ◌++◌, map, filter, length, IfSome, Contains, nat_eq}
+-- When facts are true of a zone: the RRset is one that it has signed, and its records of denial say what is so.
+use Rattle.std.specs.Prelude.{◌≡◌, ◌⊎◌, ℕ, ◌<◌, ◌≤◌, Bool, true, false, not, ◌&&◌, ◌||◌, ◌==◌, List, [], ◌∷◌, ◌++◌, map, filter, length, IfSome, Contains, nat_eq}
 use Rattle.std.specs.List.{AllByRecursion, list_any}
 use Rattle.std.specs.Str.{bytes_eq}
 use Rattle.definitions.specs.Name.{Name, low, at_or_above}
 use Rattle.definitions.specs.Signing.{signed_owner}
-use Rattle.definitions.specs.Bitmap.{bitmap}
-use Rattle.definitions.specs.Zone.{Zone, Rr, apex_of, owners, has, is_delegation, is_live, star_under, data_at}
+use Rattle.definitions.specs.Bitmap.{bitmap, bitmap_has}
+use Rattle.definitions.specs.Covering.{covers, hash_covers}
+use Rattle.definitions.specs.Zone.{Zone, Rr, apex_of, owners, has, is_delegation, is_live, kept, exists, star_under, data_at}
 use Rattle.definitions.specs.ZoneChain.{Mode, Nsec, Nsec3, with_parents, nsec_names, nsec_next, nsec_types, nsec3_types, nsec3_names, hashed_names, nsec3_next}
 use Rattle.definitions.specs.Laws.{NoneShare, SharesNone}
 use Rattle.denial_laws.specs.Aliases.{IsOrderly, is_alias_type}
 use Rattle.denial_laws.specs.Facts.{Rrset, Link, HashLink, Facts, is_expanded}
+use Rattle.denial_laws.specs.NsecRules.{shows}
 
 -- ---- the zone
 
@@ -38,7 +40,7 @@ pub record IsServable (z : Zone) : Type 0 where
   pub stars : AllByRecursion (λ r. delegates_star r ≡ false) z.records
   pub aliases : IsOrderly z
 
--- ---- its records
+-- ---- its RRsets
 
 -- A zone signs the data of its live owners; of a delegation its DS alone (RFC 4035, 2.2).
 abbrev pub is_signed : Zone → Name → ℕ → Bool
@@ -50,6 +52,8 @@ pub record IsTrueRrset (z : Zone) (q : Name) (t : ℕ) (r : Rrset) : Type 0 wher
   pub signed : is_signed z (signed_owner r.labels q) t ≡ true
   pub datas : r.datas ≡ data_at z (signed_owner r.labels q) t
   pub inside : is_expanded r q ≡ true → length (apex_of z) ≤ r.labels
+
+-- ---- the records of its chain
 
 -- the record is that of a live owner, up to case
 pub record IsTrueLink (z : Zone) (l : Link) : Type 0 where
@@ -71,12 +75,7 @@ abbrev pub AreChain : Zone → (Name → List ℕ) → Mode → Facts → Type 0
 AreChain z hash Nsec f = AllByRecursion (IsTrueLink z) f.links × (f.hash_links ≡ [])
 AreChain z hash (Nsec3 iterations salt optout) f = (f.links ≡ []) × AllByRecursion (IsTrueHashLink z hash optout) f.hash_links
 
--- All facts are true: any of the zone's records, in any order and repeated.
-pub record AreTrue (z : Zone) (hash : Name → List ℕ) (mode : Mode) (q : Name) (t : ℕ) (f : Facts) : Type 0 where
-  pub rrset : IfSome f.rrset (IsTrueRrset z q t)
-  pub chain : AreChain z hash mode f
-
--- ---- hashes
+-- ---- names that a question concerns
 
 -- what a name stands under
 abbrev pub parents : Name → List Name
@@ -87,6 +86,43 @@ parents (l ∷ n) = with_parents n
 -- None is longer than it.
 abbrev pub concerned : Name → Name → List Name
 concerned apex q = filter (at_or_above apex) (with_parents q) ++ map star_under (filter (at_or_above apex) (parents q))
+
+-- ---- records that say what is so, whether they are the chain's or made for a question
+
+-- Bits are true of a name, as far as a rule reads them: of NS, CNAME and DNAME they say whether the name has it, and they have
+-- each type that the name has, at a delegation DS alone. They may have more.
+pub record ShowsTypes (z : Zone) (o : Name) (bits : List ℕ) : Type 0 where
+  pub two : bitmap_has bits 2 ≡ has z o 2
+  pub alias : bitmap_has bits 5 ≡ has z o 5
+  pub redirect : bitmap_has bits 39 ≡ has z o 39
+  pub shows : (t : ℕ) → t < 65536 → (is_delegation z o ≡ false) ⊎ (t ≡ 43) → has z o t ≡ true → bitmap_has bits t ≡ true
+
+-- An NSEC record says truly: its owner exists and has these types; no live owner lies between its owner and its next name; and
+-- what it shows above a name in between exists. Its next name need not be a name of the zone (RFC 4470).
+pub record SaysTruly (z : Zone) (l : Link) : Type 0 where
+  pub there : exists z (low l.owner) ≡ true
+  pub types : ShowsTypes z (low l.owner) l.bits
+  pub gap : (w : Name) → Contains (nsec_names z) w → covers z.name l.owner l.next w ≡ false
+  pub shown : (p x : Name) → covers z.name l.owner l.next x ≡ true → at_or_above p x ≡ true → at_or_above z.name p ≡ true → shows l p ≡ true → exists z (low p) ≡ true
+
+-- An NSEC3 record says truly of the names that a question concerns: one that has its owner's hash is kept and has these types,
+-- and one whose hash it covers is not kept; its flag is the zone's. Its owner may be the hash of no name at all (RFC 7129, B).
+pub record SaysTrulyHash (z : Zone) (hash : Name → List ℕ) (optout : Bool) (q : Name) (l : HashLink) : Type 0 where
+  pub matched : (x : Name) → Contains (concerned (apex_of z) (low q)) (low x) → l.owner ≡ hash (low x) → (kept z optout x ≡ true) × ShowsTypes z (low x) l.bits
+  pub covered : (x : Name) → Contains (concerned (apex_of z) (low q)) (low x) → hash_covers l.owner l.next (hash (low x)) ≡ true → kept z optout x ≡ false
+  pub opts : l.opt_out ≡ optout
+
+-- records of one kind alone, each of which says truly
+abbrev pub SayTruly : Zone → (Name → List ℕ) → Mode → Name → Facts → Type 0
+SayTruly z hash Nsec q f = AllByRecursion (SaysTruly z) f.links × (f.hash_links ≡ [])
+SayTruly z hash (Nsec3 iterations salt optout) q f = (f.links ≡ []) × AllByRecursion (SaysTrulyHash z hash optout q) f.hash_links
+
+-- All facts are true: any of the zone's RRsets, and any records that say truly, in any order and repeated.
+pub record AreTrue (z : Zone) (hash : Name → List ℕ) (mode : Mode) (q : Name) (t : ℕ) (f : Facts) : Type 0 where
+  pub rrset : IfSome f.rrset (IsTrueRrset z q t)
+  pub said : SayTruly z hash mode q f
+
+-- ---- hashes
 
 -- The names of the chain have different hashes, and no name of the chain shares its hash with another name that the question
 -- concerns.

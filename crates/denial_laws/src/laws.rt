@@ -1,6 +1,6 @@
 //! Laws of denial. Each is the contract of a function that does nothing.
 ghost use Rattle.denial_laws.specs.Leading.{OnlyAliasesLead, AliasesLeadToOne};
-ghost use Rattle.denial_laws.specs.Laws.{TrueFactsDecideTruly, OwnAnswersDecide};
+ghost use Rattle.denial_laws.specs.Laws.{TrueFactsDecideTruly, ChainsSayTruly, OwnAnswersDecide};
 ghost use Rattle.denial_laws.specs.Laws.{BothChainsSayTheSame, ConcernedAreNames, FewHashes};
 ghost use Rattle.denial_laws.specs.Laws.{OneVerdict};
 
@@ -10,13 +10,19 @@ pub fn each_question_has_one_verdict()
     ensures { OneVerdict }
 {}
 
-/// Whatever records of a zone are verified, in any order and number, what the rules make of them is
-/// the zone's verdict on a name that is no alias, or nothing. The zone's CNAME and DNAME records
-/// are in order (RFC 1034, 3.6.2; RFC 6672, 2). For NSEC3 the names of the chain have different
-/// hashes, and no name of the chain shares its hash with another name that the question concerns
-/// (RFC 4035, 5.4; RFC 5155, 8).
+/// Whatever records are verified, in any order and number, what the rules make of them is the
+/// zone's verdict on a name that is no alias, or nothing (RFC 4035, 5.4; RFC 5155, 8). The RRset is
+/// the zone's; an NSEC or NSEC3 record says what is so, whether it is of a chain or was made for
+/// the question (RFC 4470; RFC 7129, B). The zone's CNAME and DNAME records are in order (RFC 1034,
+/// 3.6.2; RFC 6672, 2).
 pub fn true_facts_decide_truly()
     ensures { TrueFactsDecideTruly }
+{}
+
+/// The records of a zone's chain say what is so. For NSEC3 the names of the chain have different
+/// hashes, and no name of the chain shares its hash with another name that the question concerns.
+pub fn chains_say_truly()
+    ensures { ChainsSayTruly }
 {}
 
 /// A zone's own answer to a question about a name that is no alias decides its verdict: no CNAME

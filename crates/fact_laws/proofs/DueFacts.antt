@@ -18,6 +18,7 @@ use Rattle.denial_laws.proofs.AtName.{Answers, on_true}
 use Rattle.denial_laws.proofs.KeptAncestor.{IsKeptParent, ancestor_lowered, kept_encloser, kept_parent}
 use Rattle.denial_laws.proofs.NameFacts.{star_below, strictly_at, strictly_lowered}
 use Rattle.denial_laws.proofs.Nsec3Own.{expanded_answers}
+use Rattle.denial_laws.proofs.ChainSays.{chains_say_truly}
 use Rattle.denial_laws.proofs.Nsec3Sound.{sound_hashed}
 use Rattle.denial_laws.proofs.Nsec3Wildcard.{signed_star_kept}
 use Rattle.denial_laws.proofs.OwnHashes.{own, own_speaks, own_true}
@@ -155,10 +156,10 @@ module _ (z : Zone) (hash : Name → List ℕ) (iterations : ℕ) (salt : List �
         )
 
     are_true : AreTrue z hash (Nsec3 iterations salt ex) q t f
-    are_true = record { rrset = own_star_true z q e t x c h; chain = (refl, own_true z hash ex s apart.0 iterations salt ns) }
+    are_true = record { rrset = own_star_true z q e t x c h; said = chains_say_truly z hash (Nsec3 iterations salt ex) q f s apart (refl, own_true z hash ex s apart.0 iterations salt ns) }
 
     star_decided : decided z.name hash f q t ≡ Some (verdict z ex q t)
-    star_decided = answers.1 ∙ ap (λ (v : Verdict). Some v) (sound_hashed z hash iterations salt ex f q t answers.0 s apart l are_true answers.1).0
+    star_decided = answers.1 ∙ ap (λ (v : Verdict). Some v) (sound_hashed z hash iterations salt ex f q t answers.0 s l are_true answers.1).0
 
   abbrev Decided : Option Rrset → Type 0
   Decided o = decided z.name hash (facts o) q t ≡ Some (verdict z ex q t)

@@ -12,7 +12,7 @@ use Rattle.denial_laws.specs.Deciding.{by_chain, by_wildcard, decided, decided_i
 use Rattle.denial_laws.specs.Facts.{Facts, HashLink, Link, Rrset, is_expanded}
 use Rattle.denial_laws.specs.NsecRules.{denied, expanded}
 use Rattle.denial_laws.specs.Nsec3Rules.{hash_denied, hash_expanded}
-use Rattle.denial_laws.specs.Truth.{AreChain, AreTrue, IsServable, IsTrueHashLink, IsTrueLink, IsTrueRrset, NoSharedHash}
+use Rattle.denial_laws.specs.Truth.{AreTrue, IsServable, IsTrueRrset, SayTruly, SaysTruly, SaysTrulyHash}
 use Rattle.denial_laws.proofs.AtName.{Answers, on_true}
 use Rattle.denial_laws.proofs.ChainBits.{all_at}
 use Rattle.denial_laws.proofs.Sound.{true_facts_decide_truly}
@@ -86,8 +86,8 @@ module _ (z : Zone) (hash : Name → List ℕ) (f more : Facts) (q : Name) (t : 
       let told = go v (sym (ap (by_hashes (rule f) (other f)) here) ∙ h) in
       (told.0, ap (by_hashes (rule more) (other more)) (none here) ∙ told.1)
 
-  more_answers : (mode : Mode) → NoSharedHash z hash mode q → AreChain z hash mode more → at_or_above z.name q ≡ true → (v : Verdict) → decided_inside z.name hash f q t ≡ Some v → Answers (decided_inside z.name hash more q t)
-  more_answers Nsec apart are inside v h =
+  more_answers : (mode : Mode) → SayTruly z hash mode q more → at_or_above z.name q ≡ true → (v : Verdict) → decided_inside z.name hash f q t ≡ Some v → Answers (decided_inside z.name hash more q t)
+  more_answers Nsec are inside v h =
       let none : f.hash_links ≡ [] = none_of f.hash_links more.hash_links hashes_in are.1 in
       let told =
       more_inside q (by_chain z.name hash f q t) (by_chain z.name hash more q t) (λ r. by_wildcard z.name hash f r q) (λ r. by_wildcard z.name hash more r q)
@@ -95,27 +95,27 @@ module _ (z : Zone) (hash : Name → List ℕ) (f more : Facts) (q : Name) (t : 
       (λ r. by_links (λ g. expanded z.name q r g.links) (λ g. hash_expanded hash q r g.hash_links) (λ _. are.1) none (expanded_more z.name q t f.links more.links links_in r))
       f.rrset v h in
       (told.0, ap (by_rrset q (by_chain z.name hash more q t) (λ r. by_wildcard z.name hash more r q)) has.rrset ∙ told.1)
-  more_answers (Nsec3 iterations salt ex) apart are inside v h =
+  more_answers (Nsec3 iterations salt ex) are inside v h =
       let none : f.links ≡ [] = none_of f.links more.links links_in are.0 in
       let told =
       more_inside q (by_chain z.name hash f q t) (by_chain z.name hash more q t) (λ r. by_wildcard z.name hash f r q) (λ r. by_wildcard z.name hash more r q)
       (λ w. by_one (denied z.name q t f.links) (hash_denied z.name hash q t f.hash_links) (hash_denied z.name hash q t more.hash_links) f.hash_links more.hash_links hashes_in (ap (denied z.name q t) none)
-      (hash_denied_more z hash iterations salt ex q t s apart f.hash_links more.hash_links hashes_in (λ l i. all_at (IsTrueHashLink z hash ex) more.hash_links l are.1 i) (lowered_above z.name q ∙ inside)) w (denied z.name q t more.links))
+      (hash_denied_more z hash ex q t f.hash_links more.hash_links hashes_in (λ l i. all_at (SaysTrulyHash z hash ex q) more.hash_links l are.1 i) (lowered_above z.name q ∙ inside)) w (denied z.name q t more.links))
       (λ r w. by_one (expanded z.name q r f.links) (hash_expanded hash q r f.hash_links) (hash_expanded hash q r more.hash_links) f.hash_links more.hash_links hashes_in (ap (expanded z.name q r) none)
       (hash_expanded_more z.name hash t f.hash_links more.hash_links hashes_in q r) w (expanded z.name q r more.links))
       f.rrset v h in
       (told.0, ap (by_rrset q (by_chain z.name hash more q t) (λ r. by_wildcard z.name hash more r q)) has.rrset ∙ told.1)
 
-  pub true_chain : (mode : Mode) → AreChain z hash mode more → AreChain z hash mode f
-  true_chain Nsec are = (all_less (IsTrueLink z) f.links more.links links_in are.0, none_of f.hash_links more.hash_links hashes_in are.1)
-  true_chain (Nsec3 iterations salt ex) are = (none_of f.links more.links links_in are.0, all_less (IsTrueHashLink z hash ex) f.hash_links more.hash_links hashes_in are.1)
+  pub fewer_say : (mode : Mode) → SayTruly z hash mode q more → SayTruly z hash mode q f
+  fewer_say Nsec are = (all_less (SaysTruly z) f.links more.links links_in are.0, none_of f.hash_links more.hash_links hashes_in are.1)
+  fewer_say (Nsec3 iterations salt ex) are = (none_of f.links more.links links_in are.0, all_less (SaysTrulyHash z hash ex q) f.hash_links more.hash_links hashes_in are.1)
 
 pub more_facts_decide : MoreFactsDecide
-more_facts_decide z hash mode f more q t v s apart l are has h =
+more_facts_decide z hash mode f more q t v s l are has h =
     let inside = on_true (at_or_above z.name q) (decided_inside z.name hash f q t) v h in
-    let told = more_answers z hash f more q t s has mode apart are.chain inside.0 v inside.1 in
+    let told = more_answers z hash f more q t s has mode are.said inside.0 v inside.1 in
     let answers : decided z.name hash more q t ≡ Some told.0 = ap (λ b. elim b as (λ _. Option Verdict) [ true ↦ decided_inside z.name hash more q t | false ↦ None ]) inside.0 ∙ told.1 in
-    let own : AreTrue z hash mode q t f = record { rrset = subst (λ o. IfSome o (IsTrueRrset z q t)) has.rrset are.rrset; chain = true_chain z hash f more q t s has mode are.chain } in
-    let first : v ≡ verdict z (optout_of mode) q t = (true_facts_decide_truly z hash mode f q t v s apart l own h).0 in
-    let second : told.0 ≡ verdict z (optout_of mode) q t = (true_facts_decide_truly z hash mode more q t told.0 s apart l are answers).0 in
+    let own : AreTrue z hash mode q t f = record { rrset = subst (λ o. IfSome o (IsTrueRrset z q t)) has.rrset are.rrset; said = fewer_say z hash f more q t s has mode are.said } in
+    let first : v ≡ verdict z (optout_of mode) q t = (true_facts_decide_truly z hash mode f q t v s l own h).0 in
+    let second : told.0 ≡ verdict z (optout_of mode) q t = (true_facts_decide_truly z hash mode more q t told.0 s l are answers).0 in
     answers ∙ ap (λ w. Some w) (second ∙ sym first)

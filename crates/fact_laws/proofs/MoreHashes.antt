@@ -6,18 +6,17 @@ use Rattle.std.proofs.lemmas.Bool.{and_parts, or_cases, or_right, false≢true}
 use Rattle.definitions.specs.Bitmap.{bitmap_has}
 use Rattle.definitions.specs.Name.{Name, at_or_above, low, same}
 use Rattle.definitions.specs.Zone.{Delegated, Open, Verdict, Zone, apex_of, is_delegation, kept, star_under}
-use Rattle.definitions.specs.ZoneChain.{Nsec3, nsec3_names}
-use Rattle.definitions.specs.Laws.{SharesNone}
 use Rattle.definitions.proofs.Members.{In, any_in, any_of}
 use Rattle.definitions.proofs.ZoneNames.{above_itself, lowered_above, above_lowered}
 use Rattle.denial_laws.specs.Facts.{HashLink, Rrset}
 use Rattle.denial_laws.specs.NsecRules.{first_some, is_cut}
 use Rattle.denial_laws.specs.Nsec3Rules.{at_hash, beyond, by_closest_encloser, covers_hash, cut_above, enclosed, encloses, hash_denied, hash_expanded, hash_expanded_by, is_at, is_matched, last_labels, star_at}
-use Rattle.denial_laws.specs.Truth.{IsServable, IsTrueHashLink, NoSharedHash}
+use Rattle.denial_laws.specs.Truth.{SaysTrulyHash}
 use Rattle.denial_laws.proofs.AtName.{Answers, on_true}
 use Rattle.denial_laws.proofs.ChainBits.{cut_test}
 use Rattle.denial_laws.proofs.Found.{either_from, first_from, left_is, right_is}
-use Rattle.denial_laws.proofs.HashChain.{concerns_name, covered_gone, matched_kept, matched_shows}
+use Rattle.denial_laws.proofs.HashChain.{concerns_name}
+use Rattle.denial_laws.proofs.HashSays.{Concerns, said_gone, said_kept, said_shows}
 use Rattle.denial_laws.proofs.NameFacts.{above_trans, names_same, same_names}
 use Rattle.denial_laws.proofs.ZoneCuts.{kept_uncut, kept_up}
 use Rattle.fact_laws.proofs.MoreLinks.{more_answer}
@@ -64,15 +63,15 @@ module _ (apex : Name) (hash : Name → List ℕ) (t : ℕ) (fs gs : List HashLi
 
 -- ---- of a zone
 
-module _ (z : Zone) (hash : Name → List ℕ) (iterations : ℕ) (salt : List ℕ) (ex : Bool) (q : Name) (t : ℕ) (s : IsServable z) (apart : NoSharedHash z hash (Nsec3 iterations salt ex) q) (fs gs : List HashLink) (more : (l : HashLink) → In l fs → In l gs) (are : (l : HashLink) → In l gs → IsTrueHashLink z hash ex l) where
-  shares : (n : Name) → at_or_above (apex_of z) n ≡ true → at_or_above n q ≡ true → SharesNone hash (nsec3_names z ex) (low n)
-  shares n i a = apart.1 (low n) (concerns_name (apex_of z) n q i a)
+module _ (z : Zone) (hash : Name → List ℕ) (ex : Bool) (q : Name) (t : ℕ) (fs gs : List HashLink) (more : (l : HashLink) → In l fs → In l gs) (are : (l : HashLink) → In l gs → SaysTrulyHash z hash ex q l) where
+  concerns : (n : Name) → at_or_above (apex_of z) n ≡ true → at_or_above n q ≡ true → Concerns z q n
+  concerns n i a = concerns_name (apex_of z) n q i a
 
   -- a name that a record matches is kept
   matched : (n : Name) → at_or_above (apex_of z) n ≡ true → at_or_above n q ≡ true → is_matched gs (hash (low n)) ≡ true → kept z ex n ≡ true
   matched n i a h =
       let found = any_of (is_at (hash (low n))) gs h in
-      matched_kept z hash ex s apart.0 found.0 (are found.0 found.1.0) n (shares n i a) found.1.1
+      said_kept z hash ex q found.0 (are found.0 found.1.0) n (concerns n i a) found.1.1
 
   -- ---- on the way up
 
@@ -90,8 +89,8 @@ module _ (z : Zone) (hash : Name → List ℕ) (iterations : ℕ) (salt : List �
   parent_above l p = or_right (same p (l ∷ p)) (at_or_above p p) (above_itself p)
 
   -- of a kept name no rule at an ancestor answers
-  enclosed_never : (l : List ℕ) (p : Name) → at_or_above (apex_of z) p ≡ true → at_or_above p q ≡ true → kept z ex (l ∷ p) ≡ true → (v : Verdict) → enclosed z.name hash (l ∷ p) p t fs ≡ Some v → ⊥
-  enclosed_never l p i a k v is = elim (either_from (first_some (cut_above z.name p (hash (low p))) fs) (onward z.name hash t fs gs more fs (l ∷ p) p (list_any (encloses (hash (low p))) fs)) v is) [
+  enclosed_never : (l : List ℕ) (p : Name) → at_or_above (apex_of z) p ≡ true → at_or_above (apex_of z) (l ∷ p) ≡ true → at_or_above (l ∷ p) q ≡ true → kept z ex (l ∷ p) ≡ true → (v : Verdict) → enclosed z.name hash (l ∷ p) p t fs ≡ Some v → ⊥
+  enclosed_never l p i child above k v is = elim (either_from (first_some (cut_above z.name p (hash (low p))) fs) (onward z.name hash t fs gs more fs (l ∷ p) p (list_any (encloses (hash (low p))) fs)) v is) [
     | inl here ↦
         let found = first_from (cut_above z.name p (hash (low p))) fs v here in
         let f : HashLink = found.0 in
@@ -99,14 +98,14 @@ module _ (z : Zone) (hash : Name → List ℕ) (iterations : ℕ) (salt : List �
         let r = on_true (encloses (hash (low p)) f && is_cut z.name p f.bits) (Some Delegated) v found.1.1 in
         let both = and_parts (encloses (hash (low p)) f) (is_cut z.name p f.bits) r.0 in
         let at = (and_parts (is_at (hash (low p)) f) (not (bitmap_has f.bits 39)) both.0).0 in
-        let cut : is_delegation z (low p) ≡ true = sym (cut_test z p f.bits (above_lowered (apex_of z) p ∙ i) (matched_shows z hash ex s apart.0 f f_true p (shares p i a) at)) ∙ both.1 in
+        let cut : is_delegation z (low p) ≡ true = sym (cut_test z p f.bits (above_lowered (apex_of z) p ∙ i) (said_shows z hash ex q f f_true p (concerns p i (above_trans p (l ∷ p) q (parent_above l p) above)) at)) ∙ both.1 in
         kept_uncut z ex (l ∷ p) k (low p) cut (lowered_above p p ∙ above_itself p)
     | inr there ↦
         let r = on_true (list_any (encloses (hash (low p))) fs) (first_some (beyond hash p t fs (hash (low (l ∷ p)))) fs) v there.1 in
         let found = first_from (beyond hash p t fs (hash (low (l ∷ p)))) fs v r.1 in
         let f : HashLink = found.0 in
         let covers = on_true (covers_hash (hash (low (l ∷ p))) f) (elim f.opt_out [ true ↦ Some Open | false ↦ first_some (star_at (hash (low (star_under p))) t) fs ]) v found.1.1 in
-        false≢true (sym (covered_gone z hash ex s apart.0 f (are f (more f found.1.0)) (l ∷ p) covers.0) ∙ k)
+        false≢true (sym (said_gone z hash ex q f (are f (more f found.1.0)) (l ∷ p) (concerns (l ∷ p) child above) covers.0) ∙ k)
   ]
 
   never : (n : Name) → at_or_above (apex_of z) n ≡ true → at_or_above n q ≡ true → kept z ex n ≡ true → (v : Verdict) → by_closest_encloser z.name hash n t fs ≡ Some v → ⊥
@@ -119,7 +118,7 @@ module _ (z : Zone) (hash : Name → List ℕ) (iterations : ℕ) (salt : List �
       go : (b : Bool) → same (l ∷ p) z.name ≡ b → (c : Bool) → step b c (enclosed z.name hash (l ∷ p) p t fs) (by_closest_encloser z.name hash p t fs) ≡ Some v
           → (at_or_above (apex_of z) p ≡ true → at_or_above p q ≡ true → kept z ex p ≡ true → (w : Verdict) → by_closest_encloser z.name hash p t fs ≡ Some w → ⊥) → ⊥
       go true n c is f = absurd cc
-      go false n true is f = enclosed_never l p (parent_inside l p i n) up k v is
+      go false n true is f = enclosed_never l p (parent_inside l p i n) i a k v is
       go false n false is f = f (parent_inside l p i n) up (kept_up z ex p (l ∷ p) k (parent_above l p) (parent_inside l p i n)) v is
 
   climb_more : (n : Name) → at_or_above (apex_of z) n ≡ true → at_or_above n q ≡ true → (v : Verdict) → by_closest_encloser z.name hash n t fs ≡ Some v → Answers (by_closest_encloser z.name hash n t gs)

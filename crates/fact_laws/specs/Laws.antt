@@ -5,7 +5,7 @@ use Rattle.definitions.specs.Zone.{Verdict, Zone}
 use Rattle.definitions.specs.ZoneChain.{Mode}
 use Rattle.denial_laws.specs.Deciding.{decided}
 use Rattle.denial_laws.specs.Facts.{Facts, HashLink, Link}
-use Rattle.denial_laws.specs.Truth.{AreTrue, IsServable, NoSharedHash}
+use Rattle.denial_laws.specs.Truth.{AreTrue, IsServable}
 
 -- the RRset of the question is that of other facts, or none as there; their links are among the links, in any order
 pub record Includes (f other : Facts) : Type 0 where
@@ -17,5 +17,5 @@ pub record Includes (f other : Facts) : Type 0 where
 abbrev pub MoreFactsDecide : Type 0
 MoreFactsDecide =
     (z : Zone) (hash : Name → List ℕ) (mode : Mode) (f more : Facts) (q : Name) (t : ℕ) (v : Verdict)
-    → IsServable z → NoSharedHash z hash mode q → t < 65536 → AreTrue z hash mode q t more → Includes more f
+    → IsServable z → t < 65536 → AreTrue z hash mode q t more → Includes more f
     → decided z.name hash f q t ≡ Some v → decided z.name hash more q t ≡ Some v

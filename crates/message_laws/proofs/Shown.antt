@@ -11,6 +11,7 @@ use Rattle.denial_laws.specs.Deciding.{decided}
 use Rattle.denial_laws.specs.Facts.{Facts, Rrset}
 use Rattle.denial_laws.specs.OwnFacts.{own_facts}
 use Rattle.denial_laws.specs.Truth.{AreChain, AreTrue, IsServable, IsTrueHashLink, IsTrueRrset, NoSharedHash}
+use Rattle.denial_laws.proofs.ChainSays.{chains_say_truly}
 use Rattle.denial_laws.proofs.NameFacts.{names_same}
 use Rattle.fact_laws.specs.Due.{due_facts}
 use Rattle.fact_laws.proofs.DueFacts.{due_facts_decide}
@@ -101,8 +102,8 @@ module _ (a : Answers) (k : ℕ) (h : JudgeInput) (mode : Mode) (rs : List Hande
     kind : AreHashedBy mode f.hash_links
     kind = chain_hashed z hash mode f truthful.chain
 
-    pub are_true : AreTrue z hash mode q.name q.rtype f
-    are_true = record { rrset = truthful.rrset; chain = chain_true z hash mode f truthful.chain }
+    pub are_true : NoSharedHash z hash mode q.name → AreTrue z hash mode q.name q.rtype f
+    are_true apart = record { rrset = truthful.rrset; said = chains_say_truly z hash mode q.name f zone_servable apart (chain_true z hash mode f truthful.chain) }
 
     module _ (inside : at_or_above h.apex q.name ≡ true) (made : HaveHashes a.hash mode h.apex q.name) where
       by_decision : (other : Bool) → judged_answer a k (on q other) usable read ≡ by_facts (decided h.apex hash f q.name q.rtype)
@@ -129,7 +130,7 @@ module _ (a : Answers) (k : ℕ) (h : JudgeInput) (mode : Mode) (rs : List Hande
       → decided h.apex hash (own_facts z hash mode q.name q.rtype) q.name q.rtype ≡ Some (verdict z (optout_of mode) q.name q.rtype)
       → decided h.apex hash (shown_facts a k h usable read q) q.name q.rtype ≡ Some (verdict z (optout_of mode) q.name q.rtype)
   shown_decide q shows apart small is =
-      more_facts_decide z hash mode (due_facts z hash mode q.name q.rtype) (shown_facts a k h usable read q) q.name q.rtype (verdict z (optout_of mode) q.name q.rtype) zone_servable apart small (are_true q shows.truthful) shows.includes
+      more_facts_decide z hash mode (due_facts z hash mode q.name q.rtype) (shown_facts a k h usable read q) q.name q.rtype (verdict z (optout_of mode) q.name q.rtype) zone_servable small (are_true q shows.truthful apart) shows.includes
       (due_facts_decide z hash mode q.name q.rtype zone_servable apart small is)
 
 pub shown_is_said : ShownIsSaid

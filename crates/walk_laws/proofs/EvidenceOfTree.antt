@@ -86,7 +86,7 @@ abbrev judged_for : Asked → List ℕ → JudgeInput
 judged_for asked answer = judge_input evidence example (own_ds ∷ []) asked keys answer
 
 is_version : (asked : Asked) (answer : List ℕ) → IsVersion (answers_with passes) (judged_for asked answer) version
-is_version asked answer = record { records_are = records_are; in_order = orderly.servable; few = tt; chain = tt; apart = tt }
+is_version asked answer = record { records_are = records_are; in_order = orderly.servable; few = tt; chain = tt; apart = tt; truly = tt }
 
 honest_for : (asked : Asked) (answer : List ℕ) → IsQuestion asked → IsUnforged answer → IsHonestInput (answers_with passes) pointer_limit (judged_for asked answer) (version ∷ [])
 honest_for asked answer question is =

@@ -38,7 +38,7 @@ host = record { owner = a; class = 1; ttl = 3600; rtype = 1; is_unknown = true; 
 
 -- its chain is one of names
 abbrev pub version : Version
-version = record { records = soa ∷ host ∷ []; mode = Nsec }
+version = record { records = soa ∷ host ∷ []; mode = Nsec; made = [] }
 
 abbrev pub zone : SignedZone
 zone = record { apex = example; version = version }
