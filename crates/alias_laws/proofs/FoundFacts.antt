@@ -10,17 +10,18 @@ use Rattle.definitions.specs.ZoneChain.{Mode, Nsec, Nsec3, nsec_names, nsec_next
 use Rattle.definitions.proofs.ChainSpeaks.{all_from}
 use Rattle.definitions.proofs.Members.{In}
 use Rattle.definitions.proofs.VerdictCases.{said, verdict-open, verdict-said}
-use Rattle.definitions.proofs.ZoneNames.{above_lowered, lowered_above, low-low, same-length}
+use Rattle.definitions.proofs.ZoneNames.{above_itself, above_lowered, lowered_above, low-low, same-length}
 use Rattle.denial_laws.specs.Aliases.{is_redirected}
 use Rattle.denial_laws.specs.Deciding.{by_chain, by_wildcard, decided, decided_inside}
 use Rattle.denial_laws.specs.Facts.{Facts, HashLink, Link, Rrset, is_expanded}
 use Rattle.denial_laws.specs.Nsec3Rules.{hash_expanded}
 use Rattle.denial_laws.specs.NsecRules.{closest, encloses_at, expanded, expanded_by, link_covers}
 use Rattle.denial_laws.specs.OwnFacts.{kept_ancestor, link_of, next_closer, own_facts, own_links, own_rrset, own_star, spoken}
-use Rattle.denial_laws.specs.Truth.{AreTrue, IsServable, IsTrueLink, IsTrueRrset, NoSharedHash, SaysTruly, is_signed}
+use Rattle.denial_laws.specs.Truth.{AreTrue, Concerns, IsServable, IsTrueLink, IsTrueRrset, NoSharedHash, SaysTruly, is_signed}
 use Rattle.denial_laws.proofs.AtName.{Answers}
 use Rattle.denial_laws.proofs.ChainSays.{chains_say_truly, link_says}
 use Rattle.denial_laws.proofs.Found.{first_is}
+use Rattle.denial_laws.proofs.HashChain.{concerns_name}
 use Rattle.denial_laws.proofs.KeptAncestor.{IsKeptParent, ancestor_lowered, kept_encloser, kept_parent}
 use Rattle.denial_laws.proofs.NameFacts.{above_trans, names_same, star_below, strictly-low, strictly_at, strictly_lowered}
 use Rattle.denial_laws.proofs.Nsec3Own.{expanded_answers}
@@ -98,11 +99,12 @@ module _ (z : Zone) (s : IsServable z) (hash : Name → List ℕ) (q : Name) (t 
       covered o i listed h =
           let g : Link = link_of z o in
           let covers_it : link_covers z.name g q ≡ true = own_covers z s o q i direct h in
-          let says : SaysTruly z g = link_says z s g (own_link_true z s o i) in
-          let gap : covers z.name o (nsec_next z o) q ≡ true = covering z s g says q covers_it in
-          let r : Encloser z g q = encloser z s g says q gap (sym (strictly_lowered (apex_of z) q) ∙ apex_above z s g says q gap inside) in
+          let says : SaysTruly z q g = link_says z s q g (own_link_true z s o i) in
+          let asked : Concerns z q q = concerns_name (apex_of z) q q a (above_itself q) in
+          let gap : covers z.name o (nsec_next z o) q ≡ true = covering z s g says q asked covers_it in
+          let r : Encloser z g q = encloser z s g says q asked gap (sym (strictly_lowered (apex_of z) q) ∙ apex_above z s g says q asked gap inside) in
           let below : strictly_above q (nsec_next z o) ≡ false =
-          sym (strictly-low q (nsec_next z o)) ∙ sym (exists_covered z s g says q gap inside (strictly_above (low q) (low (nsec_next z o))) refl) ∙ x in
+          sym (strictly-low q (nsec_next z o)) ∙ sym (exists_covered z s g says q asked gap inside (strictly_above (low q) (low (nsec_next z o))) refl) ∙ x in
           let is : low r.name ≡ e = (let both : Some (low r.name) ≡ Some e = sym r.is ∙ c in cc) in
           let long : length r.name ≡ length e = same-length r.name e (names_same r.name e (is ∙ sym (ce_lowered z (low q) e (low-low q) c))) in
           let encloses : encloses_at (length e) (closest g q) ≡ true = ap (encloses_at (length e)) r.shown ∙ eq-eqb (length r.name) (length e) long in

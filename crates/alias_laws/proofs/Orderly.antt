@@ -8,12 +8,12 @@ use Rattle.definitions.specs.Zone.{Rr, has, is_delegation, is_of, owner_of, owne
 use Rattle.definitions.specs.ZoneChain.{Mode, optout_of}
 use Rattle.definitions.proofs.Members.{In, Of, any_of, contained, in_contained, map_in}
 use Rattle.denial_laws.specs.Aliases.{IsOrderly, is_aliased}
-use Rattle.denial_laws.specs.Truth.{IsServable, NoSharedHash, is_added_type}
+use Rattle.denial_laws.specs.Truth.{IsServable, NoSharedHash, is_added_type, is_meta_type}
 use Rattle.denial_laws.specs.Truth as zone
 use Rattle.denial_laws.specs.Deciding.{decided}
 use Rattle.denial_laws.specs.OwnFacts.{own_facts}
 use Rattle.denial_laws.proofs.Complete.{own_answers_decide}
-use Rattle.messages.specs.HandedRr.{HandedRr}
+use Rattle.messages.specs.HandedRr.{HandedRr, is_meta}
 use Rattle.messages.specs.Message.{Asked}
 use Rattle.messages.specs.Star.{begins_with_star}
 use Rattle.messages.proofs.Lists.{all_fail, all_more, all_sorted}
@@ -22,7 +22,7 @@ use Rattle.answer_terms.specs.Accepted.{IsAccepted}
 use Rattle.answer_terms.specs.Accepting.{delegates_star, is_added_by_signing, is_alias, record_cmp, rr_of, soas, sorted_records, zone_of}
 use Rattle.answer_terms.specs.Asking.{is_allowed}
 use Rattle.answer_terms.specs.Hashing.{Hasher}
-use Rattle.answer_terms.proofs.Servable.{asked_inside}
+use Rattle.answer_terms.proofs.Servable.{asked_inside, real_type}
 use Rattle.answer_zone_records.specs.AliasFaults.{IsAcceptedWithAliases, crowds, has_data, has_disorder, is_below_dname, is_disorderly, lacks_target, redirects_star, repeats, rivals, rivals_cname, rivals_dname}
 use Rattle.answer_zone_records.proofs.Disorder.{no_disorder}
 
@@ -160,6 +160,8 @@ servable hasher apex mode limit rs a =
     record {
       apex = contained (map owner_of (map rr_of sorted)) (low apex) (apex_in apex sorted some);
       ordinary = all_mapped (λ (r : Rr). is_added_type r.rtype ≡ false) rr_of sorted (all_sorted (λ (r : HandedRr). is_added_type r.rtype ≡ false) record_cmp rs signing);
+      real = all_mapped (λ (r : Rr). is_meta_type r.rtype ≡ false) rr_of sorted (all_sorted (λ (r : HandedRr). is_meta_type r.rtype ≡ false) record_cmp rs
+          (all_more (λ r. is_meta r ≡ false) (λ r. is_meta_type r.rtype ≡ false) rs real_type (all_fail is_meta rs a.faultless.plain.known)));
       stars = all_mapped (λ (r : Rr). zone.delegates_star r ≡ false) rr_of sorted (all_sorted (λ (r : HandedRr). zone.delegates_star (rr_of r) ≡ false) record_cmp rs
           (all_more (λ r. delegates_star r ≡ false) (λ r. zone.delegates_star (rr_of r) ≡ false) rs
           (λ r e. ap (λ b. (r.rtype == 2) && b) (star_first r.owner) ∙ e) stars));

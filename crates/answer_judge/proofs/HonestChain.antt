@@ -60,24 +60,24 @@ module _ (apex : Name) (hash : Name → List ℕ) (v : Version) (known : IsKnown
       })
 
   -- its owner may be spelled otherwise than as it was signed
-  next_of_made : (k : ℕ) (m : List ℕ) (r : Spelled) (l : Link) → AreOctets m → (x : IsNextRecord z hash Nsec v.made k m r l) → IsNsecMade z x.chain.rrset → SaysTruly z l
-  next_of_made k m r l octets x of =
+  next_of_made : (q : Name) (k : ℕ) (m : List ℕ) (r : Spelled) (l : Link) → AreOctets m → (x : IsNextRecord z hash Nsec v.made k m r l) → IsNsecMade z q x.chain.rrset → SaysTruly z q l
+  next_of_made q k m r l octets x of =
       let read : ReadsNext x.next = link_read k m r x.next octets x.reads in
       let said : (x.next.0 ≡ of.next) × (x.next.1 ≡ of.bits) = wire_of x.next.0 of.next x.next.1 of.bits (labelled x.next.0 read.next.name.labels) (labelled of.next of.named.labels) (x.chain.data_is (wire of.next ++ of.bits) of.datas_are) in
-      let here : SaysTruly z (record { owner = r.owner; next = of.next; bits = of.bits }) = owner_respelled z (record { owner = x.chain.rrset.owner; next = of.next; bits = of.bits }) r.owner x.chain.owner_is of.says in
-      subst (SaysTruly z) ((λ i. record { owner = r.owner; next = sym said.0 i; bits = sym said.1 i }) ∙ x.is) here
+      let here : SaysTruly z q (record { owner = r.owner; next = of.next; bits = of.bits }) = owner_respelled z q (record { owner = x.chain.rrset.owner; next = of.next; bits = of.bits }) r.owner x.chain.owner_is of.says in
+      subst (SaysTruly z q) ((λ i. record { owner = r.owner; next = sym said.0 i; bits = sym said.1 i }) ∙ x.is) here
 
-  pub next_true : AllByRecursion (IsNsecMade z) v.made → (k : ℕ) (m : List ℕ) (r : Spelled) (l : Link) → AreOctets m → IsNextRecord z hash Nsec v.made k m r l → SaysTruly z l
-  next_true truly k m r l octets x = elim x.chain.of [
-    | inl of ↦ link_says z known.servable l (next_of_chain k m r l octets x of)
-    | inr i ↦ next_of_made k m r l octets x (all_at (IsNsecMade z) v.made x.chain.rrset truly (has_contained v.made x.chain.rrset i))
+  pub next_true : (q : Name) → AllByRecursion (IsNsecMade z q) v.made → (k : ℕ) (m : List ℕ) (r : Spelled) (l : Link) → AreOctets m → IsNextRecord z hash Nsec v.made k m r l → SaysTruly z q l
+  next_true q truly k m r l octets x = elim x.chain.of [
+    | inl of ↦ link_says z known.servable q l (next_of_chain k m r l octets x of)
+    | inr i ↦ next_of_made q k m r l octets x (all_at (IsNsecMade z q) v.made x.chain.rrset truly (has_contained v.made x.chain.rrset i))
   ]
 
   -- it has no record of hashes
-  pub no_hashes : AllByRecursion (IsNsecMade z) v.made → (m : List ℕ) (r : Spelled) (l : HashLink) → IsHashRecord z hash Nsec v.made m r l → ⊥
-  no_hashes truly m r l x = elim x.chain.of [
+  pub no_hashes : (q : Name) → AllByRecursion (IsNsecMade z q) v.made → (m : List ℕ) (r : Spelled) (l : HashLink) → IsHashRecord z hash Nsec v.made m r l → ⊥
+  no_hashes q truly m r l x = elim x.chain.of [
     | inl of ↦ false≢true (ap (λ (n : ℕ). eqb n 50) (sym of.rtype_is ∙ x.chain.type_is))
-    | inr i ↦ let of = all_at (IsNsecMade z) v.made x.chain.rrset truly (has_contained v.made x.chain.rrset i) in false≢true (ap (λ (n : ℕ). eqb n 50) (sym of.rtype_is ∙ x.chain.type_is))
+    | inr i ↦ let of = all_at (IsNsecMade z q) v.made x.chain.rrset truly (has_contained v.made x.chain.rrset i) in false≢true (ap (λ (n : ℕ). eqb n 50) (sym of.rtype_is ∙ x.chain.type_is))
   ]
 
 -- ---- a chain of hashes

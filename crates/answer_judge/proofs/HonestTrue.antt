@@ -43,13 +43,13 @@ module _ (a : Answers) (k : ℕ) (h : JudgeInput) (rs : List HandedRr) (made : L
       let v : Version = of Nsec in
       let z : Zone = zone_in h.apex v in
       let hash : Name → List ℕ = hash_in a.hash Nsec in
-      let none = none_kept_of (hash_link_at w k h.answer_bytes read.records) read.records (λ r l i e. no_hashes h.apex hash v known truly h.answer_bytes r l (hash_record a k h v known read keys asked is_of r l i e)) in
+      let none = none_kept_of (hash_link_at w k h.answer_bytes read.records) read.records (λ r l i e. no_hashes h.apex hash v known h.asked.name truly h.answer_bytes r l (hash_record a k h v known read keys asked is_of r l i e)) in
       record {
         true_facts = record {
           rrset = question_true a k h v known read keys asked is_of;
           said = (
-            all_kept_of (SaysTruly z) (link_at w k h.answer_bytes read.records) read.records
-                (λ r l i e. next_true h.apex hash v known truly k h.answer_bytes r l octets (next_record a k h v known read keys asked is_of r l i e)),
+            all_kept_of (SaysTruly z h.asked.name) (link_at w k h.answer_bytes read.records) read.records
+                (λ r l i e. next_true h.apex hash v known h.asked.name truly k h.answer_bytes r l octets (next_record a k h v known read keys asked is_of r l i e)),
             none,
           );
         };

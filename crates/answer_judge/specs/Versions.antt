@@ -51,14 +51,14 @@ IsOfChain z hash (Nsec3 iterations salt optout) x = IsNsec3Of z hash iterations 
 
 -- ---- records of denial that are made for questions
 
--- an NSEC record that says what is so, whose next name need not be one of the zone (RFC 4470)
-pub record IsNsecMade (z : Zone) (x : SignedRrset) : Type 0 where
+-- an NSEC record that says what is so about a question, whose next name need not be one of the zone (RFC 4470; RFC 9824)
+pub record IsNsecMade (z : Zone) (q : Name) (x : SignedRrset) : Type 0 where
   pub rtype_is : x.rtype ≡ 47
   pub next : Name
   pub bits : List ℕ
   pub named : IsName next
   pub datas_are : x.datas ≡ (wire next ++ bits) ∷ []
-  pub says : SaysTruly z (record { owner = x.owner; next = next; bits = bits })
+  pub says : SaysTruly z q (record { owner = x.owner; next = next; bits = bits })
 
 -- an NSEC3 record's data, of its next hash and its bits (RFC 5155, 3.2)
 abbrev pub hashed_data : ℕ → List ℕ → Bool → List ℕ → List ℕ → List ℕ
@@ -79,7 +79,7 @@ pub record IsNsec3Made (z : Zone) (hash : Name → List ℕ) (iterations : ℕ) 
   pub says : SaysTrulyHash z hash optout q (record { owner = hashed; next = next; bits = bits; opt_out = optout; iterations = iterations; salt = salt })
 
 abbrev pub IsMade : Zone → (Name → List ℕ) → Mode → Name → SignedRrset → Type 0
-IsMade z hash Nsec q x = IsNsecMade z x
+IsMade z hash Nsec q x = IsNsecMade z q x
 IsMade z hash (Nsec3 iterations salt optout) q x = IsNsec3Made z hash iterations salt optout q x
 
 -- ---- what is signed

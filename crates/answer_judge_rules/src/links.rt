@@ -2,7 +2,7 @@
 ghost use Rattle.std.specs.Prelude.{◌≡◌, length, IfOk, IfSome};
 ghost use Rattle.std.specs.Option.{option_map};
 ghost use Rattle.definitions.specs.Zone.{star_under};
-ghost use Rattle.denial_laws.specs.NsecRules.{first_some, at_owner, below_cut, redirects};
+ghost use Rattle.denial_laws.specs.NsecRules.{first_some, denies, at_owner, below_cut, redirects};
 ghost use Rattle.denial_laws.specs.NsecRules.{link_covers, closest, at_star, covered, denied};
 ghost use Rattle.answer_judge_rules.specs.Enclosers.{told_of_star, IsUntold};
 ghost use Rattle.answer_judge_rules.specs.Rules.{verdict_of};
@@ -10,7 +10,7 @@ ghost use Rattle.answer_judge_rules.specs.Rules.{verdict_of};
 use crate::asked::Asked;
 use crate::facts::NsecLink;
 use crate::shared::shared_labels;
-use crate::types::{at_name, is_cut, star_lacks};
+use crate::types::{at_name, has_nxname, is_cut, star_lacks};
 use crate::verdict::Verdict;
 use messages::names::{Name, ToName, ZoneName, is_above};
 use names_rdata::rtype::Rtype;
@@ -38,6 +38,20 @@ impl<'a> NsecLink<'a> {
         self.owner.name_cmp(name).is_lt()
             && (self.next().name_eq(apex) || name.name_cmp(self.next()).is_lt())
             && !self.redirects(name)
+    }
+
+    /// Whether the link says that its own name does not exist.
+    ///
+    /// It holds of each type: taken as one that lacks the type, the name would pass for one that
+    /// exists (RFC 9824, 3).
+    fn denies(&self, name: &Name<Vec<u8>>) -> Option<Verdict>
+        ensures { option_map verdict_of result ≡ denies name.now self.now }
+    {
+        if self.owner.name_eq(name) && has_nxname(self.types()) {
+            Some(Verdict::NoName)
+        } else {
+            None
+        }
     }
 
     /// What the link says of its own name.
@@ -116,7 +130,7 @@ impl<'a> NsecLink<'a> {
         ensures { option_map verdict_of result ≡ at_star apex.now star.now rtype self.now }
     {
         if self.owner.name_eq(star) {
-            return if star_lacks(self.types(), rtype) {
+            return if star_lacks(self.types(), rtype) && !has_nxname(self.types()) {
                 Some(Verdict::StarNoType)
             } else {
                 None
@@ -206,6 +220,18 @@ fn first_at_star(
     None
 }
 
+/// Whether a link says that a name does not exist, which is its own.
+fn first_denying(links: &[NsecLink], name: &Name<Vec<u8>>) -> Option<Verdict>
+    ensures { option_map verdict_of result ≡ first_some (denies name.now) links.now }
+{
+    for link in links {
+        if let Some(verdict) = link.denies(name) {
+            return Some(verdict);
+        }
+    }
+    None
+}
+
 /// What the first link that tells of its own name says of it.
 fn first_at_owner(asked: &Asked, links: &[NsecLink]) -> Option<Verdict>
     ensures { let q = asked.now in option_map verdict_of result
@@ -266,6 +292,9 @@ pub(crate) fn denied(
     ensures { let q = asked.now in IfOk result
         (λ v. option_map verdict_of v ≡ denied q.apex.now q.name.now q.rtype links.now) }
 {
+    if let Some(verdict) = first_denying(links, asked.name) {
+        return Ok(Some(verdict));
+    }
     if let Some(verdict) = first_at_owner(asked, links) {
         return Ok(Some(verdict));
     }

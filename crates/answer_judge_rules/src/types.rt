@@ -2,13 +2,23 @@
 //! and 4.3).
 ghost use Rattle.std.specs.Prelude.{◌≡◌};
 ghost use Rattle.std.specs.Option.{option_map};
-ghost use Rattle.denial_laws.specs.NsecRules.{is_cut, lacks, star_lacks, at_name};
+ghost use Rattle.denial_laws.specs.NsecRules.{is_cut, lacks, star_lacks, at_name, has_nxname};
 ghost use Rattle.answer_judge_rules.specs.Rules.{verdict_of};
 
 use crate::verdict::Verdict;
 use denial_bitmap::bitmap::RtypeBitmap;
 use messages::names::{Name, ToName};
 use names_rdata::rtype::Rtype;
+
+/// The type by which a signer says that there is no such name (RFC 9824, 2).
+const NXNAME: u16 = 128;
+
+/// Whether they have NXNAME.
+pub(crate) fn has_nxname(types: &RtypeBitmap<&[u8]>) -> bool
+    ensures { result ≡ has_nxname types.now }
+{
+    types.contains(Rtype::from_int(NXNAME))
+}
 
 /// Whether they prove that a type is missing: they have neither the type nor CNAME.
 ///

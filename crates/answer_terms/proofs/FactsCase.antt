@@ -13,7 +13,7 @@ use Rattle.definitions.specs.Bitmap.{bitmap_has}
 use Rattle.definitions.specs.Zone.{Verdict, Records, NoType, NoName, StarRecords, StarNoType, Delegated, Open, star_under}
 use Rattle.definitions.proofs.ZoneNames.{low-low, above_lowered, lowered_above}
 use Rattle.denial_laws.specs.Facts.{Rrset, Link, HashLink, Facts, is_expanded}
-use Rattle.denial_laws.specs.NsecRules.{first_some, or_else, is_cut, lacks, star_lacks, at_name, at_owner, below_cut, link_covers, closest, at_star, covered, denied, encloses_at, expanded_by}
+use Rattle.denial_laws.specs.NsecRules.{first_some, or_else, has_nxname, denies, is_cut, lacks, star_lacks, at_name, at_owner, below_cut, link_covers, closest, at_star, covered, denied, encloses_at, expanded_by}
 use Rattle.denial_laws.specs.Nsec3Rules.{is_at, covers_hash, is_matched, at_hash, encloses, cut_above, star_at, beyond, enclosed, by_closest_encloser, hash_denied, last_labels, hash_expanded_by, hash_expanded}
 use Rattle.denial_laws.specs.Deciding.{by_chain, by_wildcard, decided_inside, decided}
 use Rattle.denial_laws.proofs.NameFacts.{strictly_lowered}
@@ -47,6 +47,9 @@ first_mapped f g h e (x ∷ xs) = λ i. elim (e x i) [ None ↦ first_mapped f g
 -- ---- links lowered
 
 module _ (apex : Name) where
+  denies_linked : (q : Name) (f : Link) → denies q (low_link f) ≡ denies q f
+  denies_linked q f i = elim (same_first f.owner q i && has_nxname f.bits) [ true ↦ Some NoName | false ↦ None ]
+
   owner_linked : (q : Name) (t : ℕ) (f : Link) → at_owner apex q t (low_link f) ≡ at_owner apex q t f
   owner_linked q t f i = elim (same_first f.owner q i) [ true ↦ at_name apex q t f.bits | false ↦ None ]
 
@@ -67,7 +70,7 @@ module _ (apex : Name) where
 
   star_linked : (s : Name) (t : ℕ) (f : Link) → at_star apex s t (low_link f) ≡ at_star apex s t f
   star_linked s t f i = elim (same_first f.owner s i) [
-    | true ↦ elim (star_lacks f.bits t) [ true ↦ Some StarNoType | false ↦ None ]
+    | true ↦ elim (star_lacks f.bits t && not (has_nxname f.bits)) [ true ↦ Some StarNoType | false ↦ None ]
     | false ↦ elim (covers_linked s f i) [
       | true ↦ elim (strictly_lowered s f.next i) [ true ↦ Some StarNoType | false ↦ Some NoName ]
       | false ↦ None
@@ -85,9 +88,10 @@ module _ (apex : Name) where
 
   denied_linked : (q : Name) (t : ℕ) (fs : List Link) → denied apex q t (map low_link fs) ≡ denied apex q t fs
   denied_linked q t fs i =
-      or_else (first_mapped (at_owner apex q t) (at_owner apex q t) low_link (owner_linked q t) fs i)
+      or_else (first_mapped (denies q) (denies q) low_link (denies_linked q) fs i)
+      (or_else (first_mapped (at_owner apex q t) (at_owner apex q t) low_link (owner_linked q t) fs i)
       (or_else (first_mapped (below_cut apex q) (below_cut apex q) low_link (cut_linked q) fs i)
-      (first_mapped (covered apex q t (map low_link fs)) (covered apex q t fs) low_link (covered_linked q t fs) fs i))
+      (first_mapped (covered apex q t (map low_link fs)) (covered apex q t fs) low_link (covered_linked q t fs) fs i)))
 
   expanding_linked : (q : Name) (r : Rrset) (f : Link) → expanded_by apex q r (low_link f) ≡ expanded_by apex q r f
   expanding_linked q r f i = elim (covers_linked q f i && not (strictly_lowered q f.next i) && encloses_at r.labels (closest_linked q f i)) [ true ↦ Some (StarRecords r.datas) | false ↦ None ]
@@ -139,6 +143,9 @@ module _ (apex : Name) where
     | false ↦ elim (lacks bits t) [ true ↦ Some NoType | false ↦ None ]
   ]
 
+  denies_named : (q : Name) (f : Link) → denies (low q) f ≡ denies q f
+  denies_named q f i = elim (same_second f.owner q i && has_nxname f.bits) [ true ↦ Some NoName | false ↦ None ]
+
   owner_named : (q : Name) (t : ℕ) (f : Link) → at_owner apex (low q) t f ≡ at_owner apex q t f
   owner_named q t f i = elim (same_second f.owner q i) [ true ↦ name_named q t f.bits i | false ↦ None ]
 
@@ -153,7 +160,7 @@ module _ (apex : Name) where
 
   star_named : (s : Name) (t : ℕ) (f : Link) → at_star apex (low s) t f ≡ at_star apex s t f
   star_named s t f i = elim (same_second f.owner s i) [
-    | true ↦ elim (star_lacks f.bits t) [ true ↦ Some StarNoType | false ↦ None ]
+    | true ↦ elim (star_lacks f.bits t && not (has_nxname f.bits)) [ true ↦ Some StarNoType | false ↦ None ]
     | false ↦ elim (covers_named s f i) [
       | true ↦ elim (strictly_first s f.next i) [ true ↦ Some StarNoType | false ↦ Some NoName ]
       | false ↦ None
@@ -178,9 +185,10 @@ module _ (apex : Name) where
 
   denied_named : (q : Name) (t : ℕ) (fs : List Link) → denied apex (low q) t fs ≡ denied apex q t fs
   denied_named q t fs i =
-      or_else (first_alike (at_owner apex (low q) t) (at_owner apex q t) (owner_named q t) fs i)
+      or_else (first_alike (denies (low q)) (denies q) (denies_named q) fs i)
+      (or_else (first_alike (at_owner apex (low q) t) (at_owner apex q t) (owner_named q t) fs i)
       (or_else (first_alike (below_cut apex (low q)) (below_cut apex q) (cut_named q) fs i)
-      (first_alike (covered apex (low q) t fs) (covered apex q t fs) (covered_named q t fs) fs i))
+      (first_alike (covered apex (low q) t fs) (covered apex q t fs) (covered_named q t fs) fs i)))
 
   expanding_named : (q : Name) (r : Rrset) (f : Link) → expanded_by apex (low q) r f ≡ expanded_by apex q r f
   expanding_named q r f =

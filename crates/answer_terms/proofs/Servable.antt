@@ -9,14 +9,14 @@ use Rattle.definitions.specs.ZoneChain.{Mode, optout_of}
 use Rattle.definitions.proofs.Members.{In, contained}
 use Rattle.definitions.proofs.ZoneNames.{lowered_above}
 use Rattle.denial_laws.specs.Aliases.{is_alias_type, is_aliased}
-use Rattle.denial_laws.specs.Truth.{IsServable, NoSharedHash, is_added_type, is_star}
+use Rattle.denial_laws.specs.Truth.{IsServable, NoSharedHash, is_added_type, is_meta_type, is_star}
 use Rattle.denial_laws.specs.Truth as zone
 use Rattle.denial_laws.specs.Deciding.{decided}
 use Rattle.denial_laws.specs.OwnFacts.{own_facts}
 use Rattle.denial_laws.proofs.NameFacts.{same_names}
 use Rattle.denial_laws.proofs.AliasFree.{alias_free_orderly, alias_free_unaliased}
 use Rattle.denial_laws.proofs.Complete.{own_answers_decide}
-use Rattle.messages.specs.HandedRr.{HandedRr, among}
+use Rattle.messages.specs.HandedRr.{HandedRr, among, is_meta}
 use Rattle.messages.specs.Message.{Asked}
 use Rattle.messages.specs.Star.{begins_with_star}
 use Rattle.messages.proofs.Lists.{all_fail, all_sorted, all_more}
@@ -43,6 +43,11 @@ no_alias_type t h =
     (λ i. cname.0 i || dname.0 i)
 
 -- ---- the records
+
+-- nor is it of a type that is no data
+pub real_type : (r : HandedRr) → is_meta r ≡ false → is_meta_type r.rtype ≡ false
+real_type r e =
+    (or_parts ((r.rtype == 0) || (r.rtype == 41) || (nat_le 128 r.rtype && nat_le r.rtype 255)) (r.is_unknown && among (2 ∷ 6 ∷ []) r.rtype) e).0
 
 all_mapped : {A B : Type 0} (P : B → Type 0) (f : A → B) (xs : List A) → AllByRecursion (λ x. P (f x)) xs → AllByRecursion P (map f xs)
 all_mapped P f [] h = tt
@@ -79,6 +84,8 @@ servable hasher apex mode limit rs a =
     record {
       apex = contained (map owner_of (map rr_of sorted)) (low apex) (apex_in apex sorted none);
       ordinary = all_mapped (λ (r : Rr). is_added_type r.rtype ≡ false) rr_of sorted (all_sorted (λ (r : HandedRr). is_added_type r.rtype ≡ false) record_cmp rs signing);
+      real = all_mapped (λ (r : Rr). is_meta_type r.rtype ≡ false) rr_of sorted (all_sorted (λ (r : HandedRr). is_meta_type r.rtype ≡ false) record_cmp rs
+          (all_more (λ r. is_meta r ≡ false) (λ r. is_meta_type r.rtype ≡ false) rs real_type (all_fail is_meta rs a.faultless.known)));
       stars = all_mapped (λ (r : Rr). zone.delegates_star r ≡ false) rr_of sorted (all_sorted (λ (r : HandedRr). zone.delegates_star (rr_of r) ≡ false) record_cmp rs
           (all_more (λ r. delegates_star r ≡ false) (λ r. zone.delegates_star (rr_of r) ≡ false) rs
           (λ r e. ap (λ b. (r.rtype == 2) && b) (star_first r.owner) ∙ e) stars));
@@ -106,7 +113,7 @@ asked_inside apex asked e =
     let meta : range ≡ false = not-true range a.1 in
     let within : at_or_above apex asked.name ≡ true = (and_parts (asked.class == 1) (at_or_above apex asked.name) b.0).1 in
     record {
-      asked_type = (λ i. not ((added i || alias i) || zeroth.0 i || opt.0 i || meta i));
+      asked_type = (λ i. not ((added i || alias i) || (zeroth.0 i || opt.0 i || meta i)));
       inside = λ rs. lowered_above apex asked.name ∙ within;
     }
 

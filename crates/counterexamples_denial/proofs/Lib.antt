@@ -6,3 +6,4 @@ pub mod NsecMistakes
 pub mod Nsec3Mistakes
 pub mod AliasZones
 pub mod AliasMistakes
+pub mod DeniedMistakes

@@ -27,6 +27,10 @@ pub record Choices : Type 0 where
   pub non_terminals : Bool
   -- a gap under opt-out proves nothing (RFC 5155, 6); otherwise the flag is passed over
   pub opt_out : Bool
+  -- a record of the name with NXNAME in its bits denies the name (RFC 9824, 3); otherwise each type that its bits lack
+  pub denied_names : Bool
+  -- a record of the wildcard with NXNAME in its bits does not speak for it (RFC 9824, 3); otherwise it denies a type there
+  pub denied_wildcards : Bool
   -- a record with CNAME in its bits proves no type missing (RFC 6840, 4.3); otherwise each that its bits lack
   pub aliases : Bool
   -- a record with DNAME in its bits proves nothing of the names below it (RFC 6840, 4.1); otherwise that they are missing
@@ -43,6 +47,8 @@ right = record {
   canonical_order = true;
   non_terminals = true;
   opt_out = true;
+  denied_names = true;
+  denied_wildcards = true;
   aliases = true;
   redirections = true;
 }

@@ -57,6 +57,12 @@ without_non_terminals = decided_with (record right { non_terminals = false })
 abbrev pub without_opt_out : Rule
 without_opt_out = decided_with (record right { opt_out = false })
 
+abbrev pub without_denied_names : Rule
+without_denied_names = decided_with (record right { denied_names = false })
+
+abbrev pub without_denied_wildcards : Rule
+without_denied_wildcards = decided_with (record right { denied_wildcards = false })
+
 abbrev pub without_aliases : Rule
 without_aliases = decided_with (record right { aliases = false })
 

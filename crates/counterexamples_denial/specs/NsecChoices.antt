@@ -5,7 +5,7 @@ use Rattle.definitions.specs.Covering.{before, octets_before}
 use Rattle.definitions.specs.Bitmap.{bitmap_has}
 use Rattle.definitions.specs.Zone.{Verdict, NoType, NoName, StarRecords, StarNoType, Delegated, star_under}
 use Rattle.denial_laws.specs.Facts.{Rrset, Link}
-use Rattle.denial_laws.specs.NsecRules.{first_some, or_else, is_cut, redirects, below_cut, closest, encloses_at}
+use Rattle.denial_laws.specs.NsecRules.{first_some, or_else, has_nxname, denies, is_cut, redirects, below_cut, closest, encloses_at}
 use Rattle.counterexamples_denial.specs.Choices.{Choices}
 
 -- a matching record proves a type missing
@@ -25,8 +25,16 @@ at_name_with c apex q t bits = elim (delegates_with c apex q t bits) [
   | false ↦ elim (lacks_with c bits t) [ true ↦ Some NoType | false ↦ None ]
 ]
 
+-- a record of the name denies it
+abbrev pub denies_with : Choices → Name → Link → Option Verdict
+denies_with c q f = elim c.denied_names [ true ↦ denies q f | false ↦ None ]
+
 abbrev pub at_owner_with : Choices → Name → Name → ℕ → Link → Option Verdict
 at_owner_with c apex q t f = elim (same f.owner q) [ true ↦ at_name_with c apex q t f.bits | false ↦ None ]
+
+-- a record of the wildcard speaks for it
+abbrev pub speaks_with : Choices → List ℕ → Bool
+speaks_with c bits = elim c.denied_wildcards [ true ↦ not (has_nxname bits) | false ↦ true ]
 
 -- the order of the wire form's octets, from the left, letters lowered
 abbrev pub wire_before : Name → Name → Bool
@@ -50,7 +58,7 @@ leads_below c q f = elim c.non_terminals [ true ↦ strictly_above q f.next | fa
 
 abbrev pub at_star_with : Choices → Name → Name → ℕ → Link → Option Verdict
 at_star_with c apex s t f = elim (same f.owner s) [
-  | true ↦ elim (star_lacks_with c f.bits t) [ true ↦ Some StarNoType | false ↦ None ]
+  | true ↦ elim (star_lacks_with c f.bits t && speaks_with c f.bits) [ true ↦ Some StarNoType | false ↦ None ]
   | false ↦ elim (link_covers_with c apex f s) [
     | true ↦ elim (leads_below c s f) [ true ↦ Some StarNoType | false ↦ Some NoName ]
     | false ↦ None
@@ -75,8 +83,8 @@ below_cut_with c apex q fs = elim c.delegations [ true ↦ first_some (below_cut
 
 abbrev pub denied_with : Choices → Name → Name → ℕ → List Link → Option Verdict
 denied_with c apex q t fs =
-    or_else (first_some (at_owner_with c apex q t) fs)
-    (or_else (below_cut_with c apex q fs) (first_some (covered_with c apex q t fs) fs))
+    or_else (first_some (denies_with c q) fs)
+    (or_else (first_some (at_owner_with c apex q t) fs) (or_else (below_cut_with c apex q fs) (first_some (covered_with c apex q t fs) fs)))
 
 -- the RRset's label count is that of the closest encloser
 abbrev pub count_fits : Choices → Name → Rrset → Link → Bool

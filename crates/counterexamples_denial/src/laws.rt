@@ -10,6 +10,8 @@ ghost use Rattle.counterexamples_denial.specs.Mistakes.{without_child_types, wit
 ghost use Rattle.counterexamples_denial.specs.Mistakes.{without_label_counts, by_wire_octets};
 ghost use Rattle.counterexamples_denial.specs.Mistakes.{without_non_terminals, without_opt_out};
 ghost use Rattle.counterexamples_denial.specs.Mistakes.{without_aliases, without_redirections};
+ghost use Rattle.counterexamples_denial.specs.Mistakes.{without_denied_names};
+ghost use Rattle.counterexamples_denial.specs.Mistakes.{without_denied_wildcards};
 
 /// With all choices made rightly the rules are those of `denial_laws`. They never decide falsely,
 /// and miss no zone's own answer.
@@ -76,6 +78,18 @@ pub fn names_above_names_exist()
 /// of the child zone (RFC 5155, 6).
 pub fn opt_out_proves_nothing()
     ensures { DecidesFalsely without_opt_out (Nsec3 0 [] true) }
+{}
+
+/// A record of the name with NXNAME in its bits denies the name. Who takes it for one that lacks a
+/// type takes a name that does not exist for one that does (RFC 9824, 3).
+pub fn names_are_denied_by_nxname()
+    ensures { DecidesFalsely without_denied_names Nsec }
+{}
+
+/// A record of the wildcard with NXNAME in its bits denies no type there. Who takes it for one that
+/// lacks a type takes names for which no wildcard stands for names that exist (RFC 9824, 3).
+pub fn no_type_is_denied_at_a_denied_wildcard()
+    ensures { DecidesFalsely without_denied_wildcards Nsec }
 {}
 
 /// A record with CNAME in its bits proves no type missing: the alias answers for each of them. An

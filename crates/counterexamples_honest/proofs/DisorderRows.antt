@@ -46,6 +46,7 @@ alias_order =
     record {
       apex = at_place (owners z) (apex_of z) 0 refl refl;
       ordinary = (refl, (refl, (refl, tt)));
+      real = (refl, (refl, (refl, tt)));
       stars = (refl, (refl, (refl, tt)));
       alone = tt;
       uncut = λ o h. absurd (no_type z 39 refl o h);
@@ -111,6 +112,7 @@ below_order =
     record {
       apex = at_place (owners z) (apex_of z) 0 refl refl;
       ordinary = (refl, (refl, (refl, tt)));
+      real = (refl, (refl, (refl, tt)));
       stars = (refl, (refl, (refl, tt)));
       alone = λ o t h k. absurd (no_type z 5 refl o h);
       uncut = λ o h. false_from_ne_true (is_delegation z o) (λ e. no_type z 2 refl o (and_parts (has z o 2) (strictly_above (apex_of z) o) e).0);
@@ -199,6 +201,7 @@ cut_order =
     record {
       apex = at_place (owners z) (apex_of z) 0 refl refl;
       ordinary = (refl, (refl, (refl, tt)));
+      real = (refl, (refl, (refl, tt)));
       stars = (refl, (refl, (refl, tt)));
       alone = λ o t h k. absurd (no_type z 5 refl o h);
       uncut = tt;
@@ -267,6 +270,7 @@ hand_order =
     record {
       apex = at_place (owners z) (apex_of z) 0 refl refl;
       ordinary = tt;
+      real = (refl, (refl, (refl, tt)));
       stars = (refl, (refl, (refl, tt)));
       alone = λ o t h k. absurd (no_type z 5 refl o h);
       uncut = λ o h. absurd (no_type z 39 refl o h);

@@ -89,6 +89,7 @@ pub in_order : (p : Premises) (z : Zone) → IsServable z → IsServableIn p z
 in_order p z s = record {
   apex = s.apex;
   ordinary = where_all p.ordinary s.ordinary;
+  real = where_all p.real s.real;
   stars = s.stars;
   alone = where_all p.alone s.aliases.alone;
   uncut = where_all p.uncut s.aliases.uncut;

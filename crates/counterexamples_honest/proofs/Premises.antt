@@ -22,6 +22,7 @@ is_version a h v x = record {
   in_order = record {
     apex = x.in_order.apex;
     ordinary = x.in_order.ordinary;
+    real = x.in_order.real;
     stars = x.in_order.stars;
     aliases = record { alone = x.in_order.alone; uncut = x.in_order.uncut; childless = x.in_order.childless };
   };

@@ -194,6 +194,7 @@ aliased_served =
     record {
       apex = at_place (owners z) (apex_of z) 0 refl refl;
       ordinary = (refl, (refl, tt));
+      real = (refl, (refl, tt));
       stars = (refl, (refl, tt));
       aliases = record {
         alone = λ o t h k. alone_at_a t (ap (λ n. has z n t) (sym (only_alias o h)) ∙ k);
@@ -280,6 +281,7 @@ redirected_served =
     record {
       apex = at_place (owners z) (apex_of z) 0 refl refl;
       ordinary = (refl, (refl, tt));
+      real = (refl, (refl, tt));
       stars = (refl, (refl, tt));
       aliases = record {
         alone = λ o t h k. absurd (no_type z 5 refl o h);

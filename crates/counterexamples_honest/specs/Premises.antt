@@ -5,7 +5,7 @@ use Rattle.definitions.specs.Dnskey.{Dnskey}
 use Rattle.definitions.specs.Limits.{pointer_limit}
 use Rattle.definitions.specs.Name.{IsName, Name, strictly_above}
 use Rattle.definitions.specs.Zone.{Verdict, Zone, apex_of, has, is_delegation, owners}
-use Rattle.denial_laws.specs.Truth.{NoSharedHash, delegates_star, is_added_type}
+use Rattle.denial_laws.specs.Truth.{NoSharedHash, delegates_star, is_added_type, is_meta_type}
 use Rattle.messages.specs.Handed.{IsHanded}
 use Rattle.messages.specs.Message.{AreOctets}
 use Rattle.messages.specs.WrittenLaws.{IsQuestion}
@@ -40,6 +40,8 @@ pub record Premises : Type 0 where
   pub settled : Bool
   -- no record of a zone is of a type that signing adds
   pub ordinary : Bool
+  -- nor of a type that is no data, as NXNAME is
+  pub real : Bool
   -- nothing stands beside a CNAME
   pub alone : Bool
   -- no DNAME stands at a delegation
@@ -58,6 +60,7 @@ all = record {
   denials_true = true;
   settled = true;
   ordinary = true;
+  real = true;
   alone = true;
   uncut = true;
   childless = true;
@@ -92,6 +95,9 @@ without_settled = record all { settled = false }
 abbrev pub without_ordinary : Premises
 without_ordinary = record all { ordinary = false }
 
+abbrev pub without_real : Premises
+without_real = record all { real = false }
+
 abbrev pub without_alone : Premises
 without_alone = record all { alone = false }
 
@@ -112,6 +118,7 @@ Where false A = Unit {0}
 pub record IsServableIn (p : Premises) (z : Zone) : Type 0 where
   pub apex : Contains (owners z) (apex_of z)
   pub ordinary : Where p.ordinary (AllByRecursion (λ r. is_added_type r.rtype ≡ false) z.records)
+  pub real : Where p.real (AllByRecursion (λ r. is_meta_type r.rtype ≡ false) z.records)
   pub stars : AllByRecursion (λ r. delegates_star r ≡ false) z.records
   pub alone : Where p.alone ((o : Name) (t : ℕ) → has z o 5 ≡ true → has z o t ≡ true → t ≡ 5)
   pub uncut : Where p.uncut ((o : Name) → has z o 39 ≡ true → is_delegation z o ≡ false)

@@ -63,6 +63,20 @@ chained_by_hand = by_names (soa ∷ address_of a ∷ handed example 47 next_hand
 abbrev pub lied : Version
 lied = record small { made = record { owner = example; rtype = 47; datas = next_handed ∷ [] } ∷ [] }
 
+-- one that denies a name which is not there
+abbrev pub next_of_denied : List ℕ
+next_of_denied = wire ((0 ∷ []) ∷ b) ++ bitmap (46 ∷ 47 ∷ 128 ∷ [])
+
+abbrev pub denying : Version
+denying = record small { made = record { owner = b; rtype = 47; datas = next_of_denied ∷ [] } ∷ [] }
+
+-- a record of type NXNAME, which its name's record of the chain lists
+abbrev pub named : Version
+named = by_names (soa ∷ handed a 128 (1 ∷ []) ∷ [])
+
+abbrev pub next_of_named : List ℕ
+next_of_named = wire example ++ bitmap (128 ∷ 46 ∷ 47 ∷ [])
+
 -- ---- DNSKEY answers
 
 -- one of some keys, their data in order, signed by a key
@@ -208,6 +222,18 @@ of_cut_redirect = judge_input (ds ∷ []) own_keys cut_answer x_b 1
 
 abbrev pub of_hand : JudgeInput
 of_hand = judge_input (ds ∷ []) own_keys denied_by_hand a 1
+
+abbrev pub of_named : JudgeInput
+of_named =
+    judge_input (ds ∷ []) own_keys
+    (message_of a 1 2 (rr a 47 next_of_named ++ rrsig a (fields 47 2 0 1000 2000 own_key) own_key a (next_of_named ∷ []))) a 1
+
+-- ---- an honest row, of a record that was made for its question
+
+abbrev pub of_denied : JudgeInput
+of_denied =
+    judge_input (ds ∷ []) own_keys
+    (message_of b 1 2 (rr b 47 next_of_denied ++ rrsig b (fields 47 2 3600 1000 2000 own_key) own_key b (next_of_denied ∷ []))) b 1
 
 -- ---- honest rows that a judge refuses, of whatever is forged where no judge may look
 

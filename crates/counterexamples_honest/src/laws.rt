@@ -14,12 +14,14 @@ ghost use Rattle.counterexamples_honest.specs.Premises.{without_denials_true};
 ghost use Rattle.counterexamples_honest.specs.Premises.{without_ds, without_hashes_apart};
 ghost use Rattle.counterexamples_honest.specs.Premises.{without_keys_known, without_keys_published};
 ghost use Rattle.counterexamples_honest.specs.Premises.{without_keys_unforged, without_ordinary};
-ghost use Rattle.counterexamples_honest.specs.Premises.{without_settled, without_uncut};
+ghost use Rattle.counterexamples_honest.specs.Premises.{without_real, without_settled};
+ghost use Rattle.counterexamples_honest.specs.Premises.{without_uncut};
 ghost use Rattle.counterexamples_honest.specs.Quoted.{QuotesAreHonest};
 ghost use Rattle.counterexamples_honest.specs.Rows.{aliased, at_alias, begun_at_once};
 ghost use Rattle.counterexamples_honest.specs.Rows.{below_redirected, first_version, forged_late};
 ghost use Rattle.counterexamples_honest.specs.Rows.{mixed, of_idle, of_other_signer, of_strangers};
 ghost use Rattle.counterexamples_honest.specs.Rows.{own, redirected, second_version, small};
+ghost use Rattle.counterexamples_honest.specs.Rows.{denying, of_denied};
 ghost use Rattle.counterexamples_honest.specs.Rows.{spliced, starred};
 ghost use Rattle.counterexamples_honest.specs.World.{address, false_address, plain};
 
@@ -166,6 +168,18 @@ pub fn no_record_may_be_of_a_type_that_signing_adds()
 /// the zone has (RFC 4470).
 pub fn denials_that_are_made_must_be_true()
     ensures { SaysFalsely without_denials_true }
+{}
+
+/// A record of denial that a signer makes for a question about a name that does not exist is
+/// honest, and denies the name (RFC 9824, 3).
+pub fn a_denial_that_is_made_is_honest()
+    ensures { IsHonestCase plain of_denied (denying ∷ []) (Says NoName) }
+{}
+
+/// A record of type NXNAME is listed by its name's NSEC record, which so denies the name: no zone
+/// is to hold one (RFC 9824, 2).
+pub fn no_record_may_be_of_a_type_that_is_no_data()
+    ensures { SaysFalsely without_real }
 {}
 
 /// Two versions at one moment are not told apart, so at one moment a zone is to have one version.

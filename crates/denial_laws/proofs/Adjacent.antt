@@ -14,11 +14,10 @@ use Rattle.definitions.specs.Zone.{Zone, apex_of, owners, is_live, kept_owners}
 use Rattle.definitions.specs.ZoneChain.{links, behind, nsec_names, nsec_next}
 use Rattle.definitions.proofs.Members.{In, contained, in_contained, Rises, not_less, sort_rises}
 use Rattle.definitions.proofs.NameLaws.{name_cmp_total, labels_decide, same_is_equal, interval, apex_first}
-use Rattle.definitions.proofs.ZoneNames.{above_itself, low-low, kept-live, apex_kept, live_owner, owner_lowered, owner_in_chain}
+use Rattle.definitions.proofs.ZoneNames.{above_itself, kept-live, apex_kept, live_owner, owner_lowered, owner_in_chain}
 use Rattle.denial_laws.specs.Facts.{Link}
 use Rattle.denial_laws.specs.Truth.{IsServable, SaysTruly}
 use Rattle.denial_laws.proofs.NameFacts.{same_names, names_same, covers-low, strictly_from, strictly_at, not_after, not_before, less_not_greater, before_less, before_unlike, strictly_before, up_to_before, before_up_to}
-use Rattle.denial_laws.proofs.ZoneCuts.{kept_inside, kept_uncut, uncut_live}
 
 -- ---- what stands behind an item of items that rise
 
@@ -145,17 +144,14 @@ module _ (z : Zone) (s : IsServable z) where
       go Equal e = inl (λ g. let x : Equal ≡ Greater = sym e ∙ g in cc)
       go Greater e = inr (not_before w o e)
 
-  pub said_live : (f : Link) → SaysTruly z f → is_live z (low f.owner) ≡ true
-  said_live f g = uncut_live z (low f.owner) (low-low f.owner) (kept_inside z false (low f.owner) g.there) (kept_uncut z false (low f.owner) g.there)
-
-  pub link_covered : (f : Link) → SaysTruly z f → (q : Name) → covers z.name f.owner f.next q ≡ true → Covered z (low f.owner) (low f.next) (low q)
+  pub link_covered : {Q : Name} (f : Link) → SaysTruly z Q f → (q : Name) → covers z.name f.owner f.next q ≡ true → Covered z (low f.owner) (low f.next) (low q)
   link_covered f g q h =
       let o : Name = low f.owner in
       let n : Name = low f.next in
       let lq : Name = low q in
       let parts = and_parts (before o lq) _ (covers-low z.name f.owner f.next q ∙ h) in
       record {
-        live = said_live f g;
+        live = g.live;
         before = before_less o lq parts.0;
         apart = λ w i. elim (sides w o) [
           | inl up ↦ inl up

@@ -12,8 +12,8 @@ use Rattle.definitions.proofs.BitmapLaws.{spells_set}
 use Rattle.definitions.proofs.Members.{In, any_of}
 use Rattle.definitions.proofs.ZoneNames.{low-low}
 use Rattle.denial_laws.specs.Aliases.{IsOrderly, is_alias_type}
-use Rattle.denial_laws.specs.Truth.{IsServable, ShowsTypes, is_added_type, is_foreign_type}
-use Rattle.denial_laws.specs.NsecRules.{is_cut}
+use Rattle.denial_laws.specs.Truth.{IsServable, ShowsTypes, is_added_type, is_foreign_type, is_meta_type}
+use Rattle.denial_laws.specs.NsecRules.{has_nxname, is_cut}
 use Rattle.denial_laws.specs.Laws.{is_asked_type}
 use Rattle.denial_laws.proofs.NameFacts.{same_names, names_same, strictly_from, strictly_unlike}
 
@@ -39,7 +39,7 @@ not_added t h =
 
 asked_not_foreign : (t : ℕ) → is_asked_type t ≡ true → is_foreign_type t ≡ false
 asked_not_foreign t h = false_from_ne_true (is_foreign_type t) (λ e.
-    false≢true (sym (ap (λ b. not (b || nat_eq t 0 || nat_eq t 41 || (nat_le 128 t && nat_le t 255))) e) ∙ h))
+    false≢true (sym (ap (λ b. not (b || is_meta_type t)) e) ∙ h))
 
 asked_ordinary : (t : ℕ) → is_asked_type t ≡ true → is_added_type t ≡ false
 asked_ordinary t h = (or_parts (is_added_type t) (is_alias_type t) (asked_not_foreign t h)).0
@@ -215,6 +215,16 @@ module _ (z : Zone) (s : IsServable z) (o : Name) (ts : List ℕ) (k : HasTypes 
 
 pub nsec_shows : (z : Zone) → IsServable z → (o : Name) → ShowsTypes z o (bitmap (nsec_types z true o))
 nsec_shows z s o = shown z s o (nsec_types z true o) (nsec_has z o)
+
+-- nor NXNAME
+pub nsec_named : (z : Zone) → IsServable z → (o : Name) → has_nxname (bitmap (nsec_types z true o)) ≡ false
+nsec_named z s o =
+    let none : has z o 128 ≡ false = none_of_types is_meta_type z s.real o 128 refl in
+    (spells_set (nsec_types z true o)).members 128 (omega arith) ∙ go none (is_delegation z o) refl
+  where
+    go : has z o 128 ≡ false → (d : Bool) → is_delegation z o ≡ d → list_any (nat_eq 128) (nsec_types z true o) ≡ false
+    go none true d = (nsec_has z o).cut d 128 refl
+    go none false d = (nsec_has z o).plain d 128 refl ∙ none
 
 pub nsec_lacks : (z : Zone) → IsServable z → (o : Name) → LacksTypes z o (bitmap (nsec_types z true o))
 nsec_lacks z s o = lacking z s o (nsec_types z true o) (nsec_has z o)

@@ -1,16 +1,11 @@
 -- What an NSEC3 record that says truly says of a name whose hash it has or covers.
 use Rattle.std.proofs.Common.{◌≡◌, ℕ, Bool, true, false, List}
-use Rattle.std.specs.List.{Contains}
 use Rattle.std.specs.Cmp.Lexicographic.{bytes_decides}
 use Rattle.definitions.specs.Name.{Name, low}
-use Rattle.definitions.specs.Zone.{Zone, apex_of, kept}
+use Rattle.definitions.specs.Zone.{Zone, kept}
 use Rattle.denial_laws.specs.Facts.{HashLink}
 use Rattle.denial_laws.specs.Nsec3Rules.{is_at, covers_hash}
-use Rattle.denial_laws.specs.Truth.{SaysTrulyHash, ShowsTypes, concerned}
-
--- the question concerns a name
-abbrev pub Concerns : Zone → Name → Name → Type 0
-Concerns z q x = Contains (concerned (apex_of z) (low q)) (low x)
+use Rattle.denial_laws.specs.Truth.{Concerns, SaysTrulyHash, ShowsTypes}
 
 module _ (z : Zone) (hash : Name → List ℕ) (ex : Bool) (q : Name) (l : HashLink) (k : SaysTrulyHash z hash ex q l) (x : Name) (c : Concerns z q x) where
   pub said_kept : is_at (hash (low x)) l ≡ true → kept z ex x ≡ true

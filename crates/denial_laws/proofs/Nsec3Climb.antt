@@ -13,13 +13,13 @@ use Rattle.denial_laws.specs.Facts.{HashLink}
 use Rattle.denial_laws.specs.NsecRules.{first_some, is_cut, lacks, star_lacks}
 use Rattle.denial_laws.specs.Nsec3Rules.{is_at, covers_hash, is_matched, encloses, cut_above, star_at, beyond, enclosed, by_closest_encloser}
 use Rattle.denial_laws.specs.Aliases.{has_alias}
-use Rattle.denial_laws.specs.Truth.{IsServable, SaysTrulyHash}
+use Rattle.denial_laws.specs.Truth.{Concerns, IsServable, SaysTrulyHash}
 use Rattle.denial_laws.specs.Laws.{IsSaidBy}
 use Rattle.denial_laws.proofs.NameFacts.{same_names, names_same, above-low, strictly_at, strictly_unlike, strictly_above_at}
 use Rattle.denial_laws.proofs.ChainBits.{all_at, cut_test}
 use Rattle.denial_laws.proofs.Found.{either_from, first_from, none_from}
 use Rattle.denial_laws.proofs.HashChain.{concerns_name, concerns_star}
-use Rattle.denial_laws.proofs.HashSays.{Concerns, said_kept, said_shows, said_gone}
+use Rattle.denial_laws.proofs.HashSays.{said_kept, said_shows, said_gone}
 use Rattle.denial_laws.proofs.AtName.{on_true, not_there, lacks_cname}
 use Rattle.denial_laws.proofs.Verdicts.{verdict_delegated, IsGap, gap_gone, gap_unredirected, gap_child, gap_left_open, gap_open, gap_encloser, gap_star}
 use Rattle.denial_laws.proofs.ZoneCuts.{cut_from, kept_live, kept_inside, kept_lowered, kept_exists, kept_delegation, no_star_cut}

@@ -6,11 +6,11 @@ use Rattle.definitions.specs.Zone.{Zone, Verdict}
 use Rattle.denial_laws.specs.Facts.{HashLink}
 use Rattle.denial_laws.specs.NsecRules.{first_some, at_name}
 use Rattle.denial_laws.specs.Nsec3Rules.{is_at, at_hash}
-use Rattle.denial_laws.specs.Truth.{IsServable, SaysTrulyHash}
+use Rattle.denial_laws.specs.Truth.{Concerns, IsServable, SaysTrulyHash}
 use Rattle.denial_laws.specs.Laws.{IsSaidBy}
 use Rattle.denial_laws.proofs.ChainBits.{all_at}
 use Rattle.denial_laws.proofs.Found.{first_from}
-use Rattle.denial_laws.proofs.HashSays.{Concerns, said_kept, said_shows}
+use Rattle.denial_laws.proofs.HashSays.{said_kept, said_shows}
 use Rattle.denial_laws.proofs.AtName.{on_true, kept_name_truly}
 use Rattle.denial_laws.proofs.ZoneCuts.{kept_lowered}
 

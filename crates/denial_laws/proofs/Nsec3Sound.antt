@@ -10,10 +10,9 @@ use Rattle.denial_laws.specs.Facts.{Rrset, HashLink, Facts, is_expanded}
 use Rattle.denial_laws.specs.NsecRules.{first_some, denied, expanded}
 use Rattle.denial_laws.specs.Nsec3Rules.{is_matched, at_hash, by_closest_encloser, hash_denied, hash_expanded}
 use Rattle.denial_laws.specs.Deciding.{by_chain, by_wildcard, decided_inside, decided}
-use Rattle.denial_laws.specs.Truth.{IsServable, IsTrueRrset, SaysTrulyHash, AreTrue}
+use Rattle.denial_laws.specs.Truth.{Concerns, IsServable, IsTrueRrset, SaysTrulyHash, AreTrue}
 use Rattle.denial_laws.specs.Laws.{IsSaidBy}
 use Rattle.denial_laws.proofs.HashChain.{concerns_name}
-use Rattle.denial_laws.proofs.HashSays.{Concerns}
 use Rattle.denial_laws.proofs.AtName.{on_true}
 use Rattle.denial_laws.proofs.SignedNames.{records_truly}
 use Rattle.denial_laws.proofs.Nsec3Matched.{matched_truly}

@@ -10,20 +10,21 @@ use Rattle.definitions.specs.ZoneChain.{Nsec, nsec_names, nsec_next, nsec_types}
 use Rattle.definitions.proofs.Members.{In}
 use Rattle.definitions.proofs.NameLaws.{labels_decide}
 use Rattle.definitions.proofs.ChainSpeaks.{all_from}
-use Rattle.definitions.proofs.ZoneNames.{above_lowered, lowered_above, same-length, low-low, same_lowered, owner_in_chain}
+use Rattle.definitions.proofs.ZoneNames.{above_itself, above_lowered, lowered_above, same-length, low-low, same_lowered, owner_in_chain}
 use Rattle.denial_laws.specs.Aliases.{is_redirected}
 use Rattle.denial_laws.specs.Facts.{Rrset, Link, Facts}
-use Rattle.denial_laws.specs.NsecRules.{first_some, is_cut, lacks, star_lacks, at_name, at_owner, below_cut, link_covers, closest, at_star, covered, denied, encloses_at, expanded_by, expanded}
+use Rattle.denial_laws.specs.NsecRules.{first_some, or_else, has_nxname, denies, is_cut, lacks, star_lacks, at_name, at_owner, below_cut, link_covers, closest, at_star, covered, denied, encloses_at, expanded_by, expanded}
 use Rattle.denial_laws.specs.Deciding.{decided_inside, decided}
 use Rattle.denial_laws.specs.OwnFacts.{spoken, link_of, own_rrset, own_links, own_facts}
-use Rattle.denial_laws.specs.Truth.{IsServable, IsTrueLink, IsTrueRrset, ShowsTypes, SaysTruly, AreTrue, is_star}
+use Rattle.denial_laws.specs.Truth.{Concerns, IsServable, IsTrueLink, IsTrueRrset, ShowsTypes, SaysTruly, AreTrue, is_star}
 use Rattle.denial_laws.specs.Laws.{is_asked_type}
 use Rattle.denial_laws.proofs.NameFacts.{names_same, same-low, before_unlike, strictly-low, strictly_lowered, above_cases, strictly_at}
 use Rattle.denial_laws.proofs.AtName.{Answers, lacks_from, star_lacks_from, cut_answers, lack_answers}
 use Rattle.denial_laws.proofs.KeptAncestor.{kept_encloser}
-use Rattle.denial_laws.proofs.ChainBits.{nsec_shows, nsec_lacks, cut_test, asked_no_cname}
+use Rattle.denial_laws.proofs.ChainBits.{nsec_shows, nsec_named, nsec_lacks, cut_test, asked_no_cname}
 use Rattle.denial_laws.proofs.ZoneCuts.{IsCut, ce_encloses, ce_lowered, delegation_owner, delegation_low, cut_is, cut_live}
 use Rattle.denial_laws.proofs.Found.{first_is, left_is, right_is}
+use Rattle.denial_laws.proofs.HashChain.{concerns_name, concerns_star}
 use Rattle.denial_laws.proofs.Adjacent.{Covered, chain_inside}
 use Rattle.denial_laws.proofs.NsecEncloser.{Encloser, encloser, owner_exists}
 use Rattle.denial_laws.proofs.ChainSays.{link_says, chains_say_truly}
@@ -47,8 +48,11 @@ module _ (z : Zone) (s : IsServable z) (q : Name) (t : ℕ) (l : t < 65536) (k :
   star_lacking : (o : Name) → is_star o ≡ true → LacksBoth z o t → star_lacks (bitmap (nsec_types z true o)) t ≡ true
   star_lacking o w h = star_lacks_from z s o (bitmap (nsec_types z true o)) t w l k (nsec_shows z s o) (nsec_lacks z s o) h.0 h.1
 
-  says : (o : Name) → In o (nsec_names z) → SaysTruly z (link_of z o)
-  says o i = link_says z s (link_of z o) (own_link_true z s o i)
+  says : (o : Name) → In o (nsec_names z) → SaysTruly z q (link_of z o)
+  says o i = link_says z s q (link_of z o) (own_link_true z s o i)
+
+  asked : at_or_above (apex_of z) (low q) ≡ true → Concerns z q q
+  asked a = concerns_name (apex_of z) q q (sym (above_lowered (apex_of z) q) ∙ a) (above_itself q)
 
   -- ---- a record of the name
 
@@ -67,52 +71,59 @@ module _ (z : Zone) (s : IsServable z) (q : Name) (t : ℕ) (l : t < 65536) (k :
     | false ↦ elim c [ true ↦ elim b [ true ↦ Some StarNoType | false ↦ Some NoName ] | false ↦ None ]
   ]
 
-  star_beside : (o : Name) → In o (nsec_names z) → (n : Name) → link_covers z.name (link_of z o) (star_under n) ≡ true → Answers (at_star z.name (star_under n) t (link_of z o))
-  star_beside o i n c = go (strictly_above (star_under n) (nsec_next z o)) refl
+  star_beside : (o : Name) → In o (nsec_names z) → (n : Name) → Concerns z q (star_under n) → link_covers z.name (link_of z o) (star_under n) ≡ true → Answers (at_star z.name (star_under n) t (link_of z o))
+  star_beside o i n w c = go (strictly_above (star_under n) (nsec_next z o)) refl
     where
       reach : Covered z (low o) (low (nsec_next z o)) (low (star_under n))
-      reach = cover z s (link_of z o) (says o i) (star_under n) c
+      reach = cover z s (link_of z o) (says o i) (star_under n) w c
 
       unlike : same o (star_under n) ≡ false
       unlike = false_from_ne_true (same o (star_under n)) (λ e. before_unlike (low o) (low (star_under n)) reach.before (same-low o (star_under n) ∙ e))
 
       go : (d : Bool) → strictly_above (star_under n) (nsec_next z o) ≡ d → Answers (at_star z.name (star_under n) t (link_of z o))
-      go true e = (StarNoType, (λ i. star_case (unlike i) (star_lacks (bitmap (nsec_types z true o)) t) (c i) (e i)))
-      go false e = (NoName, (λ i. star_case (unlike i) (star_lacks (bitmap (nsec_types z true o)) t) (c i) (e i)))
+      go true e = (StarNoType, (λ i. star_case (unlike i) (star_lacks (bitmap (nsec_types z true o)) t && not (has_nxname (bitmap (nsec_types z true o)))) (c i) (e i)))
+      go false e = (NoName, (λ i. star_case (unlike i) (star_lacks (bitmap (nsec_types z true o)) t && not (has_nxname (bitmap (nsec_types z true o)))) (c i) (e i)))
 
   module _ (qs : List Name) where
     abbrev fs : List Link
     fs = own_links z Nsec qs
 
+    -- the rules behind that on NXNAME
+    abbrev undenied : Option Verdict
+    undenied = or_else (first_some (at_owner z.name q t) fs) (or_else (first_some (below_cut z.name q) fs) (first_some (covered z.name q t fs) fs))
+
+    by_others : Answers undenied → Answers (denied z.name q t fs)
+    by_others w = right_is (first_some (denies q) fs) undenied w.0 w.1
+
     by_owner : (g : Link) → In g fs → Answers (at_owner z.name q t g) → Answers (denied z.name q t fs)
     by_owner g i w =
         let r = first_is (at_owner z.name q t) fs g w.0 i w.1 in
-        left_is (first_some (at_owner z.name q t) fs) _ r.0 r.1
+        by_others (left_is (first_some (at_owner z.name q t) fs) _ r.0 r.1)
 
     by_cut : (g : Link) → In g fs → Answers (below_cut z.name q g) → Answers (denied z.name q t fs)
     by_cut g i w =
         let r = first_is (below_cut z.name q) fs g w.0 i w.1 in
         let m = left_is (first_some (below_cut z.name q) fs) (first_some (covered z.name q t fs) fs) r.0 r.1 in
-        right_is (first_some (at_owner z.name q t) fs) _ m.0 m.1
+        by_others (right_is (first_some (at_owner z.name q t) fs) _ m.0 m.1)
 
     by_cover : (g : Link) → In g fs → Answers (covered z.name q t fs g) → Answers (denied z.name q t fs)
     by_cover g i w =
         let r = first_is (covered z.name q t fs) fs g w.0 i w.1 in
         let m = right_is (first_some (below_cut z.name q) fs) (first_some (covered z.name q t fs) fs) r.0 r.1 in
-        right_is (first_some (at_owner z.name q t) fs) _ m.0 m.1
+        by_others (right_is (first_some (at_owner z.name q t) fs) _ m.0 m.1)
 
     -- ---- the name is there without the type
 
     module _ (o : Name) (i : In o (nsec_names z)) (h : covers (apex_of z) o (nsec_next z o) (low q) ≡ true) (a : at_or_above (apex_of z) (low q) ≡ true) where
       gap : covers z.name o (nsec_next z o) q ≡ true
-      gap = covering z s (link_of z o) (says o i) q (own_covers z s o q i u.unredirected h)
+      gap = covering z s (link_of z o) (says o i) q (asked a) (own_covers z s o q i u.unredirected h)
 
       -- the next name is below it exactly where it exists
       next_below : (b : Bool) → exists z (low q) ≡ b → strictly_above q (nsec_next z o) ≡ b
-      next_below b x = sym (strictly-low q (nsec_next z o)) ∙ sym (exists_covered z s (link_of z o) (says o i) q gap a (strictly_above (low q) (low (nsec_next z o))) refl) ∙ x
+      next_below b x = sym (strictly-low q (nsec_next z o)) ∙ sym (exists_covered z s (link_of z o) (says o i) q (asked a) gap a (strictly_above (low q) (low (nsec_next z o))) refl) ∙ x
 
       shown : Encloser z (link_of z o) q
-      shown = encloser z s (link_of z o) (says o i) q gap (sym (strictly_lowered (apex_of z) q) ∙ apex_above z s (link_of z o) (says o i) q gap a)
+      shown = encloser z s (link_of z o) (says o i) q (asked a) gap (sym (strictly_lowered (apex_of z) q) ∙ apex_above z s (link_of z o) (says o i) q (asked a) gap a)
 
       abbrev beyond : Bool → Bool → Option Name → Option Verdict
       beyond c b e = elim c [
@@ -151,10 +162,13 @@ module _ (z : Zone) (s : IsServable z) (q : Name) (t : ℕ) (l : t < 65536) (k :
               let is : same p.owner (star_under n) ≡ true = names_same p.owner (star_under n) (ap low m ∙ le ∙ sym ls) in
               let none : LacksBoth z (star_under e) t = h (subst (λ n. In n (nsec_names z)) m p.inside) in
               let lacking : star_lacks (bitmap (nsec_types z true p.owner)) t ≡ true = star_lacking p.owner (ap is_star m) (ap (λ n. has z n t) m ∙ none.0, ap (λ n. has z n 5) m ∙ none.1) in
-              (StarNoType, (λ i. star_case (is i) (lacking i) (link_covers z.name g (star_under n)) (strictly_above (star_under n) g.next)))
+              let plain = and_from (star_lacks (bitmap (nsec_types z true p.owner)) t) _ lacking (not_from_false (has_nxname (bitmap (nsec_types z true p.owner))) (nsec_named z s p.owner)) in
+              (StarNoType, (λ i. star_case (is i) (plain i) (link_covers z.name g (star_under n)) (strictly_above (star_under n) g.next)))
           | inr c ↦
               let direct : is_redirected z (low (star_under n)) ≡ false = ap (is_redirected z) ls ∙ beside_unredirected z e (low q) (42 ∷ []) (low-low q) up u.unredirected in
-              star_beside p.owner p.inside n (own_covers z s p.owner (star_under n) p.inside direct (ap (covers (apex_of z) p.owner (nsec_next z p.owner)) ls ∙ c))
+              let within : at_or_above (apex_of z) n ≡ true = sym (above_lowered (apex_of z) n) ∙ ap (at_or_above (apex_of z)) ln ∙ a in
+              let under : strictly_above n q ≡ true = sym (strictly-low n q) ∙ ap (λ m. strictly_above m (low q)) ln ∙ up in
+              star_beside p.owner p.inside n (concerns_star (apex_of z) n q within under) (own_covers z s p.owner (star_under n) p.inside direct (ap (covers (apex_of z) p.owner (nsec_next z p.owner)) ls ∙ c))
         ] in
         first_is (at_star z.name (star_under n) t) fs g told.0 p.listed told.1
 

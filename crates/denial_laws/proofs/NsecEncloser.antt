@@ -9,7 +9,7 @@ use Rattle.definitions.specs.ZoneChain.{nsec_names}
 use Rattle.definitions.proofs.Members.{In}
 use Rattle.definitions.proofs.ZoneNames.{above_itself, above_lowered, lowered_above, kept-live, live_owner, owner_in_chain}
 use Rattle.denial_laws.specs.Facts.{Link}
-use Rattle.denial_laws.specs.Truth.{IsServable, SaysTruly}
+use Rattle.denial_laws.specs.Truth.{Concerns, IsServable, SaysTruly}
 use Rattle.denial_laws.specs.NsecRules.{shows, closest}
 use Rattle.denial_laws.proofs.NameFacts.{above-low, same_names, above-same, strictly_at, strictly_from, above_trans}
 use Rattle.denial_laws.proofs.Adjacent.{Covered, chain_inside, link_covered, beside}
@@ -41,7 +41,7 @@ pub record Encloser (z : Zone) (f : Link) (q : Name) : Type 0 where
   pub inside : at_or_above (apex_of z) name ≡ true
   pub longest : (c : Name) → strictly_above c q ≡ true → at_or_above c f.owner ≡ true → at_or_above c name ≡ true
 
-module _ (z : Zone) (s : IsServable z) (f : Link) (g : SaysTruly z f) (q : Name) (h : covers z.name f.owner f.next q ≡ true) where
+module _ (z : Zone) (s : IsServable z) {Q : Name} (f : Link) (g : SaysTruly z Q f) (q : Name) (asked : Concerns z Q q) (h : covers z.name f.owner f.next q ≡ true) where
   k : Covered z (low f.owner) (low f.next) (low q)
   k = link_covered z s f g q h
 
@@ -55,7 +55,7 @@ module _ (z : Zone) (s : IsServable z) (f : Link) (g : SaysTruly z f) (q : Name)
       ]
 
   shown_exists : (p : Name) → at_or_above (apex_of z) p ≡ true → at_or_above p q ≡ true → shows f p ≡ true → exists z (low p) ≡ true
-  shown_exists p a up e = g.shown p q h up (sym (lowered_above z.name p) ∙ a) e
+  shown_exists p a up e = g.shown p q asked h up (sym (lowered_above z.name p) ∙ a) e
 
   -- the apex is at or above the owner
   apex_shown : (p : Name) → same (apex_of z) p ≡ true → shows f p ≡ true

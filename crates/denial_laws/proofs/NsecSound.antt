@@ -6,7 +6,7 @@ use Rattle.definitions.specs.Zone.{Zone, Verdict, Records, apex_of}
 use Rattle.definitions.specs.ZoneChain.{Nsec}
 use Rattle.definitions.proofs.Members.{In}
 use Rattle.denial_laws.specs.Facts.{Rrset, Link, HashLink, Facts, is_expanded}
-use Rattle.denial_laws.specs.NsecRules.{first_some, at_owner, below_cut, covered, denied, expanded_by, expanded}
+use Rattle.denial_laws.specs.NsecRules.{first_some, or_else, denies, at_owner, below_cut, covered, denied, expanded_by, expanded}
 use Rattle.denial_laws.specs.Nsec3Rules.{hash_denied, hash_expanded}
 use Rattle.denial_laws.specs.Deciding.{by_chain, by_wildcard, decided_inside, decided}
 use Rattle.denial_laws.specs.Truth.{IsServable, SaysTruly, IsTrueRrset, AreTrue}
@@ -16,21 +16,27 @@ use Rattle.denial_laws.proofs.ChainBits.{all_at}
 use Rattle.denial_laws.proofs.SignedNames.{records_truly}
 use Rattle.denial_laws.proofs.Found.{either_from, first_from, none_from}
 use Rattle.denial_laws.proofs.AtName.{on_true}
-use Rattle.denial_laws.proofs.NsecOwner.{owner_truly}
+use Rattle.denial_laws.proofs.NsecOwner.{denies_truly, owner_truly}
 use Rattle.denial_laws.proofs.NsecCovered.{below_cut_truly, covered_truly}
 use Rattle.denial_laws.proofs.NsecWildcard.{expanded_truly}
 
 module _ (z : Zone) (s : IsServable z) (q : Name) (t : ℕ) (l : t < 65536) (a : at_or_above (apex_of z) (low q) ≡ true) where
-  module _ (fs : List Link) (ks : (g : Link) → In g fs → SaysTruly z g) where
-    denied_truly : (v : Verdict) → denied z.name q t fs ≡ Some v → IsSaidBy z false q t v
-    denied_truly v h = elim (either_from (first_some (at_owner z.name q t) fs) _ v h) [
-      | inl e ↦ let f = first_from (at_owner z.name q t) fs v e in owner_truly z s q t l f.0 (ks f.0 f.1.0) v f.1.1
+  module _ (fs : List Link) (ks : (g : Link) → In g fs → SaysTruly z q g) where
+    undenied_truly : first_some (denies q) fs ≡ None → (v : Verdict) → or_else (first_some (at_owner z.name q t) fs) (or_else (first_some (below_cut z.name q) fs) (first_some (covered z.name q t fs) fs)) ≡ Some v → IsSaidBy z false q t v
+    undenied_truly n v h = elim (either_from (first_some (at_owner z.name q t) fs) _ v h) [
+      | inl e ↦ let f = first_from (at_owner z.name q t) fs v e in owner_truly z s q t l f.0 (ks f.0 f.1.0) (none_from (denies q) fs n f.0 f.1.0) v f.1.1
       | inr r ↦ elim (either_from (first_some (below_cut z.name q) fs) (first_some (covered z.name q t fs) fs) v r.1) [
         | inl e ↦ let f = first_from (below_cut z.name q) fs v e in below_cut_truly z s f.0 (ks f.0 f.1.0) q t v f.1.1
         | inr e ↦
             let f = first_from (covered z.name q t fs) fs v e.1 in
             covered_truly z s q t l fs ks a f.0 f.1.0 (none_from (below_cut z.name q) fs e.0 f.0 f.1.0) v f.1.1
       ]
+    ]
+
+    denied_truly : (v : Verdict) → denied z.name q t fs ≡ Some v → IsSaidBy z false q t v
+    denied_truly v h = elim (either_from (first_some (denies q) fs) (or_else (first_some (at_owner z.name q t) fs) (or_else (first_some (below_cut z.name q) fs) (first_some (covered z.name q t fs) fs))) v h) [
+      | inl e ↦ let f = first_from (denies q) fs v e in denies_truly z s q t l f.0 (ks f.0 f.1.0) v f.1.1
+      | inr r ↦ undenied_truly r.0 v r.1
     ]
 
     wildcard_truly : (r : Rrset) → IsTrueRrset z q t r → is_expanded r q ≡ true → (v : Verdict) → expanded z.name q r fs ≡ Some v → IsSaidBy z false q t v
@@ -49,8 +55,8 @@ sound_links z hash f q t v s l k h =
     let inside = on_true (at_or_above z.name q) (decided_inside z.name hash f q t) v h in
     go (above-low z.name q ∙ inside.0) f.rrset k.rrset inside.1
   where
-    true_links : (g : Link) → In g f.links → SaysTruly z g
-    true_links g i = all_at (SaysTruly z) f.links g k.said.0 i
+    true_links : (g : Link) → In g f.links → SaysTruly z q g
+    true_links g i = all_at (SaysTruly z q) f.links g k.said.0 i
 
     of_star : at_or_above (apex_of z) (low q) ≡ true → (r : Rrset) → IsTrueRrset z q t r → (b : Bool) → is_expanded r q ≡ b
         → (elim b as (λ _. Option Verdict) [ false ↦ Some (Records r.datas) | true ↦ by_wildcard z.name hash f r q ]) ≡ Some v → IsSaidBy z false q t v

@@ -6,28 +6,32 @@ use Rattle.definitions.specs.Name.{Name, low, at_or_above, strictly_above}
 use Rattle.definitions.specs.Covering.{covers}
 use Rattle.definitions.specs.Signing.{signed_owner}
 use Rattle.definitions.specs.Zone.{Zone, Verdict, NoName, StarRecords, StarNoType, apex_of, has, is_delegation, is_live, exists, data_at, star_under}
-use Rattle.definitions.proofs.ZoneNames.{above_itself, low-low, owner_in_chain}
+use Rattle.definitions.proofs.ZoneNames.{above_itself, above_lowered, low-low, owner_in_chain}
 use Rattle.denial_laws.specs.Facts.{Rrset, Link, is_expanded}
 use Rattle.denial_laws.specs.NsecRules.{link_covers, closest, encloses_at, expanded_by}
-use Rattle.denial_laws.specs.Truth.{IsServable, SaysTruly, IsTrueRrset, is_signed}
+use Rattle.denial_laws.specs.Truth.{Concerns, IsServable, SaysTruly, IsTrueRrset, is_signed}
 use Rattle.denial_laws.specs.Laws.{IsSaidBy}
 use Rattle.denial_laws.proofs.NameFacts.{above-low, strictly-low, strictly_lowered, strictly_at}
 use Rattle.denial_laws.proofs.ZoneCuts.{NoneAbove, has_owner, live_uncut}
 use Rattle.denial_laws.proofs.NsecEncloser.{Encloser, encloser, owner_exists}
 use Rattle.denial_laws.proofs.AtName.{on_true}
+use Rattle.denial_laws.proofs.HashChain.{concerns_name}
 use Rattle.denial_laws.proofs.SignedNames.{star_owner}
 use Rattle.denial_laws.proofs.Verdicts.{verdict_by_star}
 use Rattle.denial_laws.proofs.NsecCovered.{covering, link_unredirected, exists_covered, apex_above, cut_or_none}
 use Rattle.denial_laws.proofs.Unaliased.{typed_no_alias, star_unaliased, unaliased}
 
 module _ (z : Zone) (s : IsServable z) (q : Name) (t : ℕ) (r : Rrset) (k : IsTrueRrset z q t r) (x : is_expanded r q ≡ true) (a : at_or_above (apex_of z) (low q) ≡ true) where
-  module _ (f : Link) (g : SaysTruly z f) (h : link_covers z.name f q ≡ true) where
+  asked : Concerns z q q
+  asked = concerns_name (apex_of z) q q (sym (above_lowered (apex_of z) q) ∙ a) (above_itself q)
+
+  module _ (f : Link) (g : SaysTruly z q f) (h : link_covers z.name f q ≡ true) where
     gap : covers z.name f.owner f.next q ≡ true
-    gap = covering z s f g q h
+    gap = covering z s f g q asked h
 
     -- the closest encloser that the record shows
     shown : Encloser z f q
-    shown = encloser z s f g q gap (sym (strictly_lowered (apex_of z) q) ∙ apex_above z s f g q gap a)
+    shown = encloser z s f g q asked gap (sym (strictly_lowered (apex_of z) q) ∙ apex_above z s f g q asked gap a)
 
     -- the wildcard under it is signed, so no delegation is above the name
     wildcard_truly : strictly_above q f.next ≡ false → (e : Name) → closest f q ≡ Some e → length e ≡ r.labels → IsSaidBy z false q t (StarRecords r.datas)
@@ -38,18 +42,18 @@ module _ (z : Zone) (s : IsServable z) (q : Name) (t : ℕ) (r : Rrset) (k : IsT
         let owner : signed_owner r.labels q ≡ star = star_owner r q w.name x (strictly_at w.name q w.above) (ap length (sym is) ∙ n) in
         let signed = and_parts (is_live z star && (not (is_delegation z star) || (t == 43))) (has z star t) (ap (λ n. is_signed z n t) (sym owner) ∙ k.signed) in
         let live : is_live z star ≡ true = (and_parts (is_live z star) _ signed.0).0 in
-        let none : NoneAbove z (low q) = elim (cut_or_none z s f g q gap) [
+        let none : NoneAbove z (low q) = elim (cut_or_none z s f g q asked gap) [
           | inl u ↦ u
           | inr d ↦
               let up : at_or_above f.owner w.name ≡ true = w.longest f.owner (sym (strictly-low f.owner q) ∙ d.1) (above_itself f.owner) in
               absurd (live_uncut z star (ap star_under (low-low w.name)) live (low f.owner) d.0 (above-low f.owner w.name ∙ up))
         ] in
-        let gone : exists z (low q) ≡ false = exists_covered z s f g q gap a false (strictly-low q f.next ∙ b) in
+        let gone : exists z (low q) ≡ false = exists_covered z s f g q asked gap a false (strictly-low q f.next ∙ b) in
         let there : exists z star ≡ true = owner_exists z s star (owner_in_chain z star (has_owner z star t signed.1) live) in (
           ap (λ ds. StarRecords ds) (k.datas ∙ ap (λ n. data_at z n t) owner)
               ∙ sym ((λ i. if there i then (if signed.1 i then StarRecords (data_at z star t) else StarNoType) else NoName))
               ∙ sym (verdict_by_star z q (low w.name) t none gone w.is),
-          unaliased z false q t (link_unredirected z s f g q h) (λ _. star_unaliased z (low q) t (low w.name) gone w.is (typed_no_alias z s.aliases star t signed.1)),
+          unaliased z false q t (link_unredirected z s f g q asked h) (λ _. star_unaliased z (low q) t (low w.name) gone w.is (typed_no_alias z s.aliases star t signed.1)),
         )
 
   -- an encloser with so many labels
@@ -57,7 +61,7 @@ module _ (z : Zone) (s : IsServable z) (q : Name) (t : ℕ) (r : Rrset) (k : IsT
   labelled None n h = absurd cc
   labelled (Some e) n h = (e, refl, eqb-true (length e) n h)
 
-  pub expanded_truly : (f : Link) → SaysTruly z f → (v : Verdict) → expanded_by z.name q r f ≡ Some v → IsSaidBy z false q t v
+  pub expanded_truly : (f : Link) → SaysTruly z q f → (v : Verdict) → expanded_by z.name q r f ≡ Some v → IsSaidBy z false q t v
   expanded_truly f g v h =
       let e = on_true (link_covers z.name f q && not (strictly_above q f.next) && encloses_at r.labels (closest f q)) (Some (StarRecords r.datas)) v h in
       let outer = and_parts (link_covers z.name f q && not (strictly_above q f.next)) (encloses_at r.labels (closest f q)) e.0 in

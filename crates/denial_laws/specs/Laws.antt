@@ -7,7 +7,7 @@ use Rattle.definitions.specs.ZoneChain.{Mode, Nsec, Nsec3, optout_of}
 use Rattle.denial_laws.specs.Aliases.{is_aliased}
 use Rattle.denial_laws.specs.Facts.{Facts}
 use Rattle.denial_laws.specs.Deciding.{decided, hashed}
-use Rattle.denial_laws.specs.Truth.{IsServable, AreChain, SayTruly, AreTrue, NoSharedHash, concerned, is_foreign_type}
+use Rattle.denial_laws.specs.Truth.{IsServable, AreChain, SayTruly, AreTrue, NoSharedHash, concerned, is_foreign_type, is_meta_type}
 use Rattle.denial_laws.specs.OwnFacts.{own_facts}
 use Rattle.denial_laws.specs.Saying.{IsVerdict}
 
@@ -44,7 +44,7 @@ DecidesTruly apex hash f q t (Some v) =
 -- Types that are asked for: not those that signing adds, aliases, and types that are no data (RFC 1035, 3.2.3; RFC 6891, 6.1;
 -- RFC 6895, 3.1)
 abbrev pub is_asked_type : ℕ → Bool
-is_asked_type t = not (is_foreign_type t || nat_eq t 0 || nat_eq t 41 || (nat_le 128 t && nat_le t 255))
+is_asked_type t = not (is_foreign_type t || is_meta_type t)
 
 -- Complete: the zone's own answer decides its verdict of a name that is no alias.
 abbrev pub OwnAnswersDecide : Type 0

@@ -30,6 +30,15 @@ lacks bits t = not (bitmap_has bits t) && not (bitmap_has bits 5)
 abbrev pub star_lacks : List ℕ → ℕ → Bool
 star_lacks bits t = lacks bits t && ((t == 43) || not (bitmap_has bits 2))
 
+-- NXNAME is among the types: there is no such name (RFC 9824, 2)
+abbrev pub has_nxname : List ℕ → Bool
+has_nxname bits = bitmap_has bits 128
+
+-- A record of the name itself with NXNAME denies the name, whatever type is asked for. Without this look the name would pass for
+-- one that lacks the type (RFC 9824, 3).
+abbrev pub denies : Name → Link → Option Verdict
+denies q f = elim (same f.owner q && has_nxname f.bits) [ true ↦ Some NoName | false ↦ None ]
+
 -- What a record that matches the name says: at a delegation of DS alone.
 abbrev pub at_name : Name → Name → ℕ → List ℕ → Option Verdict
 at_name apex q t bits = elim (is_cut apex q bits && not (t == 43)) [
@@ -64,10 +73,10 @@ closest f [] = None
 closest f (l ∷ q) = elim (shows f q) [ true ↦ Some q | false ↦ closest f q ]
 
 -- the wildcard: there without the type, there with names below it alone, or not there; without this look a name that it stands
--- for would pass for one that does not exist
+-- for would pass for one that does not exist; one whose own record has NXNAME is not there
 abbrev pub at_star : Name → Name → ℕ → Link → Option Verdict
 at_star apex s t f = elim (same f.owner s) [
-  | true ↦ elim (star_lacks f.bits t) [ true ↦ Some StarNoType | false ↦ None ]
+  | true ↦ elim (star_lacks f.bits t && not (has_nxname f.bits)) [ true ↦ Some StarNoType | false ↦ None ]
   | false ↦ elim (link_covers apex f s) [
     | true ↦ elim (strictly_above s f.next) [ true ↦ Some StarNoType | false ↦ Some NoName ]
     | false ↦ None
@@ -86,7 +95,9 @@ covered apex q t fs f = elim (link_covers apex f q) [
 
 -- each rule is tried on the records in turn, before the next rule is
 abbrev pub denied : Name → Name → ℕ → List Link → Option Verdict
-denied apex q t fs = or_else (first_some (at_owner apex q t) fs) (or_else (first_some (below_cut apex q) fs) (first_some (covered apex q t fs) fs))
+denied apex q t fs =
+    or_else (first_some (denies q) fs)
+    (or_else (first_some (at_owner apex q t) fs) (or_else (first_some (below_cut apex q) fs) (first_some (covered apex q t fs) fs)))
 
 -- the closest encloser that a record shows has so many labels
 abbrev pub encloses_at : ℕ → Option Name → Bool

@@ -1,5 +1,5 @@
 -- When facts are true of a zone: the RRset is one that it has signed, and its records of denial say what is so.
-use Rattle.std.specs.Prelude.{◌≡◌, ◌⊎◌, ℕ, ◌<◌, ◌≤◌, Bool, true, false, not, ◌&&◌, ◌||◌, ◌==◌, List, [], ◌∷◌, ◌++◌, map, filter, length, IfSome, Contains, nat_eq}
+use Rattle.std.specs.Prelude.{◌≡◌, ◌⊎◌, ℕ, ◌<◌, ◌≤◌, Bool, true, false, not, ◌&&◌, ◌||◌, ◌==◌, List, [], ◌∷◌, ◌++◌, map, filter, length, IfSome, Contains, nat_eq, nat_le}
 use Rattle.std.specs.List.{AllByRecursion, list_any}
 use Rattle.std.specs.Str.{bytes_eq}
 use Rattle.definitions.specs.Name.{Name, low, at_or_above}
@@ -9,9 +9,10 @@ use Rattle.definitions.specs.Covering.{covers, hash_covers}
 use Rattle.definitions.specs.Zone.{Zone, Rr, apex_of, owners, has, is_delegation, is_live, kept, exists, star_under, data_at}
 use Rattle.definitions.specs.ZoneChain.{Mode, Nsec, Nsec3, with_parents, nsec_names, nsec_next, nsec_types, nsec3_types, nsec3_names, hashed_names, nsec3_next}
 use Rattle.definitions.specs.Laws.{NoneShare, SharesNone}
-use Rattle.denial_laws.specs.Aliases.{IsOrderly, is_alias_type}
+use Rattle.denial_laws.specs.Aliases.{IsOrderly, is_alias_type, is_redirected}
 use Rattle.denial_laws.specs.Facts.{Rrset, Link, HashLink, Facts, is_expanded}
-use Rattle.denial_laws.specs.NsecRules.{shows}
+use Rattle.denial_laws.specs.NsecRules.{has_nxname, shows}
+use Rattle.denial_laws.specs.Saying.{HasNoStar}
 
 -- ---- the zone
 
@@ -32,11 +33,16 @@ is_star (l ∷ n) = bytes_eq l (42 ∷ [])
 abbrev pub delegates_star : Rr → Bool
 delegates_star r = (r.rtype == 2) && is_star r.spelled
 
--- A zone that can be served: records at the apex, none of a type that signing adds, no NS at a wildcard, and aliases in
--- order. Records outside the zone change nothing.
+-- types that are no data: 0, OPT, and those of questions and of messages alone, NXNAME among them (RFC 6895, 3.1; RFC 9824, 2)
+abbrev pub is_meta_type : ℕ → Bool
+is_meta_type t = nat_eq t 0 || nat_eq t 41 || (nat_le 128 t && nat_le t 255)
+
+-- A zone that can be served: records at the apex, none of a type that signing adds or that is no data, no NS at a wildcard, and
+-- aliases in order. Records outside the zone change nothing.
 pub record IsServable (z : Zone) : Type 0 where
   pub apex : Contains (owners z) (apex_of z)
   pub ordinary : AllByRecursion (λ r. is_added_type r.rtype ≡ false) z.records
+  pub real : AllByRecursion (λ r. is_meta_type r.rtype ≡ false) z.records
   pub stars : AllByRecursion (λ r. delegates_star r ≡ false) z.records
   pub aliases : IsOrderly z
 
@@ -87,6 +93,10 @@ parents (l ∷ n) = with_parents n
 abbrev pub concerned : Name → Name → List Name
 concerned apex q = filter (at_or_above apex) (with_parents q) ++ map star_under (filter (at_or_above apex) (parents q))
 
+-- a question concerns a name, in whichever case
+abbrev pub Concerns : Zone → Name → Name → Type 0
+Concerns z q x = Contains (concerned (apex_of z) (low q)) (low x)
+
 -- ---- records that say what is so, whether they are the chain's or made for a question
 
 -- Bits are true of a name, as far as a rule reads them: of NS, CNAME and DNAME they say whether the name has it, and they have
@@ -97,24 +107,40 @@ pub record ShowsTypes (z : Zone) (o : Name) (bits : List ℕ) : Type 0 where
   pub redirect : bitmap_has bits 39 ≡ has z o 39
   pub shows : (t : ℕ) → t < 65536 → (is_delegation z o ≡ false) ⊎ (t ≡ 43) → has z o t ≡ true → bitmap_has bits t ≡ true
 
--- An NSEC record says truly: its owner exists and has these types; no live owner lies between its owner and its next name; and
--- what it shows above a name in between exists. Its next name need not be a name of the zone (RFC 4470).
-pub record SaysTruly (z : Zone) (l : Link) : Type 0 where
-  pub there : exists z (low l.owner) ≡ true
+-- the owner of an NSEC record exists, and has these types, without NXNAME
+pub record IsThere (z : Zone) (l : Link) : Type 0 where
+  pub exists_is : exists z (low l.owner) ≡ true
   pub types : ShowsTypes z (low l.owner) l.bits
+  pub named : has_nxname l.bits ≡ false
+
+-- It does not exist, and no wildcard stands for it: its types are NXNAME and those that signing adds, at least not NS. The record
+-- says nothing of other names that the question concerns (RFC 9824, 2).
+pub record IsDenied (z : Zone) (q : Name) (l : Link) : Type 0 where
+  pub nxname : has_nxname l.bits ≡ true
+  pub plain : bitmap_has l.bits 2 ≡ false
+  pub missing : HasNoStar z (low l.owner)
+  pub silent : (x : Name) → Concerns z q x → covers z.name l.owner l.next x ≡ false
+
+-- An NSEC record says truly: of its owner, which lies below no delegation and no DNAME; that no live owner lies between it and its
+-- next name; and that what it shows above a name in between exists, if the question concerns this. Its next name need not be one
+-- of the zone (RFC 4470).
+pub record SaysTruly (z : Zone) (q : Name) (l : Link) : Type 0 where
+  pub live : is_live z (low l.owner) ≡ true
+  pub direct : is_redirected z (low l.owner) ≡ false
+  pub owner : IsThere z l ⊎ IsDenied z q l
   pub gap : (w : Name) → Contains (nsec_names z) w → covers z.name l.owner l.next w ≡ false
-  pub shown : (p x : Name) → covers z.name l.owner l.next x ≡ true → at_or_above p x ≡ true → at_or_above z.name p ≡ true → shows l p ≡ true → exists z (low p) ≡ true
+  pub shown : (p x : Name) → Concerns z q x → covers z.name l.owner l.next x ≡ true → at_or_above p x ≡ true → at_or_above z.name p ≡ true → shows l p ≡ true → exists z (low p) ≡ true
 
 -- An NSEC3 record says truly of the names that a question concerns: one that has its owner's hash is kept and has these types,
 -- and one whose hash it covers is not kept; its flag is the zone's. Its owner may be the hash of no name at all (RFC 7129, B).
 pub record SaysTrulyHash (z : Zone) (hash : Name → List ℕ) (optout : Bool) (q : Name) (l : HashLink) : Type 0 where
-  pub matched : (x : Name) → Contains (concerned (apex_of z) (low q)) (low x) → l.owner ≡ hash (low x) → (kept z optout x ≡ true) × ShowsTypes z (low x) l.bits
-  pub covered : (x : Name) → Contains (concerned (apex_of z) (low q)) (low x) → hash_covers l.owner l.next (hash (low x)) ≡ true → kept z optout x ≡ false
+  pub matched : (x : Name) → Concerns z q x → l.owner ≡ hash (low x) → (kept z optout x ≡ true) × ShowsTypes z (low x) l.bits
+  pub covered : (x : Name) → Concerns z q x → hash_covers l.owner l.next (hash (low x)) ≡ true → kept z optout x ≡ false
   pub opts : l.opt_out ≡ optout
 
 -- records of one kind alone, each of which says truly
 abbrev pub SayTruly : Zone → (Name → List ℕ) → Mode → Name → Facts → Type 0
-SayTruly z hash Nsec q f = AllByRecursion (SaysTruly z) f.links × (f.hash_links ≡ [])
+SayTruly z hash Nsec q f = AllByRecursion (SaysTruly z q) f.links × (f.hash_links ≡ [])
 SayTruly z hash (Nsec3 iterations salt optout) q f = (f.links ≡ []) × AllByRecursion (SaysTrulyHash z hash optout q) f.hash_links
 
 -- All facts are true: any of the zone's RRsets, and any records that say truly, in any order and repeated.

@@ -107,7 +107,7 @@ module _ (z : Zone) (hash : Name → List ℕ) (f more : Facts) (q : Name) (t : 
       (told.0, ap (by_rrset q (by_chain z.name hash more q t) (λ r. by_wildcard z.name hash more r q)) has.rrset ∙ told.1)
 
   pub fewer_say : (mode : Mode) → SayTruly z hash mode q more → SayTruly z hash mode q f
-  fewer_say Nsec are = (all_less (SaysTruly z) f.links more.links links_in are.0, none_of f.hash_links more.hash_links hashes_in are.1)
+  fewer_say Nsec are = (all_less (SaysTruly z q) f.links more.links links_in are.0, none_of f.hash_links more.hash_links hashes_in are.1)
   fewer_say (Nsec3 iterations salt ex) are = (none_of f.links more.links links_in are.0, all_less (SaysTrulyHash z hash ex q) f.hash_links more.hash_links hashes_in are.1)
 
 pub more_facts_decide : MoreFactsDecide

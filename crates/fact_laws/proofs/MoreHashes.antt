@@ -11,12 +11,12 @@ use Rattle.definitions.proofs.ZoneNames.{above_itself, lowered_above, above_lowe
 use Rattle.denial_laws.specs.Facts.{HashLink, Rrset}
 use Rattle.denial_laws.specs.NsecRules.{first_some, is_cut}
 use Rattle.denial_laws.specs.Nsec3Rules.{at_hash, beyond, by_closest_encloser, covers_hash, cut_above, enclosed, encloses, hash_denied, hash_expanded, hash_expanded_by, is_at, is_matched, last_labels, star_at}
-use Rattle.denial_laws.specs.Truth.{SaysTrulyHash}
+use Rattle.denial_laws.specs.Truth.{Concerns, SaysTrulyHash}
 use Rattle.denial_laws.proofs.AtName.{Answers, on_true}
 use Rattle.denial_laws.proofs.ChainBits.{cut_test}
 use Rattle.denial_laws.proofs.Found.{either_from, first_from, left_is, right_is}
 use Rattle.denial_laws.proofs.HashChain.{concerns_name}
-use Rattle.denial_laws.proofs.HashSays.{Concerns, said_gone, said_kept, said_shows}
+use Rattle.denial_laws.proofs.HashSays.{said_gone, said_kept, said_shows}
 use Rattle.denial_laws.proofs.NameFacts.{above_trans, names_same, same_names}
 use Rattle.denial_laws.proofs.ZoneCuts.{kept_uncut, kept_up}
 use Rattle.fact_laws.proofs.MoreLinks.{more_answer}

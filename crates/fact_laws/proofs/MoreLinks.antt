@@ -4,7 +4,7 @@ use Rattle.definitions.specs.Name.{Name, strictly_above}
 use Rattle.definitions.specs.Zone.{NoType, Verdict, star_under}
 use Rattle.definitions.proofs.Members.{In}
 use Rattle.denial_laws.specs.Facts.{Link, Rrset}
-use Rattle.denial_laws.specs.NsecRules.{at_owner, at_star, below_cut, closest, covered, denied, expanded, expanded_by, first_some, link_covers, or_else}
+use Rattle.denial_laws.specs.NsecRules.{at_owner, at_star, below_cut, closest, covered, denied, denies, expanded, expanded_by, first_some, link_covers, or_else}
 use Rattle.denial_laws.proofs.AtName.{Answers}
 use Rattle.denial_laws.proofs.Found.{either_from, first_from, first_is, left_is, right_is}
 
@@ -48,14 +48,27 @@ module _ (apex q : Name) (t : ℕ) (fs gs : List Link) (more : (l : Link) → In
         right_is (first_some (below_cut apex q) gs) (first_some (covered apex q t gs) gs) told.0 told.1
   ]
 
-  pub denied_more : (v : Verdict) → denied apex q t fs ≡ Some v → Answers (denied apex q t gs)
-  denied_more v h = elim (either_from (first_some (at_owner apex q t) fs) (later fs) v h) [
+  abbrev undenied : List Link → Option Verdict
+  undenied ls = or_else (first_some (at_owner apex q t) ls) (later ls)
+
+  undenied_more : (v : Verdict) → undenied fs ≡ Some v → Answers (undenied gs)
+  undenied_more v h = elim (either_from (first_some (at_owner apex q t) fs) (later fs) v h) [
     | inl here ↦
         let told = more_answer (at_owner apex q t) (at_owner apex q t) fs gs more (λ x w k. (w, k)) v here in
         left_is (first_some (at_owner apex q t) gs) (later gs) told.0 told.1
     | inr there ↦
         let told = later_more v there.1 in
         right_is (first_some (at_owner apex q t) gs) (later gs) told.0 told.1
+  ]
+
+  pub denied_more : (v : Verdict) → denied apex q t fs ≡ Some v → Answers (denied apex q t gs)
+  denied_more v h = elim (either_from (first_some (denies q) fs) (undenied fs) v h) [
+    | inl here ↦
+        let told = more_answer (denies q) (denies q) fs gs more (λ x w k. (w, k)) v here in
+        left_is (first_some (denies q) gs) (undenied gs) told.0 told.1
+    | inr there ↦
+        let told = undenied_more v there.1 in
+        right_is (first_some (denies q) gs) (undenied gs) told.0 told.1
   ]
 
   pub expanded_more : (r : Rrset) (v : Verdict) → expanded apex q r fs ≡ Some v → Answers (expanded apex q r gs)

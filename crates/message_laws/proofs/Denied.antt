@@ -6,8 +6,9 @@ use Rattle.definitions.specs.Name.{Name, at_or_above, low, same, strictly_above}
 use Rattle.definitions.specs.Zone.{Verdict, NoType, NoName, StarNoType, Delegated, Open, star_under}
 use Rattle.denial_laws.specs.Deciding.{by_chain, decided}
 use Rattle.denial_laws.specs.Facts.{HashLink, Link}
-use Rattle.denial_laws.specs.NsecRules.{at_name, at_owner, at_star, below_cut, closest, covered, denied, first_some, is_cut, link_covers, or_else, star_lacks}
+use Rattle.denial_laws.specs.NsecRules.{at_name, at_owner, at_star, below_cut, closest, covered, denied, denies, first_some, has_nxname, is_cut, link_covers, or_else, star_lacks}
 use Rattle.denial_laws.specs.Nsec3Rules.{at_hash, beyond, by_closest_encloser, covers_hash, cut_above, enclosed, encloses, hash_denied, is_at, is_matched, star_at}
+use Rattle.denial_laws.proofs.AtName.{on_true}
 use Rattle.denial_laws.proofs.Found.{either_from, first_from, first_is, left_is, right_is}
 use Rattle.denial_laws.proofs.NameFacts.{names_same, same_names, strictly_unlike}
 
@@ -59,7 +60,7 @@ module _ (apex q : Name) (below : strictly_above apex q ≡ true) where
 
   -- of a wildcard no type is denied but as a wildcard's
   star_unlike : (s : Name) (t : ℕ) (f : Link) → IsNoType (at_star apex s t f) → ⊥
-  star_unlike s t f is = go (same f.owner s) (star_lacks f.bits t) (link_covers apex f s) (strictly_above s f.next) is
+  star_unlike s t f is = go (same f.owner s) (star_lacks f.bits t && not (has_nxname f.bits)) (link_covers apex f s) (strictly_above s f.next) is
     where
       go : (a b c d : Bool) → IsNoType (elim a as (λ _. Option Verdict) [
         | true ↦ elim b [ true ↦ Some StarNoType | false ↦ None ]
@@ -90,8 +91,12 @@ module _ (apex q : Name) (below : strictly_above apex q ≡ true) where
 
   -- ---- a chain of names
 
-  names_tell : (fs : List Link) → IsNoType (denied apex q 43 fs) → SaysOf (denied apex q 2 fs)
-  names_tell fs is =
+  -- what is said of a name that no record denies
+  abbrev undenied : ℕ → List Link → Option Verdict
+  undenied t fs = or_else (first_some (at_owner apex q t) fs) (or_else (first_some (below_cut apex q) fs) (first_some (covered apex q t fs) fs))
+
+  undenied_tell : (fs : List Link) → IsNoType (undenied 43 fs) → SaysOf (undenied 2 fs)
+  undenied_tell fs is =
       let cuts = first_some (below_cut apex q) fs in
       let gaps = first_some (covered apex q 43 fs) fs in
       let later = first_some (covered apex q 2 fs) fs in
@@ -112,6 +117,18 @@ module _ (apex q : Name) (below : strictly_above apex q ≡ true) where
               right_is own (or_else cuts later) behind.0 behind.1
         ]
       ]
+
+  names_tell : (fs : List Link) → IsNoType (denied apex q 43 fs) → SaysOf (denied apex q 2 fs)
+  names_tell fs is = elim (either_from (first_some (denies q) fs) (undenied 43 fs) NoType is) [
+    | inl none ↦
+        let x = first_from (denies q) fs NoType none in
+        let r = on_true (same x.0.owner q && has_nxname x.0.bits) (Some NoName) NoType x.1.1 in
+        let wrong : Some NoName ≡ Some NoType = r.1 in
+        absurd cc
+    | inr rest ↦
+        let told = undenied_tell fs rest.1 in
+        right_is (first_some (denies q) fs) (undenied 2 fs) told.0 told.1
+  ]
 
   -- ---- a chain of hashes
 

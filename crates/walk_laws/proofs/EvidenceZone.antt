@@ -73,6 +73,7 @@ orderly = record {
   servable = record {
     apex = at_place (map owner_of own_zone.records) example 0 refl refl;
     ordinary = (refl, (refl, tt));
+    real = (refl, (refl, tt));
     stars = (refl, (refl, tt));
     aliases = record {
       alone = λ o t alias other. absurd (no_type own_zone 5 refl o alias);

@@ -6,6 +6,7 @@ ghost use Rattle.definitions.specs.Name.{at_or_above, strictly_above};
 ghost use Rattle.definitions.specs.Zone.{star_under};
 ghost use Rattle.definitions.specs.Reference.{verdict_of};
 ghost use Rattle.denial_laws.specs.NsecRules.{first_some, is_cut, lacks, star_lacks, at_name};
+ghost use Rattle.denial_laws.specs.NsecRules.{has_nxname, denies};
 ghost use Rattle.denial_laws.specs.NsecRules.{at_owner, below_cut, redirects, link_covers, closest};
 ghost use Rattle.denial_laws.specs.NsecRules.{at_star, covered, denied, encloses_at, expanded_by};
 ghost use Rattle.denial_laws.specs.NsecRules.{expanded};
@@ -25,6 +26,8 @@ const CNAME: u16 = 5;
 const DNAME: u16 = 39;
 
 const DS: u16 = 43;
+
+const NXNAME: u16 = 128;
 
 /// Whether a record's owner is a delegation.
 pub(super) fn is_cut(apex: &[Octets], owner: &[Octets], bits: &[u8]) -> bool
@@ -46,6 +49,13 @@ pub(super) fn star_lacks(bits: &[u8], rtype: u16) -> bool
     ensures { result ≡ star_lacks bits.now rtype }
 {
     lacks(bits, rtype) && (rtype == DS || !bitmap_has(bits, NS))
+}
+
+/// Whether a bitmap has NXNAME.
+fn has_nxname(bits: &[u8]) -> bool
+    ensures { result ≡ has_nxname bits.now }
+{
+    bitmap_has(bits, NXNAME)
 }
 
 /// Whether a bitmap has DNAME.
@@ -75,6 +85,16 @@ pub(super) fn at_name(
 }
 
 impl PlainLink {
+    fn denies(&self, name: &[Octets]) -> Option<PlainVerdict>
+        ensures { option_map verdict_of result ≡ denies name.now self.now }
+    {
+        if same(&self.owner, name) && has_nxname(self.bits.as_slice()) {
+            Some(PlainVerdict::NoName)
+        } else {
+            None
+        }
+    }
+
     fn at_owner(&self, apex: &[Octets], name: &[Octets], rtype: u16) -> Option<PlainVerdict>
         ensures { option_map verdict_of result ≡ at_owner apex.now name.now rtype self.now }
     {
@@ -136,7 +156,8 @@ impl PlainLink {
         ensures { option_map verdict_of result ≡ at_star apex.now star.now rtype self.now }
     {
         if same(&self.owner, star) {
-            return if star_lacks(self.bits.as_slice(), rtype) {
+            let bits = self.bits.as_slice();
+            return if star_lacks(bits, rtype) && !has_nxname(bits) {
                 Some(PlainVerdict::StarNoType)
             } else {
                 None
@@ -209,6 +230,16 @@ fn first_at_star(
     }
 }
 
+fn first_denying(links: &[PlainLink], name: &[Octets]) -> Option<PlainVerdict>
+    ensures { option_map verdict_of result ≡ first_some (denies name.now) links.now }
+{
+    let (link, rest) = links.split_first()?;
+    match link.denies(name) {
+        None => first_denying(rest, name),
+        found => found,
+    }
+}
+
 fn first_at_owner(
     apex: &[Octets],
     links: &[PlainLink],
@@ -266,6 +297,9 @@ pub(super) fn denied(
     ensures { IfOk result (λ v. option_map verdict_of v
         ≡ denied apex.now name.now rtype links.now) }
 {
+    if let Some(verdict) = first_denying(links, name) {
+        return Ok(Some(verdict));
+    }
     if let Some(verdict) = first_at_owner(apex, links, name, rtype) {
         return Ok(Some(verdict));
     }
