@@ -188,6 +188,31 @@ bool has_answer(const struct message *message, const struct name *owner, uint16_
     return false;
 }
 
+/* Where the bitmap of an NSEC or NSEC3 record begins in its data; at or behind their end where there is none. */
+static size_t bitmap_at(const struct message *message, const struct record *record) {
+    const struct octets *data = &record->data;
+    if (record->rtype == TYPE_NSEC) {
+        struct name next;
+        size_t begin = (size_t)(data->data - message->octets.data);
+        size_t end = read_name(message->octets, begin, &next);
+        return end > begin ? end - begin : data->len;
+    }
+    size_t salt_end = record->rtype == TYPE_NSEC3 && data->len > 4 ? 5 + (size_t)data->data[4] : data->len;
+    return salt_end < data->len ? salt_end + 1 + data->data[salt_end] : data->len;
+}
+
+bool has_type(const struct message *message, const struct record *record, uint16_t rtype) {
+    const struct octets *data = &record->data;
+    for (size_t at = bitmap_at(message, record); at + 2 <= data->len;) {
+        size_t window = data->data[at], len = data->data[at + 1], octet = (rtype & 255) >> 3;
+        if (window == rtype >> 8 && octet < len && at + 2 + octet < data->len) {
+            return (data->data[at + 2 + octet] & 0x80 >> (rtype & 7)) != 0;
+        }
+        at += 2 + len;
+    }
+    return false;
+}
+
 bool find_edns(const struct message *message, struct record *edns) {
     for (struct walk walk = walk_of(message); next_record(&walk, edns);) {
         if (edns->rtype == TYPE_OPT && edns->section == ADDITIONAL) {

@@ -14,7 +14,7 @@ enum {
     TYPE_RRSIG = 46,
     TYPE_NSEC = 47
 };
-enum { TYPE_DNSKEY = 48, TYPE_NSEC3 = 50, CLASS_IN = 1 };
+enum { TYPE_DNSKEY = 48, TYPE_NSEC3 = 50, TYPE_NXNAME = 128, CLASS_IN = 1 };
 enum {
     FLAG_QR = 0x8000,
     FLAG_AA = 0x0400,
@@ -81,6 +81,8 @@ bool find_signer(const struct message *message, const struct name *name, struct 
 uint32_t least_ttl(const struct message *message, uint64_t now);
 /* Whether there is a record of a type in the answer section; of any owner where that is null. */
 bool has_answer(const struct message *message, const struct name *owner, uint16_t rtype);
+/* Whether a record is an NSEC or NSEC3 record with a type in its bitmap (RFC 4034, 4.1.2; RFC 5155, 3.2). */
+bool has_type(const struct message *message, const struct record *record, uint16_t rtype);
 /* The record of EDNS (RFC 6891). */
 bool find_edns(const struct message *message, struct record *edns);
 /* Takes options of EDNS off the front of `rest`, up to the next extended error (RFC 8914). Gives false where there is none. */

@@ -152,6 +152,17 @@ static bool has_opt_out(const struct message *answer) {
     return false;
 }
 
+/* Whether an NSEC or NSEC3 record says that its name does not exist (RFC 9824, 3.1). */
+static bool has_nxname(const struct message *answer) {
+    struct record record;
+    for (struct walk walk = walk_of(answer); next_record(&walk, &record) && record.section != ADDITIONAL;) {
+        if (has_type(answer, &record, TYPE_NXNAME)) {
+            return true;
+        }
+    }
+    return false;
+}
+
 static enum result result_of(enum finding finding) {
     return finding == FOUND_BOGUS || finding == FOUND_BOGUS_KEYS ? BOGUS : finding == FOUND_OPTOUT ? INSECURE : SECURE;
 }
@@ -189,8 +200,14 @@ static bool is_judged(struct shadow *shadow, const struct place *place, const st
         return false;
     }
     struct judgement judgement = judge(shadow->judge, trial);
-    *verdict =
-        (struct verdict){result_of(judgement.finding), judgement.finding, judgement.target, judgement.reply, judgement.ede};
+    *verdict = (struct verdict){
+        .result = result_of(judgement.finding),
+        .finding = judgement.finding,
+        .target = judgement.target,
+        .reply = judgement.reply,
+        .ede = judgement.ede,
+        .has_nxname = has_nxname(answer),
+    };
     switch (judgement.finding) {
     case FOUND_LEFT_OUT:
         *reason = REASON_TYPE;
@@ -234,7 +251,9 @@ static bool agrees(const struct told *told, const struct verdict *verdict) {
     }
     bool is_missing = verdict->finding == FOUND_NXDOMAIN;
     bool has_records = verdict->finding == FOUND_RECORDS || verdict->finding == FOUND_WILDCARD;
-    return (told->rcode == RCODE_NXDOMAIN) == is_missing && told->has_records == has_records;
+    /* Beside NXNAME a client that sets DO and not CO gets NOERROR (RFC 9824, 5.1). */
+    bool is_code = (told->rcode == RCODE_NXDOMAIN) == is_missing || (is_missing && verdict->has_nxname);
+    return is_code && told->has_records == has_records;
 }
 
 static void count(struct shadow *shadow, const struct trial *trial, const struct told *told, const struct verdict *verdict) {

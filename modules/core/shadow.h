@@ -52,6 +52,7 @@ struct verdict {
     struct name target; /* of an alias */
     const char *reply;
     uint16_t ede;
+    bool has_nxname; /* the answer has a record which says that the name does not exist */
 };
 
 struct shadow {
