@@ -6,6 +6,7 @@ from collections.abc import Iterable
 
 A, NS, CNAME, SOA, PTR, MX, TXT, AAAA, SRV, DNAME, OPT = 1, 2, 5, 6, 12, 15, 16, 28, 33, 39, 41
 DS, RRSIG, NSEC, DNSKEY, NSEC3, NSEC3PARAM, CDS, CDNSKEY, CAA = 43, 46, 47, 48, 50, 51, 59, 60, 257
+NXNAME = 128
 IN = 1
 
 NAMES = {
@@ -26,6 +27,7 @@ NAMES = {
     DNSKEY: "DNSKEY",
     NSEC3: "NSEC3",
     NSEC3PARAM: "NSEC3PARAM",
+    NXNAME: "NXNAME",
     CAA: "CAA",
 }
 

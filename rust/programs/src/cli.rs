@@ -59,6 +59,14 @@ fn zone_server(text: &str) -> Result<ZoneServer, String> {
     Ok(ZoneServer { zone, server: server.parse().map_err(|error: crate::net::ServerError| error.to_string())? })
 }
 
+/// A type that can be asked for: NXNAME stands in records of denial alone.
+fn asked_type(text: &str) -> Result<Rtype, String> {
+    match text.parse::<Rtype>().map_err(|error| error.to_string())? {
+        Rtype::NXNAME => Err("NXNAME is not asked for (extended error 30, Invalid Query Type; RFC 9824, 3.5)".to_owned()),
+        rtype => Ok(rtype),
+    }
+}
+
 /// Trace a name from a trust anchor: each zone, its keys, what it answers, and what that proves
 #[derive(Debug, Parser)]
 #[command(
@@ -71,7 +79,7 @@ pub struct Trace {
     /// Name to look up
     pub name: Name,
     /// Type of its records
-    #[arg(value_name = "TYPE", default_value = "A")]
+    #[arg(value_name = "TYPE", default_value = "A", value_parser = asked_type)]
     pub rtype: Rtype,
     /// DS records of the trust anchor, one in each line
     #[arg(long, value_name = "FILE", default_value = ROOT_ANCHOR)]
@@ -320,4 +328,18 @@ pub struct ServeLook {
     #[arg(long)]
     pub log: Option<PathBuf>,
     pub folder: PathBuf,
+}
+
+#[cfg(test)]
+mod tests {
+    use super::*;
+
+    #[test]
+    fn nxname_is_not_asked_for() {
+        let parsed = |rtype| Cli::try_parse_from(["zermuita", "trace", "a.example", rtype]);
+        assert!(parsed("A").is_ok());
+        for rtype in ["NXNAME", "nxname", "TYPE128"] {
+            assert!(parsed(rtype).unwrap_err().to_string().contains("extended error 30"), "{rtype}");
+        }
+    }
 }

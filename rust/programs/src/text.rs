@@ -96,6 +96,21 @@ pub fn types(mut bitmap: &[u8]) -> Vec<Rtype> {
     types
 }
 
+/// The bitmap of types of an NSEC or NSEC3 record (RFC 4034, 4.1; RFC 5155, 3.2).
+fn bitmap(rtype: Rtype, data: &[u8]) -> Option<&[u8]> {
+    let behind = |at: usize| Some(at + 1 + usize::from(*data.get(at)?));
+    match rtype {
+        Rtype::NSEC => data.get(Name::take(data).ok()?.1..),
+        Rtype::NSEC3 => data.get(behind(behind(4)?)?..),
+        _ => None,
+    }
+}
+
+/// The types in data of an NSEC or NSEC3 record.
+pub fn types_in(rtype: Rtype, data: &[u8]) -> Vec<Rtype> {
+    bitmap(rtype, data).map_or_else(Vec::new, types)
+}
+
 /// Types with something between them.
 pub fn joined(types: &[Rtype], between: &str) -> String {
     types.iter().map(Rtype::to_string).collect::<Vec<_>>().join(between)
@@ -213,6 +228,7 @@ mod tests {
             (Rtype::MX, b"\0\x0a\x01a\0", "10 a."),
             (Rtype::TXT, b"\x02a\"\x01;", r#""a\"" ";""#),
             (Rtype::NSEC, b"\x01a\0\0\x06\x40\0\0\0\0\x03", "a. A RRSIG NSEC"),
+            (Rtype::NSEC, b"\0\0\x11\0\0\0\0\0\x03\0\0\0\0\0\0\0\0\0\0\x80", ". RRSIG NSEC NXNAME"),
             (Rtype::NSEC3PARAM, b"\x01\0\0\x05\0", "1 0 5 -"),
             (Rtype::CAA, b"\0", "\\# 1 00"),
             (Rtype::CAA, b"", "\\# 0"),

@@ -58,6 +58,7 @@ errors! {
     NETWORK_ERROR = 23 "Network Error",
     INVALID_DATA = 24 "Invalid Data",
     UNSUPPORTED_NSEC3_ITERATIONS_VALUE = 27 "Unsupported NSEC3 Iterations Value",
+    INVALID_QUERY_TYPE = 30 "Invalid Query Type",
 }
 
 impl ExtendedError {

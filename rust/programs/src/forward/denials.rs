@@ -9,7 +9,7 @@ use tokio::time::Instant;
 use zermuita::message::{flags, Rcode, HEADER};
 use zermuita::{Case, DsSet, Name, Parent, Question, Rtype, Signatures, UnixTime, Verdict};
 
-use super::draft::is_of_apex;
+use super::draft::{is_made_up, is_of_apex};
 use super::resolved::{Resolved, Rr, State};
 
 /// What was proved beside a denial: the zone's DS set, its answer for its keys, the denial's records, and how long all of it lasts.
@@ -197,7 +197,7 @@ impl Denials {
         self.with(|it| it.count)
     }
 
-    /// Keeps the NSEC records of a denial, which are verified.
+    /// Keeps the NSEC records of a denial, which are verified. Those that were made for a question say nothing of others (RFC 9824, 6).
     pub fn learn(&self, proved: &Proved<'_>) {
         let now = Instant::now();
         let end = now + Duration::from_secs(proved.ttl.into());
@@ -207,7 +207,7 @@ impl Denials {
         let nsecs: Vec<_> = proved
             .authority
             .iter()
-            .filter(|it| it.rtype == Rtype::NSEC && it.owner.is_at_or_below(proved.zone))
+            .filter(|it| it.rtype == Rtype::NSEC && it.owner.is_at_or_below(proved.zone) && !is_made_up(&it.data))
             .filter_map(|it| {
                 let records = Some(set_of(proved.authority, &it.owner, Rtype::NSEC)).filter(is_signed)?;
                 Some(Nsec { owner: it.owner.clone(), next: Name::take(&it.data).ok()?.0, set: kept(records) })
@@ -324,6 +324,20 @@ mod tests {
         // Other keys or another DS set: what was kept is of no use.
         learnt(&denials, "2 13 2 E0", &[("c.z", "z")]);
         assert_eq!((denials.len(), owners("a.z")), (1, None));
+    }
+
+    #[test]
+    fn records_that_were_made_for_a_question_are_not_kept() {
+        let denials = Denials::new(8);
+        let made = b"\0\x06\0\0\0\0\0\x03";
+        assert!(is_made_up(&[name("b.z").as_wire(), made].concat()) && !is_made_up(&nsec("a.z", "b.z")[0].data));
+        let mut authority = nsec("a.z", "b.z");
+        authority[0].data = [name("b.z").as_wire(), made].concat();
+        let rr = |rtype, data| Rr { owner: name("z"), rtype, ttl: 60, data };
+        authority.extend([rr(Rtype::SOA, vec![0; 22]), rr(Rtype::RRSIG, [&Rtype::SOA.0.to_be_bytes()[..], &[0; 20]].concat())]);
+        let ds: DsSet = "1 13 2 E0".parse().unwrap();
+        denials.learn(&Proved { zone: &name("z"), ds: &ds, dnskey: b"keys", authority: &authority, ttl: 60, until: u64::MAX });
+        assert_eq!(denials.len(), 0);
     }
 
     #[test]

@@ -237,19 +237,15 @@ impl Draft {
     }
 }
 
-/// The bitmap of types of an NSEC or NSEC3 record (RFC 4034, 4.1; RFC 5155, 3.2).
-fn bitmap(rtype: Rtype, data: &[u8]) -> Option<&[u8]> {
-    let behind = |at: usize| Some(at + 1 + usize::from(*data.get(at)?));
-    match rtype {
-        Rtype::NSEC => data.get(Name::take(data).ok()?.1..),
-        Rtype::NSEC3 => data.get(behind(behind(4)?)?..),
-        _ => None,
-    }
-}
-
 /// Whether data of a denial record have SOA among their types, as at the apex of a zone.
 pub fn is_of_apex(rtype: Rtype, data: &[u8]) -> bool {
-    bitmap(rtype, data).map_or(false, |it| text::types(it).contains(&Rtype::SOA))
+    text::types_in(rtype, data).contains(&Rtype::SOA)
+}
+
+/// Whether data of an NSEC record have no types of a name that exists: its owner may be made up for a question (RFC 4470, 3; RFC
+/// 9824, 3.1).
+pub fn is_made_up(data: &[u8]) -> bool {
+    text::types_in(Rtype::NSEC, data).iter().all(|it| matches!(*it, Rtype::RRSIG | Rtype::NSEC | Rtype::NXNAME))
 }
 
 /// Whether a way denies DS by a record of the zone below the delegation (RFC 6840, 4.4), which the library allows.

@@ -4,6 +4,8 @@ use tokio::time::Instant;
 use zermuita::message::Rcode;
 use zermuita::{ExtendedError, Name, Rtype};
 
+use crate::text;
+
 /// A record without pointers.
 #[derive(Clone, Debug, PartialEq, Eq)]
 pub struct Rr {
@@ -43,6 +45,11 @@ pub struct Resolved {
 }
 
 impl Resolved {
+    /// Whether a record of denial says that its name does not exist (RFC 9824, 3.1).
+    pub fn has_nxname(&self) -> bool {
+        self.authority.iter().any(|it| text::types_in(it.rtype, &it.data).contains(&Rtype::NXNAME))
+    }
+
     /// SERVFAIL, which is kept for some seconds.
     pub fn failed(state: State, extended: Option<ExtendedError>, why: String, ttl: u32) -> Self {
         Resolved {

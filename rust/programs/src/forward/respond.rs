@@ -3,13 +3,16 @@
 use std::collections::HashMap;
 
 use zermuita::message::{flags, Message, Rcode, HEADER};
-use zermuita::{Name, Question, Rtype};
+use zermuita::{ExtendedError, Name, Question, Rtype};
 
 use super::resolved::{Resolved, Rr, State};
 use crate::net::UDP_SIZE;
 
 /// The code of an extended error among the options of EDNS (RFC 8914, 2).
 const EDE: u16 = 15;
+/// Flags of EDNS: that signatures are wanted (RFC 3225), and that NXDOMAIN is taken beside NXNAME (RFC 9824, 5.1).
+const DO: u16 = 0x8000;
+const CO: u16 = 0x4000;
 /// The least that a response by a datagram may have.
 const LEAST: u16 = 512;
 
@@ -18,7 +21,7 @@ const LEAST: u16 = 512;
 struct Edns {
     size: u16,
     version: u8,
-    wants_dnssec: bool,
+    flags: u16,
 }
 
 /// A query that can be answered.
@@ -75,7 +78,7 @@ pub fn hear(octets: &[u8]) -> Heard {
     let edns = opts.next().map(|it| Edns {
         size: it.class.clamp(LEAST, UDP_SIZE),
         version: (it.ttl >> 16) as u8,
-        wants_dnssec: it.ttl & 0x8000 != 0,
+        flags: it.ttl as u16 & (DO | CO),
     });
     if records.len() != expected || opts.next().is_some() {
         return Heard::Answer(bare(octets, Rcode::FORMERR));
@@ -84,6 +87,7 @@ pub fn hear(octets: &[u8]) -> Heard {
     match () {
         () if edns.map_or(false, |it| it.version > 0) => Heard::Answer(query.empty(Rcode(16))),
         () if query.class != 1 => Heard::Answer(query.empty(Rcode::REFUSED)),
+        () if query.question.rtype == Rtype::NXNAME => Heard::Answer(query.invalid()),
         () if is_meta(query.question.rtype) => Heard::Answer(query.empty(Rcode::NOTIMP)),
         () => Heard::Query(query),
     }
@@ -133,8 +137,20 @@ impl Query {
         self.flags & flags::CD != 0
     }
 
+    fn has_flag(&self, flag: u16) -> bool {
+        self.edns.map_or(false, |it| it.flags & flag != 0)
+    }
+
     fn wants_dnssec(&self) -> bool {
-        self.edns.map_or(false, |it| it.wants_dnssec)
+        self.has_flag(DO)
+    }
+
+    /// What is said to this client: one that sets DO and not CO sees by NXNAME alone that there is no such name (RFC 9824, 5.1).
+    fn rcode_of(&self, resolved: &Resolved) -> Rcode {
+        match resolved.rcode {
+            Rcode::NXDOMAIN if self.wants_dnssec() && !self.has_flag(CO) && resolved.has_nxname() => Rcode::NOERROR,
+            rcode => rcode,
+        }
     }
 
     /// How many octets a response by a datagram has at most.
@@ -160,7 +176,8 @@ impl Query {
             writer.octets.push(0);
             writer.number(Rtype::OPT.0);
             writer.number(UDP_SIZE);
-            writer.octets.extend_from_slice(&[rcode.0 >> 4, 0, if edns.wants_dnssec { 0x80 } else { 0 }, 0]);
+            writer.octets.extend_from_slice(&[rcode.0 >> 4, 0]);
+            writer.number(edns.flags);
             writer.number(option.len() as u16);
             writer.octets.extend_from_slice(option);
         }
@@ -175,19 +192,26 @@ impl Query {
         self.ended(self.begun(0, rcode), [0, 0], rcode, &[])
     }
 
+    /// The response to a query for a type that stands in denials alone (RFC 9824, 3.5).
+    fn invalid(&self) -> Vec<u8> {
+        let why = self.option(ExtendedError::INVALID_QUERY_TYPE, "");
+        self.ended(self.begun(0, Rcode::FORMERR), [0, 0], Rcode::FORMERR, &why)
+    }
+
+    /// The option of EDNS that has an extended error, where the query has EDNS.
+    fn option(&self, error: ExtendedError, text: &str) -> Vec<u8> {
+        let numbers = [EDE, (2 + text.len()) as u16, error.0].map(u16::to_be_bytes).concat();
+        self.edns.map_or_else(Vec::new, |_| [&numbers[..], text.as_bytes()].concat())
+    }
+
     /// The response to the query; one that is cut off where it has more octets than there is room for.
     pub fn answered(&self, resolved: &Resolved, room: usize) -> Vec<u8> {
         let asks_ad = self.flags & flags::AD != 0 || self.wants_dnssec();
         let ad = if resolved.state == State::Secure && asks_ad && !self.is_unchecked() { flags::AD } else { 0 };
-        let option = self.edns.and(resolved.extended.as_ref()).map_or_else(Vec::new, |(code, text)| {
-            let mut option = EDE.to_be_bytes().to_vec();
-            option.extend_from_slice(&((2 + text.len()) as u16).to_be_bytes());
-            option.extend_from_slice(&code.0.to_be_bytes());
-            option.extend_from_slice(text.as_bytes());
-            option
-        });
+        let option = resolved.extended.as_ref().map_or_else(Vec::new, |(code, text)| self.option(*code, text));
+        let rcode = self.rcode_of(resolved);
         let age = u32::try_from(resolved.made.elapsed().as_secs()).unwrap_or(u32::MAX);
-        let mut writer = self.begun(ad, resolved.rcode);
+        let mut writer = self.begun(ad, rcode);
         let mut counts = [0, 0];
         for (count, records) in counts.iter_mut().zip([&resolved.answer, &resolved.authority]) {
             for rr in records.iter().filter(|it| self.is_for(it)) {
@@ -195,11 +219,11 @@ impl Query {
                 *count += 1;
             }
         }
-        let whole = self.ended(writer, counts, resolved.rcode, &option);
+        let whole = self.ended(writer, counts, rcode, &option);
         if whole.len() <= room {
             return whole;
         }
-        self.ended(self.begun(flags::TC, resolved.rcode), [0, 0], resolved.rcode, &[])
+        self.ended(self.begun(flags::TC, rcode), [0, 0], rcode, &[])
     }
 
     /// Whether a record is for this client: those of DNSSEC are for one that asks for them.
@@ -213,7 +237,6 @@ impl Query {
 mod tests {
     use tokio::time::Instant;
     use zermuita::message::query;
-    use zermuita::ExtendedError;
 
     use super::*;
 
@@ -245,6 +268,52 @@ mod tests {
             _ => 255,
         };
         assert_eq!(answer(&question("a", Rtype::AXFR)), Rcode::NOTIMP.0);
+    }
+
+    #[test]
+    fn nxname_is_not_asked_for() {
+        let mut octets = octets_of(&question("a", Rtype::NXNAME));
+        let said = |octets: &[u8]| match hear(octets) {
+            Heard::Answer(it) => it,
+            _ => Vec::new(),
+        };
+        let answer = said(&octets);
+        assert!(answer[3] & 15 == Rcode::FORMERR.0 && answer.ends_with(b"\0\x0f\0\x02\0\x1e"));
+        // Without EDNS there is no room for an extended error.
+        octets.truncate(octets.len() - 11);
+        octets[11] = 0;
+        assert_eq!(said(&octets)[3] & 15, Rcode::FORMERR.0);
+    }
+
+    #[test]
+    fn nxdomain_beside_nxname_is_for_clients_that_take_it() {
+        let mut octets = octets_of(&question("a.example", Rtype::A));
+        let flags_at = octets.len() - 4;
+        let owner: Name = "a.example".parse().unwrap();
+        let mut data = b"\x01\0\x01a\x07example\0".to_vec();
+        data.extend_from_slice(b"\0\x11\0\0\0\0\0\x03\0\0\0\0\0\0\0\0\0\0\x80");
+        let nsec = Rr { owner, rtype: Rtype::NSEC, ttl: 60, data };
+        let mut resolved = Resolved {
+            state: State::Secure,
+            rcode: Rcode::NXDOMAIN,
+            answer: vec![],
+            authority: vec![nsec],
+            extended: None,
+            made: Instant::now(),
+            ttl: 60,
+            until: u64::MAX,
+        };
+        let mut rcode = |high: u8, resolved: &Resolved| {
+            octets[flags_at] = high;
+            let query = heard(&octets);
+            let answer = query.answered(resolved, query.room());
+            (answer[3] & 15, answer[answer.len() - 4])
+        };
+        assert_eq!(rcode(0x80, &resolved), (Rcode::NOERROR.0, 0x80));
+        assert_eq!(rcode(0xc0, &resolved), (Rcode::NXDOMAIN.0, 0xc0));
+        assert_eq!(rcode(0, &resolved), (Rcode::NXDOMAIN.0, 0));
+        resolved.authority[0].data.truncate(21);
+        assert_eq!(rcode(0x80, &resolved), (Rcode::NXDOMAIN.0, 0x80));
     }
 
     fn octets_of(question: &Question) -> Vec<u8> {

@@ -186,7 +186,8 @@ impl Shadow {
             Some(reason) => Err(reason),
             None => {
                 let extended = judged.extended.map_or(0, |it| it.0);
-                Ok(Judged { trial, ruling: Ruling::of(judged.finding, judged.reply, extended), checked: judged.checked })
+                let ruling = Ruling::of(judged.finding, judged.reply, extended, answer.has_nxname());
+                Ok(Judged { trial, ruling, checked: judged.checked })
             }
         }
     }

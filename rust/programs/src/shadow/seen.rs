@@ -3,6 +3,8 @@
 use zermuita::message::{flags, Message, Rcode, Record, Rrsig, Section};
 use zermuita::{Name, Question, Rtype};
 
+use crate::text;
+
 /// Extended errors among the options of EDNS (RFC 8914, 2).
 const EDE: u16 = 15;
 /// Where an NSEC3 record has its flags, and the one of opt-out (RFC 5155, 3.1.2).
@@ -83,6 +85,11 @@ impl<'a> Seen<'a> {
     /// Whether an NSEC3 record says that unsigned delegations may be left out (RFC 5155, 6).
     pub fn has_opt_out(&self) -> bool {
         self.told().any(|it| it.rtype == Rtype::NSEC3 && it.data.get(1).map_or(false, |it| it & OPT_OUT != 0))
+    }
+
+    /// Whether an NSEC or NSEC3 record says that its name does not exist (RFC 9824, 3.1, 4).
+    pub fn has_nxname(&self) -> bool {
+        self.told().any(|it| text::types_in(it.rtype, it.data).contains(&Rtype::NXNAME))
     }
 
     /// The record of EDNS (RFC 6891).

@@ -88,7 +88,9 @@ impl Told {
             Claim::Secure if verdict.claim == Claim::Secure => {
                 let is_missing = verdict.finding == Finding::Nxdomain;
                 let has_records = matches!(verdict.finding, Finding::Records(_) | Finding::Wildcard(_));
-                self.is_alias_alone || (self.rcode == Rcode::NXDOMAIN) == is_missing && self.has_records == has_records
+                // Beside NXNAME a client that sets DO and not CO gets NOERROR (RFC 9824, 5.1).
+                let is_code = (self.rcode == Rcode::NXDOMAIN) == is_missing || is_missing && verdict.has_nxname;
+                self.is_alias_alone || is_code && self.has_records == has_records
             }
             claim => claim == verdict.claim,
         }
@@ -102,28 +104,52 @@ pub struct Ruling {
     pub finding: Finding,
     pub reply: String,
     pub extended: u16,
+    /// Whether the answer has a record which says that the name does not exist.
+    pub has_nxname: bool,
 }
 
 impl Ruling {
-    pub fn of(finding: Finding, reply: String, extended: u16) -> Self {
+    pub fn of(finding: Finding, reply: String, extended: u16, has_nxname: bool) -> Self {
         let claim = match finding {
             Finding::Bogus | Finding::BogusKeys => Claim::Bogus,
             Finding::OptOut => Claim::Insecure,
             _ => Claim::Secure,
         };
-        Ruling { claim, finding, reply, extended }
+        Ruling { claim, finding, reply, extended, has_nxname }
     }
 
     /// Of a zone that is not signed.
     pub fn insecure() -> Self {
         let reply = "the zone is insecure: its parent proves that it has no DS record".to_owned();
-        Ruling { claim: Claim::Insecure, finding: Finding::Delegated, reply, extended: 0 }
+        Ruling { claim: Claim::Insecure, finding: Finding::Delegated, reply, extended: 0, has_nxname: false }
     }
 }
 
 #[cfg(test)]
 mod tests {
     use super::*;
+
+    #[test]
+    fn noerror_beside_nxname_is_nxdomain() {
+        let told = |rcode| Told {
+            question: Question::new("a.test".parse().unwrap(), zermuita::Rtype::A),
+            claim: Claim::Secure,
+            rcode,
+            has_records: false,
+            wants_proof: true,
+            is_alias_alone: false,
+            extended: Vec::new(),
+        };
+        for (finding, rcode, has_nxname, agrees) in [
+            (Finding::Nxdomain, Rcode::NOERROR, true, true),
+            (Finding::Nxdomain, Rcode::NOERROR, false, false),
+            (Finding::Nxdomain, Rcode::NXDOMAIN, true, true),
+            (Finding::Nodata, Rcode::NXDOMAIN, true, false),
+        ] {
+            let ruling = Ruling::of(finding, String::new(), 0, has_nxname);
+            assert_eq!(told(rcode).agrees(&ruling), agrees, "{ruling:?}");
+        }
+    }
 
     #[test]
     fn faults_of_the_network_are_others() {

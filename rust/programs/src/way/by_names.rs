@@ -42,7 +42,9 @@ fn types_of(link: &Link) -> String {
 /// Of a record at the name itself.
 fn at_owner(facts: &Facts<'_>, link: &Link) -> Option<Vec<String>> {
     (link.owner == *facts.name).then(|| {
-        vec![if facts.is_cut(&link.types, facts.name) && facts.rtype != Rtype::DS {
+        vec![if link.types.contains(&Rtype::NXNAME) {
+            format!("{} does not exist: its NSEC record lists NXNAME", facts.name)
+        } else if facts.is_cut(&link.types, facts.name) && facts.rtype != Rtype::DS {
             format!("{} is a delegation: {}", facts.name, types_of(link))
         } else {
             facts.types_told("NSEC", facts.name, &link.types)
