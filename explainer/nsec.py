@@ -1,4 +1,4 @@
-"""What verified NSEC records tell of a question, and why (RFC 4035, 5.4; RFC 4592; RFC 6840, 4.1 and 4.3)."""
+"""What verified NSEC records tell of a question, and why (RFC 4035, 5.4; RFC 4592; RFC 6840, 4.1 and 4.3; RFC 9824, 3.1)."""
 
 from __future__ import annotations
 
@@ -23,6 +23,11 @@ class Link:
         record is redirected."""
         is_redirected = self.owner.is_above(name) and rtypes.DNAME in self.data.types
         return self.owner < name and (self.data.next == apex or name < self.data.next) and not is_redirected
+
+    @property
+    def is_denial(self) -> bool:
+        """Whether it says that its owner does not exist."""
+        return rtypes.NXNAME in self.data.types
 
     def encloser(self, name: Name) -> Name | None:
         """The closest encloser of a name that is covered: the nearest ancestor of the name that owner or next name shows to exist."""
@@ -66,7 +71,7 @@ class NsecDenial:
     def denied(self) -> str | None:
         """The verdict on a name whose RRset is not verified: each rule is tried on the records in turn, before the next one is."""
         before = len(self.because)
-        for rule in (self._at_owner, self._below_cut, self._covered):
+        for rule in (self._denied_by_owner, self._at_owner, self._below_cut, self._covered):
             for link in self.links:
                 verdict = rule(link)
                 if verdict:
@@ -89,6 +94,13 @@ class NsecDenial:
         wanted = f"an NSEC record that covers {name} and shows that its closest encloser has {labels} labels"
         self.because.append(f"wanting: {wanted}")
         return None
+
+    def _denied_by_owner(self, link: Link) -> str | None:
+        name = self.case.name
+        if link.owner != name or not link.is_denial:
+            return None
+        self.because.append(f"{name} does not exist: the NSEC record of the name lists NXNAME")
+        return "NoName"
 
     def _at_owner(self, link: Link) -> str | None:
         case = self.case
@@ -126,7 +138,7 @@ class NsecDenial:
 
     def _at_wildcard(self, star: Name) -> str | None:
         for link in self.links:
-            if link.owner == star:
+            if link.owner == star and not link.is_denial:
                 if tell_types_of_wildcard(self.because, self.case, "NSEC", star, link.data.types):
                     return "StarNoType"
             elif link.covers(self.case.apex, star):

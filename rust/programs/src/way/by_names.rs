@@ -61,7 +61,7 @@ fn below_cut(facts: &Facts<'_>, link: &Link) -> Option<Vec<String>> {
 /// Of the wildcard that would stand for the name.
 fn at_wildcard(facts: &Facts<'_>, wildcard: &Name) -> Option<String> {
     facts.links.iter().find_map(|link| {
-        if link.owner == *wildcard {
+        if link.owner == *wildcard && !link.types.contains(&Rtype::NXNAME) {
             Some(facts.types_told("NSEC", wildcard, &link.types))
         } else if covers(facts, link, wildcard) {
             Some(if link.next.is_below(wildcard) { led_below(link, wildcard) } else { covered(link, wildcard) })
