@@ -1,4 +1,4 @@
-"""Whether the check of examples/python/validate.py passes signatures, and fails altered ones: those of tests/lines/servers, and
+"""Whether the module's own check passes signatures, and fails altered ones: those of tests/lines/servers, and
 some that are made here, of other algorithms or with a longer head of the key. Prints how many there are of each algorithm."""
 
 from __future__ import annotations
@@ -12,10 +12,10 @@ TOP = pathlib.Path(__file__).resolve().parents[2]
 sys.path[:0] = [str(TOP / "tests/clib"), str(TOP / "examples/python")]
 import answers  # noqa: E402
 import lasting  # noqa: E402
-import validate  # noqa: E402
 from cryptography.hazmat.primitives import hashes, serialization  # noqa: E402
 from cryptography.hazmat.primitives.asymmetric import ed448, padding, rsa  # noqa: E402
 from zermuita import Ask  # noqa: E402
+from zermuita.signatures import signature_passes  # noqa: E402
 
 # The algorithms of those of servers.
 OF_SERVERS = {8, 13, 14, 15}
@@ -50,9 +50,9 @@ def altered(ask: Ask) -> Iterator[Ask]:
 def main() -> None:
     counts: collections.Counter[int] = collections.Counter()
     for ask in [*of_servers(), *made_here()]:
-        if not validate.signature_passes(ask):
+        if not signature_passes(ask):
             sys.exit(f"not so: the signature of {ask.entry(True).hex()} passes")
-        if any(map(validate.signature_passes, altered(ask))):
+        if any(map(signature_passes, altered(ask))):
             sys.exit(f"not so: {ask.entry(True).hex()} alone passes, and nothing that is altered")
         counts[ask.algorithm] += 1
     if not OF_SERVERS <= counts.keys():
