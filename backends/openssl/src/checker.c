@@ -143,13 +143,10 @@ static enum zermuita_openssl_checked verify(const struct source *source, const c
 static enum zermuita_openssl_checked check_by_key(const struct source *source, const struct algorithm *algorithm, EVP_PKEY *key,
                                                   const struct zermuita_ask *ask) {
     uint8_t der[MOST_DER];
-    struct zermuita_octets signature = ask->signature;
-    if (algorithm->signature_len == 0 && (int)signature.len != EVP_PKEY_get_size(key)) {
+    if (algorithm->signature_len == 0 && (int)ask->signature.len != EVP_PKEY_get_size(key)) {
         return ZERMUITA_OPENSSL_BAD_SIGNATURE;
     }
-    if (algorithm->curve != NULL) {
-        signature = write_pair(der, signature);
-    }
+    struct zermuita_octets signature = algorithm->curve != NULL ? write_pair(der, ask->signature) : ask->signature;
     return verify(source, algorithm->digest, key, ask->octets, signature);
 }
 
