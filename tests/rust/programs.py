@@ -4,13 +4,6 @@ import pathlib
 import subprocess
 
 TOP = pathlib.Path(__file__).resolve().parents[2]
-# What the head of a test that builds them names.
-PACKAGES = (
-    "cargo rustc pkg-config libssl-dev librust-atty-dev librust-clap-dev librust-clap-complete-dev librust-listenfd-dev librust-lru-dev librust-openssl-dev "
-    "librust-pkg-config-dev librust-prost-dev librust-ring-dev librust-sd-notify-dev librust-serde-dev librust-serde-derive-dev "
-    "librust-serde-json-dev librust-thiserror-dev librust-tokio-dev librust-tokio-openssl-dev librust-toml-dev librust-tracing-dev "
-    "librust-tracing-subscriber-dev"
-).split()
 
 
 def with_library(**more):
