@@ -111,8 +111,7 @@ enum zermuita_reply {
      */
     ZERMUITA_RECORDS = 0, /* the name has records of the type */
     /*
-     * The name exists and has no CNAME record. For DS see `delegates`. Compact denial without NXNAME signs this for names that do
-     * not exist.
+     * The name exists and has no CNAME record. For DS see `delegates`. Compact denial without NXNAME denies missing names so.
      *
      * Do: Answer NODATA.
      */
@@ -120,7 +119,7 @@ enum zermuita_reply {
     /*
      * Nor is there a name below it, or a wildcard that matches.
      *
-     * Do: Answer NXDOMAIN, with the RCODE of RFC 9824, 5, if an NSEC record of the name lists NXNAME.
+     * Do: Answer NXDOMAIN; for NXNAME, RFC 9824, 5.
      */
     ZERMUITA_NXDOMAIN = 2, /* there is no such name */
     /*
