@@ -45,7 +45,7 @@ no_and true = refl
 no_and false = refl
 
 -- links of other facts
-of_chain_like : (z : Zone) (hash : Name → List ℕ) (mode : Mode) (f g : Facts) → f.links ≡ g.links → f.hash_links ≡ g.hash_links → AreOfChain z hash mode g → AreOfChain z hash mode f
+pub of_chain_like : (z : Zone) (hash : Name → List ℕ) (mode : Mode) (f g : Facts) → f.links ≡ g.links → f.hash_links ≡ g.hash_links → AreOfChain z hash mode g → AreOfChain z hash mode f
 of_chain_like z hash mode f g links hash_links are =
     subst (λ (ks : List Link). AreOfChain z hash mode (record { rrset = f.rrset; links = ks; hash_links = f.hash_links })) (sym links)
     (subst (λ (ls : List HashLink). AreOfChain z hash mode (record { rrset = f.rrset; links = g.links; hash_links = ls })) (sym hash_links) (by_parts mode are))

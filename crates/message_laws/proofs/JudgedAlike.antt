@@ -78,64 +78,68 @@ module _ (a : Answers) (k : ℕ) (h : JudgeInput) (m n : List ℕ) (seen : Prove
   abbrev other_handing : JudgeInput
   other_handing = record h { answer_bytes = n }
 
-  answer_asked : may_ask one_handing seen.one.asked ≡ may_ask other_handing seen.other.asked
-  answer_asked = ap (λ b. h.other_question || b) (same_asked seen.one.asked seen.other.asked h.asked seen.name_is seen.rtype_is seen.class_is)
+  answer_asked : may_ask one_handing seen.verified.one.asked ≡ may_ask other_handing seen.verified.other.asked
+  answer_asked = ap (λ b. h.other_question || b) (same_asked seen.verified.one.asked seen.verified.other.asked h.asked seen.name_is seen.rtype_is seen.class_is)
 
   abbrev answer_refused : (Message → Bool) → Message → Message → Option Refusal
   answer_refused asks x y = refused_by (same_question x.asked (asked_for_keys h.apex) && asks y) (has_equal_tags (keys_in h.dnskey_bytes h.apex x.records))
 
   answer_first : message_refusal k one_handing ≡ message_refusal k other_handing
   answer_first =
-      ap (λ o. refused_of (message k h.dnskey_bytes) o (answer_refused (λ y. may_ask one_handing y.asked))) seen.reads_one
-      ∙ (λ i. refused_of (message k h.dnskey_bytes) (Ok seen.one) (answer_refused (λ y. answer_asked i)))
-      ∙ ap (λ o. refused_of (message k h.dnskey_bytes) o (answer_refused (λ y. may_ask other_handing y.asked))) (sym seen.reads_other)
+      ap (λ o. refused_of (message k h.dnskey_bytes) o (answer_refused (λ y. may_ask one_handing y.asked))) seen.verified.reads_one
+      ∙ (λ i. refused_of (message k h.dnskey_bytes) (Ok seen.verified.one) (answer_refused (λ y. answer_asked i)))
+      ∙ ap (λ o. refused_of (message k h.dnskey_bytes) o (answer_refused (λ y. may_ask other_handing y.asked))) (sym seen.verified.reads_other)
 
-  answer_judged : (usable : List Dnskey) → judged_answer a k one_handing usable seen.one ≡ judged_answer a k other_handing usable seen.other
+  answer_judged : (usable : List Dnskey) → judged_answer a k one_handing usable seen.verified.one ≡ judged_answer a k other_handing usable seen.verified.other
   answer_judged usable =
       let w = trusting a h usable in
-      let at = seen.times w h.asked.name in
-      let same : judged_facts a h (facts_in a k one_handing usable seen.one) ≡ judged_facts a h (facts_in a k other_handing usable seen.other) =
-      judged_same a h (facts_in a k one_handing usable seen.one) (facts_in a k other_handing usable seen.other) (seen.facts w h.asked.name) in
+      let at = seen.verified.times w h.asked.name in
+      let same : judged_facts a h (facts_in a k one_handing usable seen.verified.one) ≡ judged_facts a h (facts_in a k other_handing usable seen.verified.other) =
+      judged_same a h (facts_in a k one_handing usable seen.verified.one) (facts_in a k other_handing usable seen.verified.other) (seen.verified.facts w h.asked.name) in
       λ i. if h.one_moment && are_unlike (at i) then Refuses r.MixedVersions else same i
 
-  chained_answer : (x : Message) → judged_messages a k one_handing x seen.one ≡ judged_messages a k other_handing x seen.other
+  chained_answer : (x : Message) → judged_messages a k one_handing x seen.verified.one ≡ judged_messages a k other_handing x seen.verified.other
   chained_answer x =
       ap (λ v. elim (ds_authenticates_keys a k h x) as (λ _. Answer) [ true ↦ v | false ↦ Refuses r.NoTrustedKey ]) (answer_judged (filter is_usable (keys_of h x)))
 
   answer_bytes_judged : judged_bytes a k one_handing ≡ judged_bytes a k other_handing
   answer_bytes_judged =
-      ap (λ o. judged_of (message k h.dnskey_bytes) o (judged_messages a k one_handing)) seen.reads_one
-      ∙ (λ i. judged_of (message k h.dnskey_bytes) (Ok seen.one) (λ x y. chained_answer x i))
-      ∙ ap (λ o. judged_of (message k h.dnskey_bytes) o (judged_messages a k other_handing)) (sym seen.reads_other)
+      ap (λ o. judged_of (message k h.dnskey_bytes) o (judged_messages a k one_handing)) seen.verified.reads_one
+      ∙ (λ i. judged_of (message k h.dnskey_bytes) (Ok seen.verified.one) (λ x y. chained_answer x i))
+      ∙ ap (λ o. judged_of (message k h.dnskey_bytes) o (judged_messages a k other_handing)) (sym seen.verified.reads_other)
 
   pub proven_judged : judged a k one_handing ≡ judged a k other_handing
   proven_judged = λ i. said_of (is_judged h) (nat_eq (length h.ds) 0) (answer_first i) (answer_bytes_judged i)
 
 pub seen_prove : SeenProveAlike
 seen_prove k t m n seen = record {
-  one = seen.one;
-  other = seen.other;
-  reads_one = seen.reads_one;
-  reads_other = seen.reads_other;
+  verified = record {
+    one = seen.one;
+    other = seen.other;
+    reads_one = seen.reads_one;
+    reads_other = seen.reads_other;
+    facts = facts_alike k m n t seen.one.records seen.other.records seen.records_are;
+    times = all_times k m n t seen.one.records seen.other.records seen.records_are;
+  };
   name_is = seen.name_is;
   rtype_is = seen.rtype_is;
   class_is = seen.class_is;
-  facts = facts_alike k m n t seen.one.records seen.other.records seen.records_are;
-  times = all_times k m n t seen.one.records seen.other.records seen.records_are;
 }
 
 -- so do those of which no signature covers the type
 pub bare_prove : (k t : ℕ) (m n : List ℕ) (seen : SeenAlike k 46 m n) → list_any (is_covering k n t) seen.other.records ≡ false → ProvesAlike k t m n
 bare_prove k t m n seen bare = record {
-  one = seen.one;
-  other = seen.other;
-  reads_one = seen.reads_one;
-  reads_other = seen.reads_other;
+  verified = record {
+    one = seen.one;
+    other = seen.other;
+    reads_one = seen.reads_one;
+    reads_other = seen.reads_other;
+    facts = bare_facts k m n t seen.one.records seen.other.records seen.records_are bare;
+    times = all_bare_times k m n t seen.one.records seen.other.records seen.records_are bare;
+  };
   name_is = seen.name_is;
   rtype_is = seen.rtype_is;
   class_is = seen.class_is;
-  facts = bare_facts k m n t seen.one.records seen.other.records seen.records_are bare;
-  times = all_bare_times k m n t seen.one.records seen.other.records seen.records_are bare;
 }
 
 pub answers_alike : AnswersJudgedAlike

@@ -13,5 +13,10 @@ pub mod Whether
 pub mod OwnTrue
 pub mod ShownAlike
 pub mod GivenShown
+pub mod GivenKeys
+pub mod GivenAliases
+pub mod Ahead
+pub mod OwnLow
+pub mod GivenAliased
 pub mod HeldRecords
 pub mod Held

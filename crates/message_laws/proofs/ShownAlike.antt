@@ -1,5 +1,5 @@
 -- Messages in which alike is proved show alike.
-use Rattle.std.proofs.Common.{◌≡◌, ℕ, true, false, ◌&&◌, List, filter, Result, Ok, refl, sym, ap, subst, ◌∙◌, ◌⊎◌, inl, inr}
+use Rattle.std.proofs.Common.{◌≡◌, ℕ, true, false, ◌&&◌, List, filter, Some, Result, Ok, refl, sym, ap, subst, ◌∙◌, ◌⊎◌, inl, inr}
 use Rattle.std.specs.Prelude.{◌==◌, IfSome}
 use Rattle.std.proofs.lemmas.Bool.{eq-eqb, false≢true}
 use Rattle.definitions.specs.Dnskey.{Dnskey}
@@ -26,7 +26,7 @@ use Rattle.answer_judge.specs.Judging.{JudgeInput, same_question}
 use Rattle.answer_findings.specs.Judgements.{alias_hint, asking}
 use Rattle.message_laws.specs.InPlace.{in_place}
 use Rattle.message_laws.specs.Laws.{AlikeShowsAlike}
-use Rattle.message_laws.specs.SeenAlike.{ProvesAlike, SeenAlike}
+use Rattle.message_laws.specs.SeenAlike.{SeenAlike, VerifiesAlike}
 use Rattle.message_laws.specs.Shown.{AreOfChain, IsTruthful, Shows, ShowsAlias, ShowsItself, ShowsKeys, shown_facts, usable_of}
 use Rattle.message_laws.proofs.JudgedAlike.{keys_asked, keys_chained, same_keys}
 use Rattle.message_laws.proofs.ShownLeads.{hint_cases}
@@ -52,7 +52,7 @@ module _ (a : Answers) (k : ℕ) (h : JudgeInput) (x y m n : List ℕ) (mode : M
     }
 
 -- what is proved alike of types is so of these messages
-module _ (a : Answers) (k : ℕ) (h : JudgeInput) (x y m n : List ℕ) (mode : Mode) (rs : List HandedRr) (usable : List Dnskey) (alike : (t : ℕ) → (t == 41) ≡ false → ProvesAlike k t m n) (allowed : is_allowed h.apex h.asked ≡ true)
+module _ (a : Answers) (k : ℕ) (h : JudgeInput) (x y m n : List ℕ) (mode : Mode) (rs : List HandedRr) (usable : List Dnskey) (alike : (t : ℕ) → (t == 41) ≡ false → VerifiesAlike k t m n) (allowed : is_allowed h.apex h.asked ≡ true)
     (one other : Message) (reads_one : message k m ≡ Ok one) (reads_other : message k n ≡ Ok other) where
   facts_of : (asked : Asked) → (asked.rtype == 41) ≡ false → shown_facts a k (record h { dnskey_bytes = x; answer_bytes = m }) usable one asked ≡ shown_facts a k (record h { dnskey_bytes = y; answer_bytes = n }) usable other asked
   facts_of asked e =
@@ -84,8 +84,9 @@ module _ (a : Answers) (k : ℕ) (h : JudgeInput) (x y m n : List ℕ) (mode : M
     beside = λ for_ds none below. truthful_of (asking h h.asked.name 2) refl (s.beside for_ds none below);
   }
 
+  -- what one suggests where the other suggests it
   abbrev Hints : Type 0
-  Hints = alias_hint k (record h { dnskey_bytes = x; answer_bytes = m }) ≡ alias_hint k (record h { dnskey_bytes = y; answer_bytes = n })
+  Hints = (q : Asked) → alias_hint k (record h { dnskey_bytes = y; answer_bytes = n }) ≡ Some q → alias_hint k (record h { dnskey_bytes = x; answer_bytes = m }) ≡ Some q
 
   -- a question that is answered itself suggests no alias
   hints_there : (in_place (zone_of h.apex rs) h.asked ≡ h.asked) ⊎ Hints → ShowsAlias a k (record h { dnskey_bytes = y; answer_bytes = n }) usable other mode rs → Hints
@@ -99,10 +100,10 @@ module _ (a : Answers) (k : ℕ) (h : JudgeInput) (x y m n : List ℕ) (mode : M
       wrong (inl (owner, is)) = false≢true (sym (no_alias_type h.apex h.asked allowed).1 ∙ eq-eqb h.asked.rtype 39 (sym rtype_is ∙ ap (λ (q : Asked). q.rtype) is))
       wrong (inr is) = false≢true (sym (no_alias_type h.apex h.asked allowed).0 ∙ eq-eqb h.asked.rtype 5 (sym rtype_is ∙ ap (λ (q : Asked). q.rtype) is))
 
-  alias_alike : alias_hint k (record h { dnskey_bytes = x; answer_bytes = m }) ≡ alias_hint k (record h { dnskey_bytes = y; answer_bytes = n }) → ShowsAlias a k (record h { dnskey_bytes = y; answer_bytes = n }) usable other mode rs → ShowsAlias a k (record h { dnskey_bytes = x; answer_bytes = m }) usable one mode rs
+  alias_alike : Hints → ShowsAlias a k (record h { dnskey_bytes = y; answer_bytes = n }) usable other mode rs → ShowsAlias a k (record h { dnskey_bytes = x; answer_bytes = m }) usable one mode rs
   alias_alike hints s = record {
     question = s.question;
-    hinted = hints ∙ s.hinted;
+    hinted = hints s.question s.hinted;
     name_is = s.name_is;
     rtype_is = s.rtype_is;
     leads = s.leads;

@@ -115,11 +115,11 @@ module _ (z : Zone) (s : IsServable z) (ex : Bool) (h : JudgeInput) (inside : at
 
 -- ---- a DNAME under a name that is spelled otherwise
 
-same_verdict : (z : Zone) (ex : Bool) (n m : Name) (t : ℕ) → low n ≡ low m → verdict z ex n t ≡ verdict z ex m t
+pub same_verdict : (z : Zone) (ex : Bool) (n m : Name) (t : ℕ) → low n ≡ low m → verdict z ex n t ≡ verdict z ex m t
 same_verdict z ex n m t e = verdict-said z ex n (low m) t (sym e) ∙ sym (verdict-said z ex m (low m) t refl)
 
 module _ (z : Zone) (s : IsServable z) (d : Name) (redirects : Redirects z d) where
-  dname_signed : is_signed z (low d) 39 ≡ true
+  pub dname_signed : is_signed z (low d) 39 ≡ true
   dname_signed =
       and_from (is_live z (low d) && (not (is_delegation z (low d)) || false)) (has z (low d) 39)
       (and_from (is_live z (low d)) (not (is_delegation z (low d)) || false) redirects.live (ap (λ b. not b || false) (s.aliases.uncut (low d) redirects.dname))) redirects.dname

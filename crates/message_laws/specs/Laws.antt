@@ -1,10 +1,10 @@
 -- What a judge says of messages that show a zone's answer.
-use Rattle.std.specs.Prelude.{◌≡◌, ◌⊎◌, ℕ, ◌<◌, true, false, ◌==◌, List, Ok}
+use Rattle.std.specs.Prelude.{◌≡◌, ◌⊎◌, ℕ, ◌<◌, true, false, ◌==◌, List, Some, Ok}
 use Rattle.definitions.specs.Zone.{verdict}
 use Rattle.definitions.specs.ZoneChain.{Mode, optout_of}
 use Rattle.denial_laws.specs.Aliases.{is_aliased}
 use Rattle.messages.specs.HandedRr.{HandedRr}
-use Rattle.messages.specs.Message.{Message, message}
+use Rattle.messages.specs.Message.{Asked, Message, message}
 use Rattle.messages.specs.WrittenLaws.{IsQuestion}
 use Rattle.answer_scheme.specs.Answers.{Answers}
 use Rattle.answer_terms.specs.Accepting.{zone_of}
@@ -15,8 +15,9 @@ use Rattle.answer_judge.specs.Judged.{judged}
 use Rattle.answer_judge.specs.Judging.{JudgeInput, Says, may_ask}
 use Rattle.answer_judge.specs.Meeting.{WasGiven}
 use Rattle.answer_findings.specs.Judgements.{alias_hint}
+use Rattle.message_laws.specs.Given.{WasGivenWithAliases}
 use Rattle.message_laws.specs.InPlace.{in_place}
-use Rattle.message_laws.specs.SeenAlike.{ProvesAlike, SeenAlike}
+use Rattle.message_laws.specs.SeenAlike.{SeenAlike, VerifiesAlike}
 use Rattle.message_laws.specs.Shown.{IsShown, Shows, ShowsKeys, usable_of}
 
 -- Of messages that show the keys of a zone and its answer to an allowed question, whose name is no alias for the type, a judge says the
@@ -33,11 +34,16 @@ ShownIsSaid =
 abbrev pub GivenIsShown : Type 0
 GivenIsShown = (a : Answers) (k : ℕ) (h : JudgeInput) (mode : Mode) (rs : List HandedRr) → h.limit < 65536 → WasGiven a k h mode rs → IsShown a k h mode rs
 
--- Of two pairs of messages one shows what the other shows: their DNSKEY answers are seen alike, in their answers alike is proved of each
--- type but OPT, 41, and, if the zone answers by an alias, both suggest one.
+-- So does what a zone with aliases has given, by an alias or not.
+abbrev pub GivenWithAliasesIsShown : Type 0
+GivenWithAliasesIsShown = (a : Answers) (k : ℕ) (h : JudgeInput) (mode : Mode) (rs : List HandedRr) → WasGivenWithAliases a k h mode rs → IsShown a k h mode rs
+
+-- Of two pairs of messages one shows what the other shows: their DNSKEY answers are seen alike; in their answers, whatever these ask, the
+-- same is verified of each type but OPT, 41; and, if the zone answers by an alias, the one suggests that which the other does.
 abbrev pub AlikeShowsAlike : Type 0
 AlikeShowsAlike =
     (a : Answers) (k : ℕ) (h : JudgeInput) (mode : Mode) (rs : List HandedRr) (key_octets other_keys octets other : List ℕ)
-    → SeenAlike k 48 key_octets other_keys → ((t : ℕ) → (t == 41) ≡ false → ProvesAlike k t octets other)
-    → (in_place (zone_of h.apex rs) h.asked ≡ h.asked) ⊎ (alias_hint k (record h { dnskey_bytes = key_octets; answer_bytes = octets }) ≡ alias_hint k (record h { dnskey_bytes = other_keys; answer_bytes = other }))
+    → SeenAlike k 48 key_octets other_keys → ((t : ℕ) → (t == 41) ≡ false → VerifiesAlike k t octets other)
+    → (in_place (zone_of h.apex rs) h.asked ≡ h.asked)
+    ⊎ ((q : Asked) → alias_hint k (record h { dnskey_bytes = other_keys; answer_bytes = other }) ≡ Some q → alias_hint k (record h { dnskey_bytes = key_octets; answer_bytes = octets }) ≡ Some q)
     → IsShown a k (record h { dnskey_bytes = other_keys; answer_bytes = other }) mode rs → IsShown a k (record h { dnskey_bytes = key_octets; answer_bytes = octets }) mode rs

@@ -1,5 +1,6 @@
 pub mod SeenAlike
 pub mod InPlace
 pub mod Shown
+pub mod Given
 pub mod Held
 pub mod Laws

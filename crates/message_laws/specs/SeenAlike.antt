@@ -50,18 +50,22 @@ UncoveredJudgedAlike =
     → list_any (is_covering k n h.asked.rtype) seen.other.records ≡ false
     → judged a k (record h { answer_bytes = m }) ≡ judged a k (record h { answer_bytes = n })
 
--- Both messages read, and their questions are alike, names up to case. Of any name and a type the same is verified in them, under
--- whichever keys, names of links up to case, and by signatures of the same times.
-pub record ProvesAlike (k t : ℕ) (m n : List ℕ) : Type 0 where
+-- Both messages read, whatever they ask. Of any name and a type the same is verified in them, under whichever keys, names of links up to
+-- case, and by signatures of the same times.
+pub record VerifiesAlike (k t : ℕ) (m n : List ℕ) : Type 0 where
   pub one : Message
   pub other : Message
   pub reads_one : message k m ≡ Ok one
   pub reads_other : message k n ≡ Ok other
-  pub name_is : low one.asked.name ≡ low other.asked.name
-  pub rtype_is : one.asked.rtype ≡ other.asked.rtype
-  pub class_is : one.asked.class ≡ other.asked.class
   pub facts : (w : Trusting) (q : Name) → low_facts (verified_facts w k m one.records q t) ≡ low_facts (verified_facts w k n other.records q t)
   pub times : (w : Trusting) (q : Name) → proof_times w k m one.records q t ≡ proof_times w k n other.records q t
+
+-- and their questions are alike, names up to case
+pub record ProvesAlike (k t : ℕ) (m n : List ℕ) : Type 0 where
+  pub verified : VerifiesAlike k t m n
+  pub name_is : low verified.one.asked.name ≡ low verified.other.asked.name
+  pub rtype_is : verified.one.asked.rtype ≡ verified.other.asked.rtype
+  pub class_is : verified.one.asked.class ≡ verified.other.asked.class
 
 -- so do messages that are seen alike, as one that tells of the type
 abbrev pub SeenProveAlike : Type 0

@@ -1,6 +1,7 @@
 //! Laws of messages that show what a zone answers.
 ghost use Rattle.message_laws.specs.Held.{HeldIsIncluded};
-ghost use Rattle.message_laws.specs.Laws.{AlikeShowsAlike, GivenIsShown, ShownIsSaid};
+ghost use Rattle.message_laws.specs.Laws.{AlikeShowsAlike, GivenIsShown};
+ghost use Rattle.message_laws.specs.Laws.{GivenWithAliasesIsShown, ShownIsSaid};
 
 /// A judge says a zone's verdict of messages that show its keys and its answer, of a name that is
 /// no alias for the type, whatever else the messages hold.
@@ -25,14 +26,16 @@ pub fn what_is_held_is_shown()
     ensures { HeldIsIncluded }
 {}
 
-/// What a zone without aliases has given shows what it answers.
+/// What a zone has given shows what it answers: a zone without aliases, and one with aliases, also
+/// where it answers by a CNAME or a DNAME in place of what is asked for.
 pub fn what_is_given_is_shown()
-    ensures { GivenIsShown }
+    ensures plain { GivenIsShown }
+    ensures aliases { GivenWithAliasesIsShown }
 {}
 
-/// Messages show what others show in which alike is proved, and that suggest the same alias, where
-/// the zone answers by one: so do responses that have more records than the messages of a zone's
-/// publisher, in any place.
+/// Messages show what others show in which the same is verified, whatever they ask, and that suggest
+/// the same alias, where the zone answers by one: so do responses that have more records than the
+/// messages of a zone's publisher, in any place, and other questions.
 pub fn alike_shows_alike()
     ensures { AlikeShowsAlike }
 {}

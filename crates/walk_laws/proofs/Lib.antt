@@ -15,13 +15,10 @@ pub mod Stuck
 pub mod Few
 pub mod Ending
 pub mod Served
-pub mod Gave
-pub mod Ahead
-pub mod Leads
 pub mod Aliased
-pub mod ServedAliases
 pub mod Verdict
 pub mod ShownTrees
+pub mod ServedAliases
 pub mod EvidenceNames
 pub mod EvidenceZone
 pub mod EvidenceUnforged

@@ -1,5 +1,5 @@
 -- Where a walk over evidence of a tree ends whose zones answer as they are published.
-use Rattle.std.proofs.Common.{◌≡◌, ℕ, Bool, true, false, List, [], ◌∷◌, Option, Some, None, Result, refl, sym, subst, ◌∙◌, ◌⊎◌, inl, inr}
+use Rattle.std.proofs.Common.{◌≡◌, ℕ, Bool, true, false, List, [], Option, Some, Result, refl, sym, subst, ◌∙◌, ◌⊎◌, inl, inr}
 use Rattle.std.proofs.lemmas.Bool.{false≢true}
 use Rattle.definitions.specs.Dnskey.{Ds}
 use Rattle.definitions.specs.Limits.{pointer_limit}
@@ -19,7 +19,6 @@ use Rattle.answer_judge_table.specs.Outcomes.{IsJudgedBy}
 use Rattle.answer_findings.specs.Judgements.{is_delegated}
 use Rattle.answer_findings.specs.Table.{AgreesWith, Tried, answers_with}
 use Rattle.tree_laws.specs.Laws.{TreesResolveToOne, TreesSayOne}
-use Rattle.tree_laws.specs.Tree.{refers_to}
 use Rattle.resolution_step.specs.Told.{StepSeen, IsCutTold, IsTold, at_cut, verdict_told}
 use Rattle.resolution_step.specs.declared.judged_step.Counts.{Counts}
 use Rattle.evidence_laws.specs.Given.{Given, IsOf, judge_input}
@@ -30,13 +29,13 @@ use Rattle.resolution_walk.specs.Judged.{IsHeard, OfAnswer, OfName, are_keys_ref
 use Rattle.resolution_walk.specs.declared.ending.Walk.{Walk}
 use Rattle.walk_laws.specs.Ending.{IsUntoldOf}
 use Rattle.message_laws.specs.Shown.{ShowsKeys}
-use Rattle.walk_laws.specs.Served.{AnswersItself, AreServed, KeysAreRefused, KeyedTreesAreWalked, ServedTreesAreWalked, ServedZonesAreWalked, ZonesKeys, asking}
+use Rattle.walk_laws.specs.Served.{AnswersItself, AreServed, KeysAreRefused, KeyedTreesAreWalked, ServedTreesAreWalked, ZonesKeys, asking}
 use Rattle.walk_laws.proofs.Ending.{trees_are_walked}
 use Rattle.walk_laws.specs.Shown.{ShowZonesKeys}
-use Rattle.walk_laws.proofs.Keys.{keys_shown}
+use Rattle.message_laws.proofs.GivenKeys.{keys_shown}
 use Rattle.walk_laws.proofs.KeysTold.{cut_told_trusting, nothing_trusting, told_trusting}
 use Rattle.walk_laws.proofs.Saying.{cut_nothing, proper, told_nothing}
-use Rattle.walk_laws.proofs.Stuck.{OnlyForMemory, keys_refused, never_at_end, only_one, stuck_for}
+use Rattle.walk_laws.proofs.Stuck.{OnlyForMemory, keys_refused, stuck_for}
 use Rattle.message_laws.proofs.Whether.{TellsDs, delegation_told}
 use Rattle.walk_laws.proofs.WhetherFound.{whether_found}
 
@@ -124,16 +123,3 @@ pub keyed_trees_are_walked : TreesSayOne → TreesResolveToOne → KeyedTreesAre
 keyed_trees_are_walked one resolve_one passes e asked limits zones anchor said names w k served =
     stuck_for e limits said names w (never_refused passes e asked limits.cuts zones anchor names served.served.checked (show_keys passes e zones anchor served.keys) w)
     (served_trees_are_walked one resolve_one passes e asked limits zones anchor said names w k served.served)
-
--- ---- one zone
-
-pub served_zones_are_walked : TreesSayOne → TreesResolveToOne → ServedZonesAreWalked
-served_zones_are_walked one resolve_one passes e asked limits zone said w none k served =
-    stuck_for e limits said [] w why (trees_are_walked one resolve_one e asked limits (zone ∷ []) zone said [] w k)
-  where
-    why : IsUntoldOf asked limits.cuts (zone ∷ []) zone [] e w → ⊥
-    why u =
-        let zone_is : u.zone ≡ zone = only_one zone u.zone u.anchored.there in
-        let name_is : u.name ≡ asked.name = only_one asked.name u.name u.named in
-        let own : refers_to (zone_of u.zone).zone u.name asked.rtype ≡ None = (λ i. refers_to (zone_of (zone_is i)).zone (name_is i) asked.rtype) ∙ none in
-        never_at_end e asked limits.cuts (zone ∷ []) zone [] k.of (only_for_memory passes e asked (zone ∷ []) zone served) w u own

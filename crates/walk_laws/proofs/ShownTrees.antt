@@ -1,11 +1,12 @@
 -- Where a walk over evidence of a tree ends whose messages show what its zones answer.
-use Rattle.std.proofs.Common.{◌≡◌, ℕ, Bool, true, false, List, [], ◌∷◌, Option, Some, None, Result, refl, sym, ap, subst, ◌∙◌, ◌⊎◌, inl, inr}
+use Rattle.std.proofs.Common.{◌≡◌, ℕ, Bool, true, false, not, ◌&&◌, ◌||◌, List, [], ◌∷◌, Option, Some, Result, refl, sym, ap, subst, ◌∙◌, ◌⊎◌, inl, inr}
+use Rattle.std.proofs.lemmas.Bool.{false≢true}
 use Rattle.definitions.specs.Dnskey.{Ds}
 use Rattle.definitions.specs.Limits.{pointer_limit}
 use Rattle.definitions.specs.Name.{Name, low, strictly_above}
 use Rattle.definitions.specs.Zone.{Open, Verdict, Zone, is_open, verdict}
 use Rattle.definitions.proofs.VerdictCases.{verdict-open}
-use Rattle.denial_laws.specs.Aliases.{is_aliased}
+use Rattle.denial_laws.specs.Aliases.{has_own_alias, is_aliased, is_redirected}
 use Rattle.messages.specs.Message.{Asked}
 use Rattle.alias_laws.specs.Leading.{leads_elsewhere}
 use Rattle.alias_laws.proofs.Leading.{aliased_is_led}
@@ -39,11 +40,18 @@ use Rattle.walk_laws.proofs.Aliased.{alias_cut, alias_told}
 use Rattle.walk_laws.proofs.Ending.{trees_are_walked}
 use Rattle.walk_laws.proofs.Saying.{cut_nothing, proper, told_nothing}
 use Rattle.walk_laws.proofs.Served.{never_refused}
-use Rattle.walk_laws.proofs.ServedAliases.{left_open}
 use Rattle.walk_laws.proofs.Stuck.{OnlyForMemory, keys_refused, only_one, stuck_for}
 use Rattle.walk_laws.specs.Ending.{Never}
 use Rattle.walk_laws.proofs.Verdict.{comes}
 use Rattle.walk_laws.proofs.WhetherFound.{whether_found}
+
+-- what is an alias but for opt-out opt-out leaves open
+left_open : (z : Zone) (optout : Bool) (n : Name) (t : ℕ) → is_aliased z false n t ≡ true → is_aliased z optout n t ≡ false → is_open z optout (low n) ≡ true
+left_open z optout n t led none = go (is_open z optout (low n)) refl
+  where
+    go : (b : Bool) → is_open z optout (low n) ≡ b → b ≡ true
+    go true is = refl
+    go false is = absurd (false≢true (sym none ∙ (λ i. is_redirected z (low n) || (not (is i) && has_own_alias z (low n) t)) ∙ led))
 
 module _ (passes : Tried → Bool) (e : Given) (asked : Asked) (zones : List SignedZone) (anchor : SignedZone) (of : IsOfTree e asked.class zones anchor) (shown : AreShown passes e asked zones anchor) where
   -- an answer that is shown

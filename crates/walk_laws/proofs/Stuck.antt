@@ -61,7 +61,7 @@ module _ (e : Given) (asked : Asked) (cuts : ℕ) (zones : List SignedZone) (anc
       (subst (λ (q : Asked). IsNameStep e u.zone.apex u.ds q said u.untold.validity n) between.is step) cut nothing)
 
   -- so does the own one of a zone that refers the question nowhere
-  pub never_at_end : refers_to (zone_of u.zone).zone u.name asked.rtype ≡ None → ⊥
+  never_at_end : refers_to (zone_of u.zone).zone u.name asked.rtype ≡ None → ⊥
   never_at_end none = go u.untold.said u.untold.heard u.untold.nothing
     where
       go : (said : StepSeen) → IsHeard e last u.zone.apex u.ds u.untold.sought said u.untold.validity → IsNothing said u.refusal → ⊥

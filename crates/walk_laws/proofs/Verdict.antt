@@ -25,12 +25,11 @@ use Rattle.walk_laws.specs.Few.{IsReadOfTree}
 use Rattle.walk_laws.specs.Laws.{Ends}
 use Rattle.walk_laws.specs.Loop.{AreWalks, Caller, Loops, Begins, Wants, Asks, Reaches, AtOnce, ByCall, SomeAnswered, SomeChecked, Walks, entry_for, message_for, next, with_entries, with_messages}
 use Rattle.walk_laws.specs.New.{answers}
-use Rattle.walk_laws.specs.Verdict.{AliasedTreesComeToVerdicts, Comes, EndsLoop, SaysSo, AsksTooMuch, IsStuck, IsTreesLoop, LoopsComeToVerdicts, TreesComeToVerdicts, ZonesComeToVerdicts, wanted_on_way}
+use Rattle.walk_laws.specs.Verdict.{Comes, EndsLoop, SaysSo, AsksTooMuch, IsStuck, IsTreesLoop, LoopsComeToVerdicts, TreesComeToVerdicts, wanted_on_way}
 use Rattle.walk_laws.proofs.Ending.{trees_are_walked}
 use Rattle.walk_laws.proofs.Few.{algorithms_stay, trees_want_few}
 use Rattle.walk_laws.proofs.Loops.{few_ask, few_messages, loops_end, some_asked, some_wanted}
-use Rattle.walk_laws.proofs.Served.{keyed_trees_are_walked, served_zones_are_walked}
-use Rattle.walk_laws.proofs.ServedAliases.{aliased_trees_are_walked}
+use Rattle.walk_laws.proofs.Served.{keyed_trees_are_walked}
 
 -- ---- what a caller hands in
 
@@ -186,17 +185,7 @@ loops_come_to_verdicts one resolve_one c asked limits most walks from zones anch
     comes (IsUntoldOf asked limits.cuts zones anchor names) one c asked limits most walks from zones anchor said names k
     (λ calls e reached walk. trees_are_walked one resolve_one e asked limits zones anchor said names (walks e) walk)
 
-pub zones_come_to_verdicts : TreesSayOne → TreesResolveToOne → ZonesComeToVerdicts
-zones_come_to_verdicts one resolve_one c asked limits most walks from zone said none k served =
-    comes Never one c asked limits most walks from (zone ∷ []) zone said [] k
-    (λ calls e reached walk. served_zones_are_walked one resolve_one c.passes e asked limits zone said (walks e) none walk (served calls e reached))
-
 pub trees_come_to_verdicts : TreesSayOne → TreesResolveToOne → TreesComeToVerdicts
 trees_come_to_verdicts one resolve_one c asked limits most walks from zones anchor said names k served =
     comes Never one c asked limits most walks from zones anchor said names k
     (λ calls e reached walk. keyed_trees_are_walked one resolve_one c.passes e asked limits zones anchor said names (walks e) walk (served calls e reached))
-
-pub aliased_trees_come_to_verdicts : TreesSayOne → TreesResolveToOne → AliasedTreesComeToVerdicts
-aliased_trees_come_to_verdicts one resolve_one c asked limits most walks from zones anchor said names k served =
-    comes Never one c asked limits most walks from zones anchor said names k
-    (λ calls e reached walk. aliased_trees_are_walked one resolve_one c.passes e asked limits zones anchor said names (walks e) walk (served calls e reached))

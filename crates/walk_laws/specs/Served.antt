@@ -1,5 +1,5 @@
 -- Where a walk over evidence of a tree ends whose zones answer as they are published.
-use Rattle.std.specs.Prelude.{◌≡◌, ◌⊎◌, ℕ, Bool, true, List, [], ◌∷◌, Some, None}
+use Rattle.std.specs.Prelude.{◌≡◌, ◌⊎◌, ℕ, Bool, true, List, Some, None}
 use Rattle.definitions.specs.Dnskey.{Ds}
 use Rattle.definitions.specs.Limits.{pointer_limit}
 use Rattle.definitions.specs.Name.{Name, at_or_above}
@@ -8,6 +8,7 @@ use Rattle.answer_scheme.specs.Moments.{second_of}
 use Rattle.answer_judge.specs.Meeting.{WasGiven}
 use Rattle.answer_judge.specs.Judging.{JudgeInput}
 use Rattle.answer_findings.specs.Table.{AgreesWith, Tried, answers_with}
+use Rattle.message_laws.specs.Given.{KeysWereGiven}
 use Rattle.tree_laws.specs.Tree.{Said, refers_to}
 use Rattle.evidence_laws.specs.Given.{Given, IsOf, message_of}
 use Rattle.evidence_laws.specs.Truth.{IsAnchored, SignedZone, zone_of}
@@ -15,7 +16,6 @@ use Rattle.resolution_walk.specs.Between.{are_keys_refused}
 use Rattle.resolution_walk.specs.declared.ending.Walk.{Walk}
 use Rattle.resolution_walk.specs.declared.walk.Limits.{Limits}
 use Rattle.walk_laws.specs.Ending.{EndsInTree, IsTreesWalk, IsUntoldOf, Never}
-use Rattle.walk_laws.specs.Keys.{KeysWereGiven}
 
 -- a question for a type, of the class that is asked for
 abbrev pub asking : Asked → Name → ℕ → Asked
@@ -65,10 +65,3 @@ KeyedTreesAreWalked =
     (passes : Tried → Bool) (e : Given) (asked : Asked) (limits : Limits) (zones : List SignedZone) (anchor : SignedZone) (said : Said) (names : List Name) (w : Walk)
     → IsTreesWalk e asked limits zones anchor said names w → AreServedWithKeys passes e asked zones anchor
     → EndsInTree Never e limits said names w
-
--- Of one zone without any alias, that refers the question nowhere, none is.
-abbrev pub ServedZonesAreWalked : Type 0
-ServedZonesAreWalked =
-    (passes : Tried → Bool) (e : Given) (asked : Asked) (limits : Limits) (zone : SignedZone) (said : Said) (w : Walk)
-    → refers_to (zone_of zone).zone asked.name asked.rtype ≡ None → IsTreesWalk e asked limits (zone ∷ []) zone said [] w → AreServed passes e asked (zone ∷ []) zone
-    → EndsInTree Never e limits said [] w

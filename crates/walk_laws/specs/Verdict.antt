@@ -1,11 +1,11 @@
 -- Where a loop over evidence of a tree ends.
-use Rattle.std.specs.Prelude.{◌≡◌, ℕ, ◌+◌, ◌-◌, ◌*◌, ◌<◌, ◌≤◌, List, [], ◌∷◌, Some, None, length}
+use Rattle.std.specs.Prelude.{◌≡◌, ℕ, ◌+◌, ◌-◌, ◌*◌, ◌<◌, ◌≤◌, List, ◌∷◌, Some, length}
 use Rattle.std.specs.Global.{Vec}
 use Rattle.definitions.specs.Name.{Name}
 use Rattle.messages.specs.Message.{Asked}
 use Rattle.answer_findings.specs.Table.{Tried}
 use Rattle.tree_laws.specs.Laws.{AreAlike}
-use Rattle.tree_laws.specs.Tree.{Said, Resolves, refers_to}
+use Rattle.tree_laws.specs.Tree.{Said, Resolves}
 use Rattle.evidence_laws.specs.Given.{Given}
 use Rattle.evidence_laws.specs.KnownDs.{knows}
 use Rattle.evidence_laws.specs.Truth.{SignedZone, tree_of, zone_of}
@@ -18,7 +18,7 @@ use Rattle.walk_laws.specs.Aliased.{AreServedWithAliases}
 use Rattle.walk_laws.specs.Ending.{IsUntoldOf, LeaveRoom, Never}
 use Rattle.walk_laws.specs.Few.{IsReadOfTree}
 use Rattle.walk_laws.specs.Loop.{AreWalks, Caller, Reaches}
-use Rattle.walk_laws.specs.Served.{AreServed, AreServedWithKeys}
+use Rattle.walk_laws.specs.Served.{AreServedWithKeys}
 use Rattle.walk_laws.specs.Tree.{most_wanted}
 
 -- A walk says what the tree says, through its aliases; or it asks for more signatures than are allowed; or it is stuck.
@@ -54,15 +54,6 @@ abbrev pub LoopsComeToVerdicts : Type 0
 LoopsComeToVerdicts =
     (c : Caller) (asked : Asked) (limits : Limits) (most : ℕ) (walks : Given → Walk) (from : Given) (zones : List SignedZone) (anchor : SignedZone) (said : Said) (names : List Name)
     → IsTreesLoop c asked limits most walks from zones anchor said names → Comes (IsUntoldOf asked limits.cuts zones anchor names) (wanted_on_way asked limits from zones anchor names) c asked limits most walks from said names
-
--- Of one zone without any alias, that refers the question nowhere and answers as it is published, for an allowed question: of class IN,
--- and for none of the types 0, 5, 39, 41, 46, 47, 48, 50, 51, and 128 to 255.
-abbrev pub ZonesComeToVerdicts : Type 0
-ZonesComeToVerdicts =
-    (c : Caller) (asked : Asked) (limits : Limits) (most : ℕ) (walks : Given → Walk) (from : Given) (zone : SignedZone) (said : Said)
-    → refers_to (zone_of zone).zone asked.name asked.rtype ≡ None → IsTreesLoop c asked limits most walks from (zone ∷ []) zone said []
-    → ((calls : ℕ) (e : Given) → Reaches c asked most walks from calls e → AreServed c.passes e asked (zone ∷ []) zone)
-    → Comes Never (wanted_on_way asked limits from (zone ∷ []) zone []) c asked limits most walks from said []
 
 -- Of a tree whose zones answer as they are published, and have given their keys, for a question that is allowed in each zone that refers it
 -- nowhere: zones without aliases.

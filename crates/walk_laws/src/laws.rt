@@ -6,17 +6,12 @@ ghost use Rattle.walk_laws.specs.Found.{MessagesAreFound};
 ghost use Rattle.walk_laws.specs.Laws.{LoopsAreShort, LoopsEnd};
 ghost use Rattle.walk_laws.specs.New.{NothingIsWantedTwice};
 ghost use Rattle.walk_laws.specs.Keys.{GivenKeysAreTrusted};
-ghost use Rattle.walk_laws.specs.Served.{
-  KeyedTreesAreWalked,
-  ServedTreesAreWalked,
-  ServedZonesAreWalked,
-};
+ghost use Rattle.walk_laws.specs.Served.{KeyedTreesAreWalked, ServedTreesAreWalked};
 ghost use Rattle.walk_laws.specs.Shown.{ShownTreesAreWalked, ShownTreesComeToVerdicts};
 ghost use Rattle.walk_laws.specs.Verdict.{
   AliasedTreesComeToVerdicts,
   LoopsComeToVerdicts,
   TreesComeToVerdicts,
-  ZonesComeToVerdicts,
 };
 
 use tree_laws::laws::{trees_resolve_to_one, trees_say_one};
@@ -110,17 +105,6 @@ pub fn aliased_trees_are_walked()
     trees_resolve_to_one();
 }
 
-/// So a walk over the messages of one zone without any alias, for an allowed question that it
-/// refers nowhere, ends in the zone's verdict, or more is wanted. The zone is the whole tree, so it
-/// has no delegation with DS records of a known algorithm and digest: of zones with such delegations
-/// `keyed_trees_are_walked` speaks.
-pub fn served_zones_are_walked()
-    ensures { ServedZonesAreWalked }
-{
-    trees_say_one();
-    trees_resolve_to_one();
-}
-
 /// The loop of a caller over evidence of a tree ends in what the tree says, through its aliases,
 /// where limits leave room for the tree's way and for all messages that may be wanted on it; or
 /// where more signatures are asked for than are allowed; or in an answer that tells nothing, of a
@@ -128,17 +112,6 @@ pub fn served_zones_are_walked()
 /// labels of its names, and one for each signature that is allowed, at most.
 pub fn loops_come_to_verdicts()
     ensures { LoopsComeToVerdicts }
-{
-    trees_say_one();
-    trees_resolve_to_one();
-}
-
-/// The loop of a caller over one zone without any alias, which answers as it is published, ends in
-/// the zone's verdict for an allowed question that the zone refers nowhere, unless more signatures
-/// are asked for than are allowed. As for `served_zones_are_walked`, the zone has no delegation with
-/// DS records of a known algorithm and digest.
-pub fn zones_come_to_verdicts()
-    ensures { ZonesComeToVerdicts }
 {
     trees_say_one();
     trees_resolve_to_one();

@@ -1,4 +1,4 @@
-use Rattle.walk_laws.proofs.Verdict.{aliased_trees_come_to_verdicts}
+use Rattle.walk_laws.proofs.ServedAliases.{aliased_trees_come_to_verdicts}
 use Rattle.walk_laws.proofs.laws.aliased_trees_come_to_verdicts.Goals as goal
 
 pub returns : goal.returns

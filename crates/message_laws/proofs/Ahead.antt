@@ -21,7 +21,7 @@ use Rattle.messages.proofs.ZoneNames.{labels_eq-same}
 use Rattle.answer_scheme.specs.Answers.{Answers}
 use Rattle.answer_terms.specs.Accepting.{sorted_records, zone_of}
 use Rattle.answer_terms.specs.Hashing.{hash_in}
-use Rattle.answer_terms.specs.Served.{ServedRrset, Served, ahead, ahead_open, answer_groups, by_tag, chain_names, expanded, proofs_of, rrset, speaks_for, spoken, under}
+use Rattle.answer_terms.specs.Served.{ServedRrset, Served, ahead, ahead_open, answer_groups, by_tag, chain_names, expanded, proofs_of, rrset, speaks_for, under}
 use Rattle.answer_terms.specs.Told.{AreRecords, AreSignatures, TellsGroups}
 use Rattle.answer_zone.specs.Finding.{finds}
 use Rattle.answer_zone.specs.ZoneAnswers.{answered}
@@ -33,8 +33,8 @@ use Rattle.answer_judge.specs.Judged.{trusting}
 use Rattle.answer_judge_facts.specs.Verified.{Trusting, verified_rrset}
 use Rattle.answer_findings.specs.Hints.{answer_records, has_cname_hint}
 use Rattle.answer_findings.specs.Judgements.{alias_hint, asking}
-use Rattle.walk_laws.specs.Aliased.{WasGivenWithAliases}
-use Rattle.walk_laws.proofs.Gave.{usable, zone_servable}
+use Rattle.message_laws.specs.Given.{WasGivenWithAliases}
+use Rattle.message_laws.proofs.GivenAliases.{usable, zone_servable}
 use Rattle.message_laws.proofs.Whether.{of_chain, unsigned}
 
 -- records that suggest a DNAME above the name, and a CNAME at it

@@ -1,5 +1,0 @@
-use Rattle.walk_laws.proofs.Served.{served_zones_are_walked}
-use Rattle.walk_laws.proofs.laws.served_zones_are_walked.Goals as goal
-
-pub returns : goal.returns
-returns c = served_zones_are_walked c.trees_say_one.ensures c.trees_resolve_to_one.ensures

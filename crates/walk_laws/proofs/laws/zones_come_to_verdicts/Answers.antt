@@ -1,5 +1,0 @@
-use Rattle.walk_laws.proofs.Verdict.{zones_come_to_verdicts}
-use Rattle.walk_laws.proofs.laws.zones_come_to_verdicts.Goals as goal
-
-pub returns : goal.returns
-returns c = zones_come_to_verdicts c.trees_say_one.ensures c.trees_resolve_to_one.ensures
