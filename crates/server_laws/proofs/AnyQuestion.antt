@@ -1,20 +1,17 @@
 -- A judge that takes answers to other questions says the same of messages whose records are alike, whatever they ask.
-use Rattle.std.proofs.Common.{◌≡◌, ℕ, Bool, true, false, not, ◌&&◌, ◌||◌, List, filter, length, Option, Some, None, Result, Ok, Err, nat_eq, sym, ap, ◌∙◌}
+use Rattle.std.proofs.Common.{◌≡◌, ℕ, Bool, true, false, ◌&&◌, ◌||◌, List, filter, length, Option, Ok, nat_eq, sym, ap, ◌∙◌}
 use Rattle.std.specs.Prelude.{if◌then◌else◌}
 use Rattle.std.specs.List.{AllZip, list_any}
 use Rattle.definitions.specs.Dnskey.{Dnskey}
-use Rattle.definitions.specs.Name.{Name}
-use Rattle.definitions.specs.Zone.{Unsigned}
 use Rattle.denial_laws.specs.Facts.{Facts}
-use Rattle.messages.specs.declared.error.MessageError.{MessageError}
-use Rattle.messages.specs.Message.{Asked, Message, message}
+use Rattle.messages.specs.Message.{Message, message}
 use Rattle.answer_scheme.specs.Answers.{Answers}
 use Rattle.answer_terms.specs.Alike.{IsLike}
 use Rattle.answer_terms.specs.EqualTags.{has_equal_tags}
 use Rattle.answer_terms.specs.FactsCase.{low_facts}
 use Rattle.answer_terms.proofs.FactsCase.{caseless}
 use Rattle.answer_judge_rules.specs.Hashes.{hash_among}
-use Rattle.answer_judge.specs.Judging.{Answer, JudgeInput, Refuses, Says, is_judged, may_ask, message_refusal, same_question}
+use Rattle.answer_judge.specs.Judging.{Answer, JudgeInput, Refuses, is_judged, may_ask, message_refusal, same_question}
 use Rattle.answer_judge_keys.specs.DnskeyAnswer.{keys_in}
 use Rattle.answer_judge_keys.specs.Trusted.{is_usable}
 use Rattle.answer_judge.specs.declared.verdict.Refusal.{Refusal}
@@ -22,7 +19,7 @@ use Rattle.answer_judge.specs.declared.verdict.Refusal.TheVariants as r
 use Rattle.answer_judge.specs.Judged.{are_mixed, are_over, by_facts, ds_authenticates_keys, facts_in, is_unhashed, judged, judged_answer, judged_bytes, judged_facts, judged_messages, keys_of, trusting}
 use Rattle.answer_judge_facts.specs.Times.{are_unlike, proof_times}
 use Rattle.answer_judge_facts.specs.Verified.{Trusting, verified_facts}
-use Rattle.message_laws.specs.SeenAlike.{is_covering, is_used}
+use Rattle.message_laws.specs.SeenAlike.{VerifiesAlike, is_covering, is_used}
 use Rattle.message_laws.proofs.FactsAlike.{all_bare_times, all_times, bare_facts, facts_alike}
 use Rattle.message_laws.proofs.JudgedAlike.{asked_for_keys, judged_of, refused_by, refused_of, said_of}
 
@@ -79,17 +76,29 @@ module _ (a : Answers) (k : ℕ) (h : JudgeInput) (any : h.other_question ≡ tr
     pub answers_judged : judged a k one_handing ≡ judged a k other_handing
     answers_judged = λ i. said_of (is_judged h) (nat_eq (length h.ds) 0) (answer_first i) (answer_bytes_judged i)
 
-  -- where the records are alike that are used for the type that is asked for
-  pub any_alike : AllZip (IsLike k m n) (filter (is_used h.asked.rtype) one.records) (filter (is_used h.asked.rtype) other.records) → judged a k one_handing ≡ judged a k other_handing
-  any_alike alike =
-      answers_judged
-      (λ w. facts_alike k m n h.asked.rtype one.records other.records alike w h.asked.name)
-      (λ w. all_times k m n h.asked.rtype one.records other.records alike w h.asked.name)
+-- where the same is verified
+pub any_judged : (a : Answers) (k : ℕ) (h : JudgeInput) (m n : List ℕ) → h.other_question ≡ true → VerifiesAlike k h.asked.rtype m n → judged a k (record h { answer_bytes = m }) ≡ judged a k (record h { answer_bytes = n })
+any_judged a k h m n any v = answers_judged a k h any m n v.one v.other v.reads_one v.reads_other (λ w. v.facts w h.asked.name) (λ w. v.times w h.asked.name)
 
-  -- where signatures and records of chains are alike, and no signature covers that type
-  pub any_uncovered : AllZip (IsLike k m n) (filter (is_used 46) one.records) (filter (is_used 46) other.records) → list_any (is_covering k n h.asked.rtype) other.records ≡ false
-      → judged a k one_handing ≡ judged a k other_handing
-  any_uncovered alike bare =
-      answers_judged
-      (λ w. bare_facts k m n h.asked.rtype one.records other.records alike bare w h.asked.name)
-      (λ w. all_bare_times k m n h.asked.rtype one.records other.records alike bare w h.asked.name)
+module _ (k t : ℕ) (m n : List ℕ) (one other : Message) (reads_one : message k m ≡ Ok one) (reads_other : message k n ≡ Ok other) where
+  -- so it is where the records are alike that are used for a type
+  pub any_alike : AllZip (IsLike k m n) (filter (is_used t) one.records) (filter (is_used t) other.records) → VerifiesAlike k t m n
+  any_alike alike = record {
+    one = one;
+    other = other;
+    reads_one = reads_one;
+    reads_other = reads_other;
+    facts = facts_alike k m n t one.records other.records alike;
+    times = all_times k m n t one.records other.records alike;
+  }
+
+  -- and where signatures and records of chains are alike, and no signature covers that type
+  pub any_uncovered : AllZip (IsLike k m n) (filter (is_used 46) one.records) (filter (is_used 46) other.records) → list_any (is_covering k n t) other.records ≡ false → VerifiesAlike k t m n
+  any_uncovered alike bare = record {
+    one = one;
+    other = other;
+    reads_one = reads_one;
+    reads_other = reads_other;
+    facts = bare_facts k m n t one.records other.records alike bare;
+    times = all_bare_times k m n t one.records other.records alike bare;
+  }

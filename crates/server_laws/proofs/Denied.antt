@@ -8,14 +8,13 @@ use Rattle.messages.specs.HandedRr.{HandedRr, among}
 use Rattle.messages.specs.Message.{Asked, Message, Spelled, message, pair}
 use Rattle.messages.specs.Written.{Written}
 use Rattle.messages.specs.WrittenLaws.{IsQuestion, first_place, spelled_from}
-use Rattle.answer_scheme.specs.Answers.{Answers}
 use Rattle.answer_zone.specs.ZoneAnswers.{flags_for}
-use Rattle.answer_judge.specs.Judging.{JudgeInput}
 use Rattle.answer_judge.specs.Judged.{judged}
 use Rattle.server_answers.specs.Composed.{joined}
 use Rattle.server_answers.specs.Glue.{IsAddress, glue}
 use Rattle.server_answers.specs.Responding.{IsMessage, Serving}
 use Rattle.server_answers.specs.Aliases.{for_type}
+use Rattle.server_answers.specs.Glued.{AnswersGlued}
 use Rattle.server_answers.specs.Subset.{wants_signatures}
 use Rattle.server_answers.specs.Synthesized.{reserved}
 use Rattle.server_answers.specs.Table.{sign_by, verify_by}
@@ -26,9 +25,9 @@ use Rattle.server_queries.specs.Queries.{Queried}
 use Rattle.server_responses.specs.Links.{shows_link}
 use Rattle.server_responses.specs.Responses.{AnswersQuery, is_dnssec_ok, response_of}
 use Rattle.server_responses.specs.Sections.{written_as_handed}
-use Rattle.server_laws.specs.Heard.{AliasesJudgedAlike, DenialsJudgedAlike, HoldsAll, IsWhole, SubsetsJudgedAlike, asks_soa, has_link_in, is_link_shown, is_truncated}
+use Rattle.server_laws.specs.Heard.{AliasesJudgedAlike, DenialsJudgedAlike, HoldsAll, IsWhole, ShowsAlike, SubsetsJudgedAlike, asks_soa, has_link_in, is_link_shown, is_truncated}
 use Rattle.server_laws.proofs.Alone.{SignsOther}
-use Rattle.server_laws.proofs.Beside.{AreSpare, whole_judged}
+use Rattle.server_laws.proofs.Beside.{AreSpare, shown_judged, whole_shows}
 use Rattle.server_laws.proofs.Chosen.{chosen_plain}
 use Rattle.server_laws.proofs.Heard.{AreBare, alone, bare, by_table, hold_all, ok_is, told, unused_all, zone_signed}
 use Rattle.server_laws.proofs.Linked.{link_judged}
@@ -54,17 +53,16 @@ module _ (flags : ℕ) (asked : Asked) (first second : List Written) (m : List �
   abbrev records_there : List Spelled
   records_there = spelled_all flags asked first second m is_alone
 
-  response_judged : (octets : List ℕ) → is_truncated octets ≡ false → AnswersQuery limit size q m gs octets
-      → (a : Answers) (h : JudgeInput) → h.other_question ≡ true → judged a pointer_limit (record h { answer_bytes = octets }) ≡ judged a pointer_limit (record h { answer_bytes = m })
-  response_judged octets clear (read, reads, are) a h any =
+  response_shows : (octets : List ℕ) → is_truncated octets ≡ false → AnswersQuery limit size q m gs octets → ShowsAlike octets m
+  response_shows octets clear (read, reads, are) =
       let said = message_read flags asked first second m is_alone in
       let same : response_of limit size q m read.records glue_there ≡ response_of limit size q m records_there glue_there = ap (λ (x : Message). response_of limit size q m x.records glue_there) (ok_is read _ (message pointer_limit m) reads said) in
       let found = all_where_clear flags asked first second m is_alone size q small is wanted glue_there (hold_all gs each) silent limit (ap is_truncated (sym (are ∙ same)) ∙ clear) in
-      subst (λ (o : List ℕ). judged a pointer_limit (record h { answer_bytes = o }) ≡ judged a pointer_limit (record h { answer_bytes = m })) (sym (are ∙ same ∙ found.0))
-      (whole_judged flags asked first second m size q is_alone small is wanted glue_there (hold_all gs each) (unused_all 46 gs refl each) (spare_glue gs (first ++ second) each are_bare) silent
+      subst (λ (o : List ℕ). ShowsAlike o m) (sym (are ∙ same ∙ found.0))
+      (whole_shows flags asked first second m size q is_alone small is wanted glue_there (hold_all gs each) (unused_all 46 gs refl each) (spare_glue gs (first ++ second) each are_bare) silent
       (pair m 2) (length (firsts flags asked first second m is_alone size q small is wanted glue_there (hold_all gs each) silent)) (length (seconds flags asked first second m is_alone size q small is wanted glue_there (hold_all gs each) silent)) (length glue_there)
       (counts_are flags asked first second m is_alone size q small is wanted glue_there (hold_all gs each) silent)
-      (omega (arith, found.1, fits)) a h any)
+      (unused_all 39 gs refl each) (omega (arith, found.1, fits)))
 
 -- ---- by a server
 
@@ -84,14 +82,14 @@ module _ (s : Serving) (q : Queried) (octets : List ℕ) (h : HoldsAll s q octet
     whole = h.whole;
   }
 
-  typed_judged : is_link_shown q m ≡ false → AnswersQuestion (by_table s (typing t q) octets of_type m) s.keys s.at (for_type t q.asked) m → AllByRecursion IsAddress (glue s.addresses m) → AnswersQuery s.limit s.size q m (glue s.addresses m) octets
-      → (a : Answers) (j : JudgeInput) → j.other_question ≡ true → judged a pointer_limit (record j { answer_bytes = octets }) ≡ judged a pointer_limit (record j { answer_bytes = m })
-  typed_judged none is each answers =
+  typed_shows : is_link_shown q m ≡ false → AnswersQuestion (by_table s (typing t q) octets of_type m) s.keys s.at (for_type t q.asked) m → AllByRecursion IsAddress (glue s.addresses m) → AnswersQuery s.limit s.size q m (glue s.addresses m) octets
+      → ShowsAlike octets m
+  typed_shows none is each answers =
       let said = told s (typing t q) octets of_type m is in
       let stands = alone s (typing t q) octets of_type m is in
       let silent : shows_link q m (spelled_from (first_place (for_type t q.asked)) (joined is.written.answers ++ joined is.written.authorities)) ≡ false =
       sym (ap (has_link_in q m) (alone_read (flags_for said) (for_type t q.asked) (joined is.written.answers) (joined is.written.authorities) m stands)) ∙ none in
-      response_judged (flags_for said) (for_type t q.asked) (joined is.written.answers) (joined is.written.authorities) m s.limit s.size q
+      response_shows (flags_for said) (for_type t q.asked) (joined is.written.answers) (joined is.written.authorities) m s.limit s.size q
       stands h.size h.limit h.asked h.wanted (glue s.addresses m) each (bare s (typing t q) octets of_type m is said refl)
       silent octets h.whole answers
 
@@ -101,7 +99,7 @@ denials_judged s q old new octets h d a j any apart =
     go (made.0 (sign_by s.table) (verify_by s.table) (own_entries s.table)).0 (is_link_shown q d.0.m) refl
   where
     go : AnswersQuestion (signed_by s.world (sign_by s.table) (verify_by s.table)) s.keys s.at (reserved q.asked) d.0.m → (b : Bool) → is_link_shown q d.0.m ≡ b → judged a pointer_limit (record j { answer_bytes = octets }) ≡ judged a pointer_limit (record j { answer_bytes = d.0.m })
-    go is false e = typed_judged s q octets h 65535 (lit< tt) refl d.0.m e is d.1.each d.1.answers a j any
+    go is false e = shown_judged octets d.0.m (typed_shows s q octets h 65535 (lit< tt) refl d.0.m e is d.1.each d.1.answers) a j any
     go is true e =
         link_judged (signed_by s.world (sign_by s.table) (verify_by s.table)) (zone_signed s.world (sign_by s.table) (verify_by s.table) h.zone) s.keys s.at q h.asked d.0.m is e h.wanted s.limit s.size s.addresses octets h.size h.limit h.whole d.1 a j any
         (ap (λ b. b && asks_soa s.world.zone.apex j.asked) (sym e) ∙ apart)
@@ -110,7 +108,8 @@ pub subsets_judged : SubsetsJudgedAlike
 subsets_judged s q old new octets h d silent small =
     let signs : wants_signatures q ≡ true = ap (λ b. b || eqb q.asked.rtype 46) h.wanted in
     let made = subst (λ (b : Bool). IsMessage s (for_type d.t q.asked) false b d.m) signs d.is_message in
-    typed_judged s q octets h d.t small (chosen_plain s.world s.keys s.at q.asked d.t d.chosen) d.m silent (made.0 (sign_by s.table) (verify_by s.table) (own_entries s.table)).0 d.answers.each d.answers.answers
+    shown_judged octets d.m
+    (typed_shows s q octets h d.t small (chosen_plain s.world s.keys s.at q.asked d.t d.chosen) d.m silent (made.0 (sign_by s.table) (verify_by s.table) (own_entries s.table)).0 d.answers.each d.answers.answers)
 
 -- a type of aliases is one of two
 pub of_aliases : (P : ℕ → Type 0) → P 5 → P 39 → (t : ℕ) → is_alias_type t ≡ true → P t
@@ -119,9 +118,14 @@ of_aliases P five other t e = ⊎_elim
     (λ is. subst P (sym (eqb-true t 39 is)) other)
     (or_cases (eqb t 5) (eqb t 39) e)
 
-pub aliases_judged : AliasesJudgedAlike
-aliases_judged s q t m octets h alias is answers silent =
+-- the response of the message for the RRset of an alias at the name
+pub alias_shows : (s : Serving) (q : Queried) (t : ℕ) (m octets : List ℕ) → HoldsAll s q octets → is_alias_type t ≡ true
+    → IsMessage s (for_type t q.asked) false (wants_signatures q) m → AnswersGlued s.limit s.size q s.addresses m octets → is_link_shown q m ≡ false → ShowsAlike octets m
+alias_shows s q t m octets h alias is answers silent =
     let signs : wants_signatures q ≡ true = ap (λ b. b || eqb q.asked.rtype 46) h.wanted in
     let made = subst (λ (b : Bool). IsMessage s (for_type t q.asked) false b m) signs is in
-    typed_judged s q octets h t (of_aliases (λ u. u < 65536) (lit< tt) (lit< tt) t alias) (of_aliases (λ u. among (46 ∷ 47 ∷ 50 ∷ []) u ≡ false) refl refl t alias) m silent
+    typed_shows s q octets h t (of_aliases (λ u. u < 65536) (lit< tt) (lit< tt) t alias) (of_aliases (λ u. among (46 ∷ 47 ∷ 50 ∷ []) u ≡ false) refl refl t alias) m silent
     (made.0 (sign_by s.table) (verify_by s.table) (own_entries s.table)).0 answers.each answers.answers
+
+pub aliases_judged : AliasesJudgedAlike
+aliases_judged s q t m octets h alias is answers silent = shown_judged octets m (alias_shows s q t m octets h alias is answers silent)

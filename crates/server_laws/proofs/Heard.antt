@@ -54,11 +54,11 @@ use Rattle.server_answers.specs.Table.{sign_by, verify_by}
 use Rattle.server_answers.proofs.Signing.{own_entries}
 use Rattle.server_answers.specs.Glued.{AnswersGlued}
 use Rattle.server_answers.specs.Responding.{IsMessage, Serving, is_for_keys}
-use Rattle.server_laws.specs.Heard.{ClientsAreShown, ClientsAreTold, IsJudgedAs, IsWhole, ParametersJudgedAlike, ResponsesJudgedAlike, is_truncated}
+use Rattle.server_laws.specs.Heard.{ClientsAreShown, ClientsAreTold, IsJudgedAs, IsWhole, ParametersJudgedAlike, ResponsesJudgedAlike, SuggestsAlike, is_truncated}
 use Rattle.server_answers.specs.Zones.{IsZone}
 use Rattle.server_laws.proofs.Alone.{IsOther, NoSignature, SignsOther, StandsAlone, groups_alone, groups_other}
 use Rattle.server_laws.proofs.Replied.{IsUnused}
-use Rattle.server_laws.proofs.Shown.{IsAlone, all_seen, all_where_clear, flags_told, in_message, message_read, none_covers, spelled_all, unasked, whole_all}
+use Rattle.server_laws.proofs.Shown.{IsAlone, all_seen, all_suggests, all_where_clear, flags_told, in_message, message_read, none_covers, spelled_all, unasked, whole_all}
 use Rattle.server_laws.proofs.ZoneGroups.{are_handed, groups_formed, groups_unsigned, referral_other}
 use Rattle.server_laws.proofs.Lists.{nothing}
 
@@ -168,12 +168,13 @@ judged_by asked none later answer = elim (if not asked then Some r.QuestionNotAl
 pub unjudged : (a : Answers) (h : JudgeInput) → is_judged h ≡ false → judged a pointer_limit h ≡ Refuses r.QuestionNotAllowed
 unjudged a h e = ap (λ b. judged_by b (nat_eq (length h.ds) 0) (message_refusal pointer_limit h) (judged_bytes a pointer_limit h)) e
 
-seen_judged : (m n : List ℕ) → SeenAlike pointer_limit 48 m n → ((t : ℕ) → (t == 41) ≡ false → ProvesAlike pointer_limit t m n) → IsJudgedAs m n
-seen_judged m n keys proves = record {
+seen_judged : (m n : List ℕ) → SeenAlike pointer_limit 48 m n → ((t : ℕ) → (t == 41) ≡ false → ProvesAlike pointer_limit t m n) → SuggestsAlike m n → IsJudgedAs m n
+seen_judged m n keys proves suggests = record {
   answers = λ a h. of_type a h (h.asked.rtype == 41) refl;
   keys = λ a h. keys_alike a pointer_limit h m n keys;
   proves = proves;
   seen = keys;
+  suggests = suggests;
 }
   where
     of_type : (a : Answers) (h : JudgeInput) (b : Bool) → (h.asked.rtype == 41) ≡ b → judged a pointer_limit (record h { answer_bytes = m }) ≡ judged a pointer_limit (record h { answer_bytes = n })
@@ -226,7 +227,9 @@ module _ (flags : ℕ) (asked : Asked) (first second : List Written) (m : List �
   of_type few t other true e = ⊎_elim (without few t other) (covered few t) (bare t e)
 
   whole_judged : length the_whole ≤ 65535 → IsJudgedAs the_whole m
-  whole_judged few = seen_judged the_whole m (seen few 48 (unused_all 48 gs refl each) refl) (λ t other. of_type few t (eqb-back 41 t ∙ other) (eqb t 1 || eqb t 28) refl)
+  whole_judged few =
+      seen_judged the_whole m (seen few 48 (unused_all 48 gs refl each) refl) (λ t other. of_type few t (eqb-back 41 t ∙ other) (eqb t 1 || eqb t 28) refl)
+      (all_suggests flags asked first second m alone size q small is wanted more (hold_all gs each) silent (unused_all 39 gs refl each) few)
 
   response_judged : (octets : List ℕ) → is_truncated octets ≡ false → AnswersQuery limit size q m gs octets → IsJudgedAs octets m
   response_judged octets clear (read, reads, are) =
@@ -289,7 +292,7 @@ module _ (s : Serving) (q : Queried) (octets : List ℕ) (h : IsWhole s q octets
   zone_table = zone_signed s.world (sign_by s.table) (verify_by s.table) h.zone
 
   -- it is no question for NSEC
-  link_unasked : eqb q.asked.rtype 47 ≡ false
+  pub link_unasked : eqb q.asked.rtype 47 ≡ false
   link_unasked = let p46 = or_parts (eqb q.asked.rtype 46) _ h.plain in (or_parts (eqb q.asked.rtype 47) _ p46.1).0
 
   abbrev the_served : Served
@@ -385,6 +388,6 @@ clients_told s t q p old new before behind key_octets octets whole d other r a h
 
 pub clients_shown : ClientsAreShown
 clients_shown s t q p old new before behind key_octets octets whole d other r a h mode rs small given =
-    alike_shows_alike a pointer_limit h mode rs key_octets d.m octets r.m (responses_judged s q old new key_octets whole d).seen (responses_judged t p before behind octets other r).proves
+    alike_shows_alike a pointer_limit h mode rs key_octets d.m octets r.m (responses_judged s q old new key_octets whole d).seen (λ u plain. ((responses_judged t p before behind octets other r).proves u plain).verified)
     (inl (answered a pointer_limit (record h { dnskey_bytes = d.m; answer_bytes = r.m }) mode rs small given))
     (given_is_shown a pointer_limit (record h { dnskey_bytes = d.m; answer_bytes = r.m }) mode rs small given)

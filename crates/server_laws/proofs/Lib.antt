@@ -4,6 +4,7 @@ pub mod Framed
 pub mod Alone
 pub mod ZoneGroups
 pub mod Replied
+pub mod Hints
 pub mod Shown
 pub mod Heard
 pub mod AnyQuestion
@@ -15,3 +16,4 @@ pub mod Idle
 pub mod Linked
 pub mod Denied
 pub mod Aliased
+pub mod Aliasing

@@ -6,7 +6,6 @@ use Rattle.std.specs.Option.{is_some, option_map}
 use Rattle.std.proofs.lemmas.Bool.{and_parts, eqb-true}
 use Rattle.std.proofs.lemmas.List.{append-nil}
 use Rattle.definitions.specs.Dnskey.{Dnskey}
-use Rattle.definitions.specs.Limits.{pointer_limit}
 use Rattle.definitions.specs.Name.{IsName, Name, labels_eq, low, strictly_above}
 use Rattle.definitions.specs.Zone.{Records, Zone, data_at, is_delegation, verdict}
 use Rattle.definitions.specs.ZoneChain.{Mode, optout_of}
@@ -25,7 +24,6 @@ use Rattle.messages.proofs.Lists.{list_any-map}
 use Rattle.messages.proofs.MessageWritten.{end_of}
 use Rattle.messages.proofs.NameLaws.{wire_len-cons}
 use Rattle.answer_publisher_keys.specs.Bindings.{ZoneKeys, keys_by_tag}
-use Rattle.answer_scheme.specs.Answers.{Answers}
 use Rattle.answer_scheme.specs.Moments.{second_of}
 use Rattle.answer_terms.specs.Accepting.{rr_of, sorted_records}
 use Rattle.answer_terms.specs.GroupView.{GroupView, view_of}
@@ -37,8 +35,6 @@ use Rattle.answer_zone_records.proofs.Targets.{spelled}
 use Rattle.answer_zone_records.proofs.ZoneInOrder.{records_in_order}
 use Rattle.alias_laws.proofs.Aliases.{targets}
 use Rattle.alias_laws.proofs.Leading.{Redirects, redirector}
-use Rattle.answer_judge.specs.Judging.{JudgeInput}
-use Rattle.answer_judge.specs.Judged.{judged}
 use Rattle.server_answers.specs.Aliases.{alias_in_place, alias_of, asks_all, asks_beside, for_type, may_lead}
 use Rattle.server_answers.specs.Composed.{IsWritten, joined, rrsig_of}
 use Rattle.server_answers.specs.Outcomes.{signed_by}
@@ -54,11 +50,11 @@ use Rattle.server_queries.specs.Queries.{Queried}
 use Rattle.server_responses.specs.Links.{is_authoritative, is_link_of, shows_link}
 use Rattle.server_responses.specs.Redirects.{Redirected, is_dname_above, made_cname, redirect_flags, redirect_in, redirect_of, redirect_response, redirected, redirected_by_first, redirected_in, whole_redirect}
 use Rattle.server_responses.specs.Responses.{counted, error_response, is_dnssec_ok, reply_octets, response_flags}
-use Rattle.server_laws.specs.Heard.{is_truncated}
+use Rattle.server_laws.specs.Heard.{HoldsAll, ShowsAlike, is_truncated}
 use Rattle.server_answers.specs.Zones.{IsZone}
 use Rattle.server_laws.specs.Redirected.{IsRedirected, RedirectsAreMade, RedirectsJudgedAlike}
 use Rattle.server_laws.proofs.Alone.{IsOther, SignsOther}
-use Rattle.server_laws.proofs.Beside.{AreSpare, whole_judged}
+use Rattle.server_laws.proofs.Beside.{AreSpare, shown_judged, whole_shows}
 use Rattle.server_laws.proofs.Heard.{answer_alone, answer_other, zone_servable, zone_signed}
 use Rattle.server_laws.proofs.Replied.{IsUnused, limited, whole_where_clear}
 use Rattle.server_laws.proofs.Shown.{IsAlone, datas, first_part, firsts, message_read, second_part, seconds, seconds_as_many, spelled_all, whole}
@@ -339,13 +335,12 @@ module _ (w : World) (zone : IsZone w) (keys : ZoneKeys) (at : ℕ) (q : Queried
     whole_is : whole_redirect size q m records leads ≡ the_whole
     whole_is = ap (reply_octets size q (response_flags q.header bits false) (counted (length (fs ++ made)) (length ss) 0)) octets_are
 
-    redirect_judged : (octets : List ℕ) → is_truncated octets ≡ false → octets ≡ redirect_of limit size q m records leads
-        → (a : Answers) (h : JudgeInput) → h.other_question ≡ true → judged a pointer_limit (record h { answer_bytes = octets }) ≡ judged a pointer_limit (record h { answer_bytes = m })
-    redirect_judged octets clear are a h any =
+    redirect_shows : (octets : List ℕ) → is_truncated octets ≡ false → octets ≡ redirect_of limit size q m records leads → ShowsAlike octets m
+    redirect_shows octets clear are =
         let same : octets ≡ limited size q m limit the_whole = are ∙ ap (limited size q m limit) whole_is in
         let found = whole_where_clear size q m limit the_whole (ap is_truncated (sym same) ∙ clear) in
-        subst (λ (o : List ℕ). judged a pointer_limit (record h { answer_bytes = o }) ≡ judged a pointer_limit (record h { answer_bytes = m })) (sym (same ∙ found.0))
-        (whole_judged flags (asking d q.asked) first second m size q is_alone small question wanted made (made_hold leads.lead) (made_unused 46 refl leads.lead) spare silent bits (length (fs ++ made)) (length ss) 0 counted_is (omega (arith, found.1, fits)) a h any)
+        subst (λ (o : List ℕ). ShowsAlike o m) (sym (same ∙ found.0))
+        (whole_shows flags (asking d q.asked) first second m size q is_alone small question wanted made (made_hold leads.lead) (made_unused 46 refl leads.lead) spare silent bits (length (fs ++ made)) (length ss) 0 counted_is (made_unused 39 refl leads.lead) (omega (arith, found.1, fits)))
 
 -- ---- by a server
 
@@ -374,8 +369,10 @@ module _ (s : Serving) (q : Queried) (alias : Asked) (m : List ℕ) (zone : IsZo
 pub redirects_made : RedirectsAreMade
 redirects_made s q alias m zone question r = by_wish s q alias m zone question r (wants_signatures q) (for_it s q alias m zone question r)
 
-pub redirects_judged : RedirectsJudgedAlike
-redirects_judged s q alias m octets h r are a j any =
+-- the response of the message for a DNAME above the name
+pub redirected_shows : (s : Serving) (q : Queried) (alias : Asked) (m octets : List ℕ) → HoldsAll s q octets → IsRedirected s q alias m
+    → octets ≡ unwrap_or (redirect_response s.limit s.size q m) (error_response s.size q 2) → ShowsAlike octets m
+redirected_shows s q alias m octets h r are =
     let there = led_there s q alias m h.zone h.asked r in
     let signs : wants_signatures q ≡ true = ap (λ b. b || eqb q.asked.rtype 46) h.wanted in
     let made = subst (λ (b : Bool). IsMessage s (asking there.owner q.asked) false b m) signs (for_it s q alias m h.zone h.asked r) in
@@ -384,5 +381,8 @@ redirects_judged s q alias m octets h r are a j any =
     let zone : IsZone w = zone_signed s.world (sign_by s.table) (verify_by s.table) h.zone in
     let above = above_it s q alias m h.zone h.asked r in
     let said = response_is w zone s.keys s.at q there.owner h.asked there.found above m is s.limit s.size in
-    redirect_judged w zone s.keys s.at q there.owner h.asked there.found above m is s.limit s.size h.size h.limit h.wanted octets h.whole
-    (are ∙ ap (λ (o : Option (List ℕ)). unwrap_or o (error_response s.size q 2)) said) a j any
+    redirect_shows w zone s.keys s.at q there.owner h.asked there.found above m is s.limit s.size h.size h.limit h.wanted octets h.whole
+    (are ∙ ap (λ (o : Option (List ℕ)). unwrap_or o (error_response s.size q 2)) said)
+
+pub redirects_judged : RedirectsJudgedAlike
+redirects_judged s q alias m octets h r are = shown_judged octets m (redirected_shows s q alias m octets h r are)

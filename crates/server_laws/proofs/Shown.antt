@@ -1,17 +1,20 @@
 -- What a response has of a message, read as it stands there.
-use Rattle.std.proofs.Common.{◌≡◌, ℕ, suc, ◌+◌, ◌<◌, ◌≤◌, Bool, true, false, not, ◌&&◌, ◌||◌, List, [], ◌∷◌, ◌++◌, length, map, take, drop, Option, Some, None, Ok, cond, eqb, refl, sym, subst, ap, ◌∙◌, append_assoc, length-append, arith, le_refl}
+use Rattle.std.proofs.Common.{◌≡◌, ℕ, suc, ◌+◌, ◌<◌, ◌≤◌, Bool, true, false, not, ◌&&◌, ◌||◌, List, [], ◌∷◌, ◌++◌, length, map, take, drop, Option, Some, None, Result, Ok, cond, eqb, refl, sym, subst, ap, ◌∙◌, append_assoc, length-append, arith, le_refl}
 use Rattle.std.specs.List.{AllByRecursion, AllZip, filter, flat_map, list_any}
 use Rattle.std.proofs.Math.Nat.{min-le_left}
 use Rattle.std.proofs.lemmas.List.{append-nil}
 use Rattle.std.proofs.lemmas.List.Concat.{flat_map-append}
 use Rattle.definitions.specs.Limits.{pointer_limit}
 use Rattle.definitions.specs.Name.{IsName, low}
+use Rattle.messages.specs.declared.error.MessageError.{MessageError}
 use Rattle.messages.specs.Message.{Asked, Message, Spelled, data_of, message, pair}
 use Rattle.messages.specs.Written.{Written, message_octets, record_octets}
 use Rattle.messages.specs.WrittenLaws.{AreSections, IsQuestion, IsRecord, first_place, spelled_at, spelled_from}
 use Rattle.messages.proofs.MessageWhole.{message_here}
 use Rattle.messages.proofs.MessageWritten.{StandsAt, end_of}
 use Rattle.answer_terms.specs.Alike.{IsLike}
+use Rattle.answer_judge.specs.Judging.{JudgeInput}
+use Rattle.answer_findings.specs.Judgements.{alias_hint}
 use Rattle.message_laws.specs.SeenAlike.{SeenAlike, is_covering, is_used, is_used_type}
 use Rattle.server_answers.proofs.WritesGroups.{Holds}
 use Rattle.server_answers.proofs.WritesRecords.{rest_stands}
@@ -20,6 +23,7 @@ use Rattle.server_responses.specs.Links.{is_authoritative, is_link_of, shows_lin
 use Rattle.server_responses.specs.Responses.{answers_shown, authority_shown, counted, is_dnssec_ok, reply_octets, response_flags, response_of, whole_response}
 use Rattle.server_responses.specs.Sections.{answer_section, authority_section, is_added, is_soa_or_its_signature, negative_ttl, no_greater, written_at}
 use Rattle.server_laws.proofs.Alone.{SameButTtl, SignsOther, StandsAlone, records_alike, uncovered}
+use Rattle.server_laws.proofs.Hints.{named_like, no_dnames, suggested}
 use Rattle.server_laws.proofs.Framed.{answers_of, authority_of, flags_of, framed, message_framed, records_of}
 use Rattle.server_laws.proofs.Lists.{all_joined}
 use Rattle.server_laws.proofs.Replied.{IsUnused, limited, message_of, opts, replied, replied_reads, replied_stands, unused_opts, whole_where_clear}
@@ -332,6 +336,19 @@ module _ (flags : ℕ) (asked : Asked) (answers authority : List Written) (m : L
           all_turned pointer_limit m whole (filter (is_used t) spelled_all) (filter (is_used t) shown_message.records)
           (subst (λ xs. AllZip (IsLike pointer_limit m whole) (filter (is_used t) spelled_all) (filter (is_used t) xs)) (sym (ap (spelled_from (first_place q.asked)) two_parts ∙ spelled_more (first_place q.asked) (firsts ++ seconds) extras)) used)
 
+      abbrev reads_as : List Spelled → Result Message MessageError
+      reads_as rs = Ok (record { asked = q.asked; records = rs })
+
+      -- of aliases it suggests what the message does
+      pub whole_suggests : AllByRecursion (IsUnused 39) more → length whole ≤ 65535
+          → (h : JudgeInput) (alias : Asked) → alias_hint pointer_limit (record h { answer_bytes = m }) ≡ Some alias → alias_hint pointer_limit (record h { answer_bytes = whole }) ≡ Some alias
+      whole_suggests spare few h alias e =
+          let behind : ℕ = place_behind (first_place q.asked) (firsts ++ seconds) in
+          suggested pointer_limit h whole m q.asked asked spelled_all (spelled_from (first_place q.asked) (firsts ++ seconds)) (spelled_from behind extras) message_read
+          (whole_reads few ∙ ap reads_as (ap (spelled_from (first_place q.asked)) two_parts ∙ spelled_more (first_place q.asked) (firsts ++ seconds) extras))
+          (named_like place (first_place q.asked) (answers ++ authority) (firsts ++ seconds) (same_append answers firsts authority seconds shown_answers shown_authority))
+          (no_dnames behind extras (all_joined (IsUnused 39) more (opts size q.edns) spare (unused_opts 39 size q.edns refl))) alias e
+
     -- ---- responses that have all records of the message and the others
 
     -- whose header counts the others as those of the additional section
@@ -352,6 +369,10 @@ module _ (flags : ℕ) (asked : Asked) (answers authority : List Written) (m : L
       class_is = class;
       records_are = whole_used (pair m 2) (length firsts) (length seconds) (length more) counts_are t spare other few;
     }
+
+    pub all_suggests : AllByRecursion (IsUnused 39) more → length whole_all ≤ 65535
+        → (h : JudgeInput) (alias : Asked) → alias_hint pointer_limit (record h { answer_bytes = m }) ≡ Some alias → alias_hint pointer_limit (record h { answer_bytes = whole_all }) ≡ Some alias
+    all_suggests spare few = whole_suggests (pair m 2) (length firsts) (length seconds) (length more) counts_are spare few
 
     all_is : whole_response size q m spelled_all more ≡ whole_all
     all_is =

@@ -1,6 +1,7 @@
 //! Laws of the responses of a name server.
 ghost use Rattle.server_laws.specs.Aliased.{AliasesAreAnswered, AllowedAreAliased};
-ghost use Rattle.server_laws.specs.Heard.{AliasesJudgedAlike, ClientsAreShown, ClientsAreTold};
+ghost use Rattle.server_laws.specs.Heard.{AliasedClientsAreShown, AliasesJudgedAlike};
+ghost use Rattle.server_laws.specs.Heard.{ClientsAreShown, ClientsAreTold};
 ghost use Rattle.server_laws.specs.Heard.{DenialsJudgedAlike};
 ghost use Rattle.server_laws.specs.Heard.{ParametersJudgedAlike, ResponsesJudgedAlike};
 ghost use Rattle.server_laws.specs.Heard.{SubsetsJudgedAlike};
@@ -69,9 +70,13 @@ pub fn aliases_answer_for_their_names()
 /// one for the keys, that are made of what a zone under keys that meet has given, a judge says the
 /// zone's verdict. The responses show what the zone answers, so a walk over the responses of such
 /// zones is stuck only for want of memory.
+///
+/// So do those of a zone with aliases, also where a CNAME answers, or a DNAME above the name: in the
+/// response to a question for that name, beside the CNAME that is made, or with YXDOMAIN.
 pub fn clients_are_told_the_verdict()
     ensures told { ClientsAreTold }
     ensures shown { ClientsAreShown }
+    ensures aliased { AliasedClientsAreShown }
 {}
 
 /// A zone answers alike for all types of which it holds no record, but DS, which is the parent's at
