@@ -1,0 +1,10 @@
+pub mod Ready
+pub mod Names
+pub mod Ordered
+pub mod Unforged
+pub mod ParentDealt
+pub mod ChildDealt
+pub mod Lookup
+pub mod Apart
+pub mod OfTree
+pub mod Tree

@@ -1,0 +1,3 @@
+pub mod Zones
+pub mod Signed
+pub mod Evidence

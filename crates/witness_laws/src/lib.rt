@@ -1,0 +1,4 @@
+//! A tree of two zones, and evidence of it.
+#![tactic(auto)]
+
+pub mod evidence;
