@@ -60,7 +60,7 @@ enum zermuita_zone_reply {
      */
     ZERMUITA_ZONE_OUT_OF_MEMORY = 70, /* memory ran out */
     /*
-     * Only for master files, requests, zermuita_zone_due() and zermuita_zone_records().
+     * Only for master files, requests, zermuita_zone_due(), zermuita_zone_records() and zermuita_zone_facts().
      *
      * Do: Call again with room for `len` bytes.
      */
@@ -72,7 +72,11 @@ enum zermuita_zone_reply {
     ZERMUITA_ZONE_BAD_SIGNATURES = 72, /* the signatures are not entries */
     ZERMUITA_ZONE_BAD_CALL = 73,       /* a size, a number or a flag is unknown, or octets are null */
     ZERMUITA_ZONE_NOT_OPEN = 74,       /* the zone is not open */
-    ZERMUITA_ZONE_IS_OPEN = 75         /* the zone is open already */
+    ZERMUITA_ZONE_IS_OPEN = 75,        /* the zone is open already */
+    /* Do: Answer at a later time, `answers_from` of zermuita_zone_facts() or after it. */
+    ZERMUITA_ZONE_TOO_SOON = 76, /* the time of the answer is not after the last replacement */
+    /* Do: Use a smaller `backdate`, or a zone line with a longer lifetime. */
+    ZERMUITA_ZONE_EXPIRED = 77 /* signatures live no longer than `backdate` */
 };
 
 /* A zone, open or closed. */
@@ -168,6 +172,26 @@ uint32_t zermuita_zone_due(struct zermuita_zone *zone, uint32_t roll, uint8_t *o
 uint32_t zermuita_zone_records(struct zermuita_zone *zone, uint16_t rtype, uint8_t *out, size_t out_len,
                                struct zermuita_zone_report *report);
 
+/* What the lines of a zone say about it. */
+struct zermuita_facts {
+    size_t size;   /* sizeof(struct zermuita_facts), set before the call */
+    size_t len;    /* how many bytes the zone's name has */
+    uint64_t last; /* the greatest time of a key call or a replacement; 0 if there is none */
+    /*
+     * The first second that the zone answers: the one after its last replacement, so that no second has two versions of the
+     * zone; 0 if there is no replacement; UINT64_MAX if there is no such second.
+     */
+    uint64_t answers_from;
+    uint32_t ttl;  /* the greatest TTL of its records, those that were replaced included */
+    uint32_t life; /* how many seconds a signature is valid */
+};
+
+/*
+ * Returns the facts of a zone. `out` gets its name as text, without a dot at the end unless it is the root (RFC 1035, section
+ * 5.1).
+ */
+uint32_t zermuita_zone_facts(struct zermuita_zone *zone, uint8_t *out, size_t out_len, struct zermuita_facts *facts);
+
 /* Returns the name of a reply and a sentence. */
 static inline const char *zermuita_zone_strerror(uint32_t reply) {
     switch (reply) {
@@ -183,6 +207,8 @@ static inline const char *zermuita_zone_strerror(uint32_t reply) {
     case ZERMUITA_ZONE_BAD_CALL: return "ZERMUITA_ZONE_BAD_CALL: a size, a number or a flag is unknown, or octets are null";
     case ZERMUITA_ZONE_NOT_OPEN: return "ZERMUITA_ZONE_NOT_OPEN: the zone is not open";
     case ZERMUITA_ZONE_IS_OPEN: return "ZERMUITA_ZONE_IS_OPEN: the zone is open already";
+    case ZERMUITA_ZONE_TOO_SOON: return "ZERMUITA_ZONE_TOO_SOON: the time of the answer is not after the last replacement";
+    case ZERMUITA_ZONE_EXPIRED: return "ZERMUITA_ZONE_EXPIRED: signatures live no longer than `backdate`";
     default: return "not a reply of a zone";
     }
 }
@@ -279,7 +305,8 @@ static inline uint32_t zermuita_zone_lines(const struct zermuita_master *master,
  *     } // still ZERMUITA_ZONE_SIGN: a signature is missing, send SERVFAIL
  *
  * A request changes no record and no key, but the zone notes the last time that it answered: a replacement at or before it is
- * refused.
+ * refused. An answer at or before the last replacement is refused too (ZERMUITA_ZONE_TOO_SOON), so each second has one version of
+ * the zone, also after the journal is opened again.
  *
  * @see zermuita_zone_open
  * @standards RFC 1035, section 4; RFC 2308, section 3; RFC 4034, section 3; RFC 4035, section 3.1; RFC 6891; RFC 9715.

@@ -28,17 +28,15 @@ static void follow_key(struct served *served, const char *line) {
 
 /* Applies lines that another server wrote behind the journal. */
 static bool follow_lines(struct served *served, char *lines, size_t len) {
-    uint64_t last = last_moment((const uint8_t *)lines, len);
     lines[len] = 0;
     served->journal.len += len;
-    served->floor = last > served->floor ? last : served->floor;
     if (strlen(lines) != len) {
         return open_served(served); /* an octet 0 is in no line, which is said there */
     }
     for (const char *line = lines; *line != 0; line = strchr(line, '\n') + 1) {
         follow_key(served, line);
     }
-    return apply_lines(served, lines, NULL) || open_served(served);
+    return (apply_lines(served, lines, NULL) && read_facts(served)) || open_served(served);
 }
 
 /*

@@ -2,7 +2,7 @@
  * Reports that nobody has to make: a process beside the server asks the zone's servers and the parent's, and makes a report, or ends a
  * roll, once all of them show the change. It believes what they say: the way to them is to be one on which nobody forges.
  *
- * A report's TTL is the greatest of what was there before: of the zone the greatest that a line of its journal has; of the parent the
+ * A report's TTL is the greatest of what was there before: of the zone the greatest that its records have or had; of the parent the
  * greatest that its servers said, which is known where each of them was asked while it had another DS set.
  */
 #ifndef WATCH_H
@@ -126,25 +126,43 @@ static bool have_ds(struct watch *watch, bool needs_ttl) {
     return watch->parent_count > 0 || lacks(watch, "none", "is named by --parent");
 }
 
-/* Reads the zone's name and the greatest TTL of all lines of its journal. */
-static bool read_zone(struct watch *watch) {
-    char path[512], name[NAME_TEXT] = "", *line = NULL;
-    size_t room = 0;
-    unsigned long ttl;
+/* The octets of the journal, in memory of their own; null where it cannot be read. */
+static uint8_t *read_lines(const struct watch *watch, size_t *len) {
+    char path[512], part[4096], *octets = NULL;
     snprintf(path, sizeof path, "%s/journal", watch->folder);
-    FILE *file = fopen(path, "r");
-    while (file != NULL && getline(&line, &room, file) > 0) {
-        sscanf(line, "zone %1023s", name);
-        if (sscanf(line, "rr %*s %lu", &ttl) == 1) {
-            watch->greatest = ttl > watch->greatest ? (uint32_t)ttl : watch->greatest;
-        }
+    FILE *file = fopen(path, "r"), *out = file == NULL ? NULL : open_memstream(&octets, len);
+    for (size_t count; out != NULL && (count = fread(part, 1, sizeof part, file)) > 0;) {
+        fwrite(part, 1, count, out);
     }
-    bool is_read = file != NULL && !ferror(file);
+    bool is_read = out != NULL && !ferror(file) && !ferror(out);
+    is_read = out != NULL && fclose(out) == 0 && is_read;
     if (file != NULL) {
         fclose(file);
     }
-    free(line);
-    return is_read && name[0] != 0 && read_name(name, &watch->name);
+    if (!is_read) {
+        free(octets);
+        return NULL;
+    }
+    return (uint8_t *)octets;
+}
+
+/* Reads the zone's name and the greatest TTL of the records that it has or had. */
+static bool read_zone(struct watch *watch) {
+    char name[NAME_TEXT];
+    size_t len = 0;
+    struct zermuita_zone zone = ZERMUITA_ZONE_CLOSED;
+    struct zermuita_zone_report report = {.size = sizeof report};
+    struct zermuita_facts facts = {.size = sizeof facts};
+    uint8_t *lines = read_lines(watch, &len);
+    bool is_open = lines != NULL && zermuita_zone_open(&zone, lines, len, (uint8_t *)name, sizeof name, &report) == ZERMUITA_ZONE_DONE;
+    bool is_read = is_open && zermuita_zone_facts(&zone, (uint8_t *)name, sizeof name - 1, &facts) == ZERMUITA_ZONE_DONE;
+    zermuita_zone_close(&zone);
+    free(lines);
+    if (is_read) {
+        name[facts.len] = 0;
+        watch->greatest = facts.ttl;
+    }
+    return is_read && read_name(name, &watch->name);
 }
 
 /* Makes the report that a line of the status asks for, or ends the roll, if all servers show what it is about. */

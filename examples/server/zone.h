@@ -30,7 +30,7 @@ struct served {
     struct limits limits;
     struct counts counts;
     const char *folder;
-    char apex[NAME_TEXT]; /* the zone's name, as the journal has it */
+    char apex[NAME_TEXT]; /* the zone's name */
     char path[512], key_folder[512]; /* of the journal, and of the keys */
     uint32_t backdate; /* everything is of the moment so many seconds before the clock */
     uint32_t step;     /* answers are of moments that are multiples of it, so that signatures serve again */
@@ -64,28 +64,18 @@ static uint64_t moment_of(const struct served *served, const char *words) {
     return is_report && next > moment ? next : moment;
 }
 
-/* The last moment of a journal's calls on keys and replacements: the last word of each. Other lines have none. */
-static uint64_t last_moment(const uint8_t *journal, size_t len) {
-    uint64_t last = 0;
-    const char *line = (const char *)journal, *behind = line + len, *end;
-    for (; line < behind && (end = memchr(line, '\n', (size_t)(behind - line))) != NULL; line = end + 1) {
-        bool is_call = *line != '#' && strncmp(line, "rr ", 3) != 0 && strncmp(line, "zone ", 5) != 0;
-        const char *word = is_call ? memrchr(line, ' ', (size_t)(end - line)) : NULL;
-        uint64_t moment = word != NULL ? strtoull(word + 1, NULL, 10) : 0;
-        last = moment > last ? moment : last;
+/* Reads the zone's name, and the first moment that is not before its lines: an answer is of none that a replacement had. */
+static bool read_facts(struct served *served) {
+    struct zermuita_facts facts = {.size = sizeof facts};
+    uint32_t reply = zermuita_zone_facts(&served->zone, (uint8_t *)served->apex, sizeof served->apex - 1, &facts);
+    if (reply != ZERMUITA_ZONE_DONE) {
+        log_failure("journal", zermuita_zone_strerror(reply));
+        return false;
     }
-    return last;
-}
-
-/* The zone's name, which stands behind the word `zone` in a journal's first line. */
-static void read_apex(struct served *served, const char *journal) {
-    const char *line = journal;
-    while (*line == '#' || *line == '\n') {
-        line += strcspn(line, "\n");
-        line += *line == '\n';
-    }
-    line += strncmp(line, "zone ", 5) == 0 ? 5 : 0;
-    snprintf(served->apex, sizeof served->apex, "%.*s", (int)strcspn(line, " \n"), line);
+    served->apex[facts.len] = 0;
+    served->floor = facts.last > served->floor ? facts.last : served->floor;
+    served->floor = facts.answers_from > served->floor ? facts.answers_from : served->floor;
+    return true;
 }
 
 /* Says why a journal is refused. */
@@ -122,10 +112,10 @@ static bool open_served(struct served *served) {
             return false;
         }
         bool is_settled = report.settled == report.whole;
-        uint64_t last = last_moment(octets, report.settled);
-        served->floor = last > served->floor ? last : served->floor;
-        read_apex(served, (const char *)octets);
         free(octets);
+        if (!read_facts(served)) {
+            return false;
+        }
         if (report.settled < served->journal.len) {
             LOG("cut", as_number("octets", served->journal.len - report.settled), as_number("left", report.settled));
             if (!cut_journal(&served->journal, report.settled)) {
@@ -205,7 +195,7 @@ static bool accept_line(struct served *served, const char *words, FILE *said) {
         return false;
     }
     line[len - 1] = '\n';
-    served->floor = moment;
+    read_facts(served);
     return keep_lines(served, line, (size_t)len, said);
 }
 
@@ -350,7 +340,7 @@ static bool replace_records(struct served *served, const char *path, FILE *said)
     char *lines = lines_of(path, master, replacement, said);
     bool is_done = false;
     if (lines != NULL && apply_lines(served, lines, said)) {
-        served->floor = moment;
+        read_facts(served);
         is_done = keep_lines(served, lines, strlen(lines), said);
     } else {
         zermuita_zone_forget(&served->zone);

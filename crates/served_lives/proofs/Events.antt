@@ -59,7 +59,7 @@ module _ (w : World) (st t : State) (s u : Sofar) (m : Mirrors w st s) (e : u �
   -- ---- a call on the keys
 
   by_call : (c : KeyCall) (at : ℕ) (actions : Vec Action) (keys : ZoneKeys)
-      → apply (digest_at w.answers.digest st.zone.apex) (call_of c) at st.keys ≡ Ok (keys, actions.items) → t ≡ called keys st
+      → apply (digest_at w.answers.digest st.zone.apex) (call_of c) at st.keys ≡ Ok (keys, actions.items) → t ≡ called at keys st
       → StepOf w s at (act.Key c) (outcome.Key (Ok actions)) u × Mirrors w t u
   by_call c at actions keys f g =
       let k : t.keys ≡ keys = ap (λ (x : State). x.keys) g in
@@ -82,7 +82,7 @@ module _ (w : World) (st t : State) (s u : Sofar) (m : Mirrors w st s) (e : u �
   -- ---- a replacement
 
   by_replacement : (at : ℕ) (gathered : Records) → map handed_of gathered.items ≡ st.gathered → AllByRecursion IsHanded st.gathered
-      → IsAccepted w.answers.hash st.zone.apex st.zone.mode st.zone.limit st.gathered → t ≡ replaced st
+      → IsAccepted w.answers.hash st.zone.apex st.zone.mode st.zone.limit st.gathered → t ≡ replaced at st
       → AllByRecursion IsHanded (map handed_of gathered.items)
       × IsAccepted w.answers.hash w.zone.apex w.zone.mode w.zone.limit (map handed_of gathered.items)
       × (u ≡ record s { records = sorted_records (map handed_of gathered.items) })

@@ -12,11 +12,11 @@ use Rattle.session_grammar.specs.Sessions.{fields_of}
 use Rattle.std.specs.Str.{is_utf8}
 use Rattle.server_zone.specs.Lines.{has_feed, unfinished, whole_lines}
 use Rattle.server_zone.specs.States.{Digest, State, made}
-use Rattle.server_zone.specs.Journals.{HasRead, IsOpenError, IsOpening, IsSettledAt, NoneSettledBehind, Phase, Empty, Beginning, Running, RefusesBehind, RefusesEnd, RefusesLines, ended, first_line, is_settled, is_there, journal_state, phase_view, with_line, with_lines}
+use Rattle.server_zone.specs.Journals.{HasRead, IsEndFit, IsJournalOf, IsLineFit, IsOpenError, IsOpening, IsSettledAt, Leads, NoneSettledBehind, Phase, Empty, Beginning, Running, RefusesBehind, RefusesEnd, RefusesLines, ended, first_line, is_settled, is_there, journal_state, phase_view, with_line, with_lines}
 use Rattle.server_zone.specs.declared.opening.Phase.{Phase as CodePhase}
 use Rattle.server_zone.specs.declared.refusals.Refusal.{Refusal}
 use Rattle.server_zone.proofs.LineLemmas.{all_unfinished, ends_behind, line_behind, line_in_front, no_lines, unfinished_append, whole_append}
-use Rattle.server_zone.proofs.JournalLemmas.{bind_ok, bind_some, with_whole_line}
+use Rattle.server_zone.proofs.JournalLemmas.{bind_ok, bind_some, leads_whole_line, leads_with}
 
 -- ---- a line behind which records are gathered stands behind that of the zone
 
@@ -62,9 +62,9 @@ ends_inside front line behind n whole feedless some inside ends =
     let none : take n line ≡ [] = sym (ap unfinished cut ∙ left) ∙ ends in
     absurd (omega (arith, some, ap length none, length-take-le n line inside))
 
-module _ {S H : Type 0} (digest : Digest) (scheme : S) (hasher : H) (journal rest line behind : List ℕ) (phase q : CodePhase S H) (number settled : ℕ)
-    (p : HasRead digest scheme hasher journal rest phase number settled) (cut : rest ≡ line ++ 10 ∷ behind) (feedless : has_feed line ≡ false)
-    (goes : with_line digest (phase_view phase) line ≡ Some (phase_view q)) (kept : IsOpening scheme hasher q) where
+module _ {S H : Type 0} (digest : Digest) (hash : Hasher) (scheme : S) (hasher : H) (journal rest line behind : List ℕ) (phase q : CodePhase S H) (number settled : ℕ)
+    (p : HasRead digest hash scheme hasher journal rest phase number settled) (cut : rest ≡ line ++ 10 ∷ behind) (feedless : has_feed line ≡ false)
+    (goes : with_line digest (phase_view phase) line ≡ Some (phase_view q)) (fit : IsLineFit hash (phase_view phase) line) (kept : IsOpening hash scheme hasher q) where
   next_front : List ℕ
   next_front = p.front ++ line ++ 10 ∷ []
 
@@ -72,9 +72,12 @@ module _ {S H : Type 0} (digest : Digest) (scheme : S) (hasher : H) (journal res
   unfolding next_front
   next_text = p.text_is ∙ ap (λ xs. p.front ++ xs) cut ∙ regroup p.front line behind
 
-  next_accepted : with_lines digest Empty (whole_lines next_front) ≡ Some (phase_view q)
+  next_accepted : Leads digest hash Empty (whole_lines next_front) (phase_view q)
   unfolding next_front
-  next_accepted = with_whole_line digest (phase_view phase) (phase_view q) p.front line p.whole feedless p.accepted goes
+  next_accepted = leads_whole_line digest hash (phase_view phase) (phase_view q) p.front line p.whole feedless p.accepted goes fit
+
+  next_with : with_lines digest Empty (whole_lines next_front) ≡ Some (phase_view q)
+  next_with = leads_with digest hash Empty (phase_view q) (whole_lines next_front) next_accepted
 
   next_number : number + 1 ≡ length (whole_lines next_front)
   unfolding next_front
@@ -83,7 +86,7 @@ module _ {S H : Type 0} (digest : Digest) (scheme : S) (hasher : H) (journal res
   shorter : length rest ≡ length line + 1 + length behind
   shorter = omega (arith, ap length cut, length-append line (10 ∷ behind))
 
-  pub progress_settled : (n : ℕ) → n + length behind ≡ length journal → is_settled (phase_view q) ≡ true → HasRead digest scheme hasher journal behind q (number + 1) n
+  pub progress_settled : (n : ℕ) → n + length behind ≡ length journal → is_settled (phase_view q) ≡ true → HasRead digest hash scheme hasher journal behind q (number + 1) n
   unfolding next_front
   progress_settled n h s = record {
     front = next_front;
@@ -95,7 +98,7 @@ module _ {S H : Type 0} (digest : Digest) (scheme : S) (hasher : H) (journal res
     counted = omega (arith, p.counted, shorter);
     settled_in = omega (arith, h);
     last = phase_view q;
-    last_accepted = ap (λ xs. with_lines digest Empty (whole_lines xs)) (cut_front journal next_front behind n next_text h) ∙ next_accepted;
+    last_accepted = ap (λ xs. with_lines digest Empty (whole_lines xs)) (cut_front journal next_front behind n next_text h) ∙ next_with;
     last_settled = s;
     last_there = λ t. t;
     all_settled = λ _. h;
@@ -112,7 +115,7 @@ module _ {S H : Type 0} (digest : Digest) (scheme : S) (hasher : H) (journal res
       at_end : length p.front + length line < n → is_settled r ≡ false
       at_end past =
           let whole : n + length behind ≡ length journal = omega (arith, past, inside, size) in
-          let is : Some (phase_view q) ≡ Some r = sym (ap (λ xs. with_lines digest Empty (whole_lines xs)) (cut_front journal next_front behind n next_text whole) ∙ next_accepted) ∙ e in
+          let is : Some (phase_view q) ≡ Some r = sym (ap (λ xs. with_lines digest Empty (whole_lines xs)) (cut_front journal next_front behind n next_text whole) ∙ next_with) ∙ e in
           let same : phase_view q ≡ r = cc in
           sym (ap is_settled same) ∙ s
 
@@ -127,7 +130,7 @@ module _ {S H : Type 0} (digest : Digest) (scheme : S) (hasher : H) (journal res
       before : n ≤ length p.front → is_settled r ≡ false
       before early = p.none_behind n later (omega (arith, early, ap length p.text_is, length-append p.front rest)) ends r e
 
-  pub progress_gathering : is_settled (phase_view q) ≡ false → HasRead digest scheme hasher journal behind q (number + 1) settled
+  pub progress_gathering : is_settled (phase_view q) ≡ false → HasRead digest hash scheme hasher journal behind q (number + 1) settled
   unfolding next_front
   progress_gathering s = record {
     front = next_front;
@@ -148,7 +151,7 @@ module _ {S H : Type 0} (digest : Digest) (scheme : S) (hasher : H) (journal res
 
 -- a line that is refused
 pub open_refused : {S H : Type 0} (digest : Digest) (hash : Hasher) (scheme : S) (hasher : H) (journal rest line behind : List ℕ) (phase : CodePhase S H) (number settled : ℕ) (reason : Refusal)
-    → HasRead digest scheme hasher journal rest phase number settled → rest ≡ line ++ 10 ∷ behind → has_feed line ≡ false → RefusesBehind digest hash (phase_view phase) line reason
+    → HasRead digest hash scheme hasher journal rest phase number settled → rest ≡ line ++ 10 ∷ behind → has_feed line ≡ false → RefusesBehind digest hash (phase_view phase) line reason
     → IsOpenError digest hash journal (record { number = number + 1; reason = reason })
 open_refused digest hash scheme hasher journal rest line behind phase number settled reason p cut feedless refused = record {
   front = p.front;
@@ -156,14 +159,14 @@ open_refused digest hash scheme hasher journal rest line behind phase number set
   phase = phase_view phase;
   text_is = p.text_is;
   whole = p.whole;
-  accepted = p.accepted;
+  accepted = leads_with digest hash Empty (phase_view phase) (whole_lines p.front) p.accepted;
   number = ap (λ n. n + 1) p.number_is;
   refused = subst (RefusesLines digest hash (phase_view phase) reason) (sym (ap whole_lines cut ∙ line_in_front line behind feedless)) refused;
 }
 
 -- no zone at the end
 pub end_refused : {S H : Type 0} (digest : Digest) (hash : Hasher) (scheme : S) (hasher : H) (journal rest : List ℕ) (phase : CodePhase S H) (number settled : ℕ) (reason : Refusal)
-    → HasRead digest scheme hasher journal rest phase number settled → has_feed rest ≡ false → RefusesEnd hash (phase_view phase) reason
+    → HasRead digest hash scheme hasher journal rest phase number settled → has_feed rest ≡ false → RefusesEnd hash (phase_view phase) reason
     → IsOpenError digest hash journal (record { number = number + 1; reason = reason })
 end_refused digest hash scheme hasher journal rest phase number settled reason p feedless refused = record {
   front = p.front;
@@ -171,21 +174,31 @@ end_refused digest hash scheme hasher journal rest phase number settled reason p
   phase = phase_view phase;
   text_is = p.text_is;
   whole = p.whole;
-  accepted = p.accepted;
+  accepted = leads_with digest hash Empty (phase_view phase) (whole_lines p.front) p.accepted;
   number = ap (λ n. n + 1) p.number_is;
   refused = subst (RefusesLines digest hash (phase_view phase) reason) (sym (no_lines rest feedless)) refused;
 }
 
 -- ---- the end of the lines
 
-module _ {S H : Type 0} (digest : Digest) (scheme : S) (hasher : H) (journal rest : List ℕ) (phase : CodePhase S H) (number settled : ℕ)
-    (p : HasRead digest scheme hasher journal rest phase number settled) (feedless : has_feed rest ≡ false) where
+module _ {S H : Type 0} (digest : Digest) (hash : Hasher) (scheme : S) (hasher : H) (journal rest : List ℕ) (phase : CodePhase S H) (number settled : ℕ)
+    (p : HasRead digest hash scheme hasher journal rest phase number settled) (feedless : has_feed rest ≡ false) where
   end_lines : whole_lines journal ≡ whole_lines p.front
   end_lines =
       ap whole_lines p.text_is ∙ whole_append p.front rest p.whole ∙ ap (λ ls. whole_lines p.front ++ ls) (no_lines rest feedless) ∙ append-nil (whole_lines p.front)
 
   pub end_state : (s : State) → ended (phase_view phase) ≡ Some s → journal_state digest journal ≡ Some s
-  end_state s e = bind_some (with_lines digest Empty (whole_lines journal)) ended (phase_view phase) (ap (with_lines digest Empty) end_lines ∙ p.accepted) ∙ e
+  end_state s e =
+      let lines = leads_with digest hash Empty (phase_view phase) (whole_lines p.front) p.accepted in
+      bind_some (with_lines digest Empty (whole_lines journal)) ended (phase_view phase) (ap (with_lines digest Empty) end_lines ∙ lines) ∙ e
+
+  pub end_journal : (s : State) → ended (phase_view phase) ≡ Some s → IsEndFit hash (phase_view phase) → IsJournalOf digest hash journal s
+  end_journal s e fit = record {
+    phase = phase_view phase;
+    leads = subst (λ (ls : List (List ℕ)). Leads digest hash Empty ls (phase_view phase)) (sym end_lines) p.accepted;
+    ends = e;
+    fit = fit;
+  }
 
   pub end_whole : (n : ℕ) → n + length rest ≡ length journal → journal ≡ take n journal ++ unfinished journal
   end_whole n h =
@@ -218,9 +231,9 @@ settled_ended (Beginning z rs) s e h = refl
 settled_ended (Running r) s e h = let is : r ≡ s = cc in ap (λ (u : State). length u.gathered == 0) is ∙ h
 
 -- behind the last line where no records were gathered none ends where this is so
-pub end_last : {S H : Type 0} (digest : Digest) (scheme : S) (hasher : H) (journal rest : List ℕ) (phase : CodePhase S H) (number settled whole : ℕ)
-    → HasRead digest scheme hasher journal rest phase number settled → whole + length rest ≡ length journal → NoneSettledBehind digest journal settled whole
-end_last digest scheme hasher journal rest phase number settled whole p size n later inside ends at =
+pub end_last : {S H : Type 0} (digest : Digest) (hash : Hasher) (scheme : S) (hasher : H) (journal rest : List ℕ) (phase : CodePhase S H) (number settled whole : ℕ)
+    → HasRead digest hash scheme hasher journal rest phase number settled → whole + length rest ≡ length journal → NoneSettledBehind digest journal settled whole
+end_last digest hash scheme hasher journal rest phase number settled whole p size n later inside ends at =
     let lines = with_lines digest Empty (whole_lines (take n journal)) in
     let b = bind_ok lines ended at.0 at.1 in
     let none = p.none_behind n later (omega (arith, size, inside)) ends b.0 b.1 in

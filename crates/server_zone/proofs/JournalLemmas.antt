@@ -1,20 +1,19 @@
 -- The states that lines give, one line after another.
-use Rattle.std.proofs.Common.{◌≡◌, ℕ, Bool, true, false, cond, List, [], ◌∷◌, ◌++◌, refl, sym, ap, ◌∙◌}
+use Rattle.std.proofs.Common.{◌≡◌, ℕ, Bool, true, false, cond, List, [], ◌∷◌, ◌++◌, refl, sym, ap, subst, ◌∙◌}
 use Rattle.std.specs.Prelude.{Option, Some, None}
 use Rattle.messages.specs.HandedRr.{HandedRr}
 use Rattle.session_grammar.specs.Grammar.{◌>>=◌, ZoneLine}
 use Rattle.server_zone.specs.Lines.{has_feed, unfinished, whole_lines}
 use Rattle.answer_terms.specs.Hashing.{Hasher}
-use Rattle.answer_zone_records.specs.declared.fault.ZoneFault.{ZoneFault}
-use Rattle.session_grammar.specs.declared.line_error.LineFault.{LineFault}
+use Rattle.answer_zone_records.specs.AliasFaults.{IsAcceptedWithAliases}
 use Rattle.server_zone.specs.declared.refusals.Refusal.{Refusal}
 use Rattle.server_zone.specs.declared.refusals.Refusal.TheVariants as refusal
 use Rattle.server_zone.specs.StateLines.{StateLine, Nothing, Added, Replaced, Called, Other, is_event, state_line}
-use Rattle.server_zone.specs.States.{Digest, RefusesTo, State, after, applied_line, made}
-use Rattle.server_zone.specs.Journals.{Phase, Empty, Beginning, Running, RefusesBeginning, RefusesOwn, ended, own_line, ran, state_behind, with_line, with_lines}
-use Rattle.server_zone.specs.JournalLaws.{AcceptedLinesExtend, CutsKeepState}
+use Rattle.server_zone.specs.States.{Digest, Follows, RefusesTo, State, after, applied_line, made}
+use Rattle.server_zone.specs.Journals.{Phase, Empty, Beginning, Running, IsEndFit, IsFit, IsLineFit, IsOwnFit, Leads, RefusesOwn, ended, own_line, ran, state_behind, with_line, with_lines}
+use Rattle.server_zone.specs.JournalLaws.{AcceptedLinesExtend, CutsKeepState, JournalsGiveStates}
 use Rattle.server_zone.proofs.LineLemmas.{cut_lines, line_behind}
-use Rattle.server_zone.proofs.StateLemmas.{of_line}
+use Rattle.server_zone.proofs.StateLemmas.{follows_fit, of_line, read_line}
 
 -- ---- options
 
@@ -55,6 +54,28 @@ pub with_whole_line : (digest : Digest) (q r : Phase) (front line : List ℕ) �
 with_whole_line digest q r front line h n e w =
     ap (with_lines digest Empty) (line_behind front line h n) ∙ with_line_behind digest Empty q (whole_lines front) line e ∙ w
 
+-- ---- lines that are accepted
+
+pub leads_with : (digest : Digest) (hash : Hasher) (p q : Phase) (ls : List (List ℕ)) → Leads digest hash p ls q → with_lines digest p ls ≡ Some q
+leads_with digest hash p q [] e = ap Some (sym e)
+leads_with digest hash p q (l ∷ ls) h = bind_some (with_line digest p l) (λ r. with_lines digest r ls) h.0 h.1 ∙ leads_with digest hash h.0 q ls h.3
+
+-- a line more
+pub leads_behind : (digest : Digest) (hash : Hasher) (p q r : Phase) (ls : List (List ℕ)) (l : List ℕ) → Leads digest hash p ls q → with_line digest q l ≡ Some r → IsLineFit hash q l → Leads digest hash p (ls ++ l ∷ []) r
+leads_behind digest hash p q r [] l e w fit = (r, subst (λ (u : Phase). with_line digest u l ≡ Some r) e w, subst (λ (u : Phase). IsLineFit hash u l) e fit, refl)
+leads_behind digest hash p q r (k ∷ ks) l h w fit = (h.0, h.1, h.2, leads_behind digest hash h.0 q r ks l h.3 w fit)
+
+-- behind the first of them
+pub leads_from : (digest : Digest) (hash : Hasher) (p q r : Phase) (ls ms : List (List ℕ)) → Leads digest hash p (ls ++ ms) q → with_lines digest p ls ≡ Some r → Leads digest hash r ms q
+leads_from digest hash p q r [] ms h e = subst (λ (u : Phase). Leads digest hash u ms q) (some_injective p r e) h
+leads_from digest hash p q r (l ∷ ls) ms h e = leads_from digest hash h.0 q r ls ms h.3 (sym (bind_some (with_line digest p l) (λ u. with_lines digest u ls) h.0 h.1) ∙ e)
+
+-- a whole line more of a text
+pub leads_whole_line : (digest : Digest) (hash : Hasher) (q r : Phase) (front line : List ℕ) → unfinished front ≡ [] → has_feed line ≡ false → Leads digest hash Empty (whole_lines front) q → with_line digest q line ≡ Some r → IsLineFit hash q line
+    → Leads digest hash Empty (whole_lines (front ++ line ++ 10 ∷ [])) r
+leads_whole_line digest hash q r front line h n e w fit =
+    subst (λ (ls : List (List ℕ)). Leads digest hash Empty ls r) (sym (line_behind front line h n)) (leads_behind digest hash Empty q r (whole_lines front) line e w fit)
+
 -- ---- an accepted line extends a journal
 
 feedless : (b : Bool) (o : Option State) (t : State) → cond b None o ≡ Some t → (b ≡ false) × (o ≡ Some t)
@@ -86,12 +107,55 @@ goes_on digest (Running r) s t line e a =
     let is : r ≡ s = some_injective r s e in
     (Running t, ap ran (ap (λ u. applied_line digest u line) is ∙ a), refl)
 
+-- it is fit for what it is applied to
+pub own_line_fit : (hash : Hasher) (z : ZoneLine) (rs : List HandedRr) (l : StateLine) → IsAcceptedWithAliases hash z.apex z.mode z.limit rs → IsFit hash (made z rs) l → IsOwnFit hash z rs l
+own_line_fit hash z rs Nothing accepted fit = tt
+own_line_fit hash z rs (Added r) accepted fit = tt
+own_line_fit hash z rs l accepted fit = (accepted, fit)
+
+line_fit : (hash : Hasher) (p : Phase) (s : State) (line : List ℕ) (l : StateLine) → ended p ≡ Some s → IsEndFit hash p → state_line line ≡ Some l → IsFit hash s l → IsLineFit hash p line
+line_fit hash Empty s line l e end read fit = absurd end
+line_fit hash (Beginning z rs) s line l e end read fit =
+    let is : s ≡ made z rs = sym (some_injective (made z rs) s e) in
+    of_line (IsOwnFit hash z rs) (state_line line) l read (own_line_fit hash z rs l end (subst (λ (u : State). IsFit hash u l) is fit))
+line_fit hash (Running r) s line l e end read fit =
+    let is : s ≡ r = sym (some_injective r s e) in
+    of_line (IsFit hash r) (state_line line) l read (subst (λ (u : State). IsFit hash u l) is fit)
+
+-- and so is the end behind it
+ran_fit : (hash : Hasher) (o : Option State) (q : Phase) → ran o ≡ Some q → IsEndFit hash q
+ran_fit hash (Some s) q e = let is : Running s ≡ q = cc in subst (IsEndFit hash) is tt
+ran_fit hash None q e = absurd (cc)
+
+own_end_fit : (digest : Digest) (hash : Hasher) (z : ZoneLine) (rs : List HandedRr) (l : StateLine) (t : State) (q : Phase) → IsAcceptedWithAliases hash z.apex z.mode z.limit rs → after digest l (made z rs) ≡ Some t → own_line digest z rs l ≡ Some q → IsEndFit hash q
+own_end_fit digest hash z rs Nothing t q accepted a e = let is : Beginning z rs ≡ q = cc in subst (IsEndFit hash) is accepted
+own_end_fit digest hash z rs (Added r) t q accepted a e = absurd (cc)
+own_end_fit digest hash z rs (Replaced at) t q accepted a e = ran_fit hash (after digest (Replaced at) (made z rs)) q e
+own_end_fit digest hash z rs (Called at c) t q accepted a e = ran_fit hash (after digest (Called at c) (made z rs)) q e
+own_end_fit digest hash z rs Other t q accepted a e = absurd (cc)
+
+end_fit : (digest : Digest) (hash : Hasher) (p q : Phase) (s t : State) (line : List ℕ) → ended p ≡ Some s → IsEndFit hash p → applied_line digest s line ≡ Some t → with_line digest p line ≡ Some q → IsEndFit hash q
+end_fit digest hash Empty q s t line e end a w = absurd end
+end_fit digest hash (Beginning z rs) q s t line e end a w =
+    let is : made z rs ≡ s = some_injective (made z rs) s e in
+    let l = accepted_line digest s t line a in
+    own_end_fit digest hash z rs l.1 t q end (ap (after digest l.1) is ∙ l.3) (sym (bind_some (state_line line) (own_line digest z rs) l.1 l.2) ∙ w)
+end_fit digest hash (Running r) q s t line e end a w = ran_fit hash (applied_line digest r line) q w
+
 pub accepted_lines_extend : AcceptedLinesExtend
-accepted_lines_extend digest text line s t h e a =
-    let p = bind_ok (with_lines digest Empty (whole_lines text)) ended s e in
-    let q = goes_on digest p.0 s t line p.2 a in
-    let n = (accepted_line digest s t line a).0 in
-    bind_some (with_lines digest Empty (whole_lines (text ++ line ++ 10 ∷ []))) ended q.0 (with_whole_line digest p.0 q.0 text line h n p.1 q.1) ∙ q.2
+accepted_lines_extend digest hash latest text line s t a h j follows applied =
+    let l = accepted_line digest s t line applied in
+    let fit : IsFit hash s l.1 = follows_fit digest hash latest s t l.1 a (read_line (λ k. Follows digest hash latest s k a t) (state_line line) l.1 l.2 follows) in
+    let q = goes_on digest j.phase s t line j.ends applied in
+    record {
+      phase = q.0;
+      leads = leads_whole_line digest hash j.phase q.0 text line h l.0 j.leads q.1 (line_fit hash j.phase s line l.1 j.ends j.fit l.2 fit);
+      ends = q.2;
+      fit = end_fit digest hash j.phase q.0 s t line j.ends j.fit applied q.1;
+    }
+
+pub journals_give_states : JournalsGiveStates
+journals_give_states digest hash text s j = bind_some (with_lines digest Empty (whole_lines text)) ended j.phase (leads_with digest hash Empty j.phase (whole_lines text) j.leads) ∙ j.ends
 
 pub cuts_keep_state : CutsKeepState
 cuts_keep_state digest text at = let cut = cut_lines text at in (cut.0, ap (state_behind digest) cut.1)
@@ -105,40 +169,16 @@ own_event digest z rs (Replaced at) t e h = ap ran h
 own_event digest z rs (Called at c) t e h = ap ran h
 own_event digest z rs Other t e h = ap ran h
 
-no_zone : (digest : Digest) (hash : Hasher) (latest : Option ℕ) (s : State) (l : StateLine) (f : ZoneFault) → RefusesTo digest hash latest s l (refusal.Zone f) → ⊥
-no_zone digest hash latest s Nothing f h = h
-no_zone digest hash latest s (Added r) f h = h
-no_zone digest hash latest s (Replaced at) f h = h
-no_zone digest hash latest s (Called at c) f h = h
-no_zone digest hash latest s Other f h = h
-
-pub own_refused : (digest : Digest) (hash : Hasher) (z : ZoneLine) (rs : List HandedRr) (l : StateLine) (f : Refusal) → RefusesTo digest hash None (made z rs) l f → RefusesOwn digest hash z rs l f
-own_refused digest hash z rs l (refusal.Zone f) h = absurd (no_zone digest hash None (made z rs) l f h)
-own_refused digest hash z rs l (refusal.Unreadable f) h = h
-own_refused digest hash z rs l refusal.ManyLines h = h
-own_refused digest hash z rs l refusal.NotOfState h = h
-own_refused digest hash z rs l refusal.TooEarly h = h
-own_refused digest hash z rs l (refusal.Key f) h = h
-own_refused digest hash z rs l (refusal.Replace f) h = h
-own_refused digest hash z rs l refusal.Memory h = h
-
-own_unread : (digest : Digest) (hash : Hasher) (z : ZoneLine) (rs : List HandedRr) (l : StateLine) (f : LineFault) → RefusesTo digest hash None (made z rs) l (refusal.Unreadable f) → ⊥
-own_unread digest hash z rs Nothing f h = h
-own_unread digest hash z rs (Added r) f h = h
-own_unread digest hash z rs (Replaced at) f h = h
-own_unread digest hash z rs (Called at c) f h = h
-own_unread digest hash z rs Other f h = h
-
--- a line that was read where the zone's own records stand
-pub beginning_read : (digest : Digest) (hash : Hasher) (z : ZoneLine) (rs : List HandedRr) (line : List ℕ) (l : StateLine) (f : Refusal) → state_line line ≡ Some l → RefusesOwn digest hash z rs l f → RefusesBeginning digest hash z rs line f
-beginning_read digest hash z rs line l refusal.Memory e h = tt
-beginning_read digest hash z rs line l (refusal.Unreadable f) e h = absurd (own_unread digest hash z rs l f h)
-beginning_read digest hash z rs line l refusal.ManyLines e h = of_line (λ k. RefusesOwn digest hash z rs k refusal.ManyLines) (state_line line) l e h
-beginning_read digest hash z rs line l refusal.NotOfState e h = of_line (λ k. RefusesOwn digest hash z rs k refusal.NotOfState) (state_line line) l e h
-beginning_read digest hash z rs line l refusal.TooEarly e h = of_line (λ k. RefusesOwn digest hash z rs k refusal.TooEarly) (state_line line) l e h
-beginning_read digest hash z rs line l (refusal.Zone f) e h = of_line (λ k. RefusesOwn digest hash z rs k (refusal.Zone f)) (state_line line) l e h
-beginning_read digest hash z rs line l (refusal.Key f) e h = of_line (λ k. RefusesOwn digest hash z rs k (refusal.Key f)) (state_line line) l e h
-beginning_read digest hash z rs line l (refusal.Replace f) e h = of_line (λ k. RefusesOwn digest hash z rs k (refusal.Replace f)) (state_line line) l e h
+-- the first event is refused as by the zone of its own records
+pub own_refused : (digest : Digest) (hash : Hasher) (z : ZoneLine) (rs : List HandedRr) (l : StateLine) (f : Refusal) → is_event l ≡ true → RefusesTo digest hash None (made z rs) l f → RefusesOwn digest hash z rs l f
+own_refused digest hash z rs Nothing f e h = absurd (cc)
+own_refused digest hash z rs (Added r) f e h = absurd (cc)
+own_refused digest hash z rs (Replaced at) (refusal.Zone f) e h = absurd h
+own_refused digest hash z rs (Replaced at) f e h = h
+own_refused digest hash z rs (Called at c) (refusal.Zone f) e h = absurd h
+own_refused digest hash z rs (Called at c) f e h = h
+own_refused digest hash z rs Other (refusal.Zone f) e h = absurd h
+own_refused digest hash z rs Other f e h = h
 
 pub own_read : (digest : Digest) (z : ZoneLine) (rs : List HandedRr) (line : List ℕ) (l : StateLine) (p : Phase) → state_line line ≡ Some l → own_line digest z rs l ≡ Some p → (state_line line >>= λ k. own_line digest z rs k) ≡ Some p
 own_read digest z rs line l p e h = bind_some (state_line line) (own_line digest z rs) l e ∙ h

@@ -4,3 +4,5 @@ pub mod JournalLemmas
 pub mod ReadLemmas
 pub mod OpeningLemmas
 pub mod HasReadLemmas
+pub mod ReopeningLemmas
+pub mod TtlLemmas

@@ -7,6 +7,7 @@ use Rattle.session_grammar.specs.Readings.{Reads}
 use Rattle.session_grammar.specs.declared.line_error.LineFault.{LineFault}
 use Rattle.session_grammar.specs.declared.line_error.LineError.{LineError}
 use Rattle.session_grammar.specs.declared.line_error.LineError.TheVariants as error
+use Rattle.server_zone.specs.Journals.{IsFit}
 use Rattle.server_zone.specs.Lines.{has_feed}
 use Rattle.server_zone.specs.Refusals.{refusal_of_line}
 use Rattle.server_zone.specs.StateLines.{StateLine, Nothing, Added, Replaced, Called, Other, state_line}
@@ -18,6 +19,13 @@ use Rattle.server_zone.specs.declared.open_zone.Applied.TheVariants as applied
 
 pub of_line : (P : StateLine → Type 0) (o : Option StateLine) (l : StateLine) → o ≡ Some l → P l → OfLine P o
 of_line P o l e h = subst (OfLine P) (sym e) h
+
+pub read_line : (P : StateLine → Type 0) (o : Option StateLine) (l : StateLine) → o ≡ Some l → OfLine P o → P l
+read_line P o l e h = subst (OfLine P) e h
+
+pub each_line : (P Q : StateLine → Type 0) (o : Option StateLine) → ((l : StateLine) → P l → Q l) → OfLine P o → OfLine Q o
+each_line P Q (Some l) f h = f l h
+each_line P Q None f h = h
 
 -- what an accepted line answers leaves the state that the line alone determines
 pub follows_after : (digest : Digest) (hash : Hasher) (latest : Option ℕ) (s t : State) (l : StateLine) (a : Applied) → Follows digest hash latest s l a t → after digest l s ≡ Some t
@@ -35,46 +43,25 @@ follows_after digest hash latest s t (Replaced at) (applied.Actions v) h = absur
 follows_after digest hash latest s t (Replaced at) applied.Replaced h = ap Some (sym h.3)
 follows_after digest hash latest s t (Called at c) applied.Nothing h = absurd h
 follows_after digest hash latest s t (Called at c) applied.Gathered h = absurd h
-follows_after digest hash latest s t (Called at c) (applied.Actions v) h = ap (λ o. behind_call o s) h.1 ∙ ap Some (sym h.2)
+follows_after digest hash latest s t (Called at c) (applied.Actions v) h = ap (λ o. behind_call at o s) h.1 ∙ ap Some (sym h.2)
 follows_after digest hash latest s t (Called at c) applied.Replaced h = absurd h
 follows_after digest hash latest s t Other applied.Nothing h = absurd h
 follows_after digest hash latest s t Other applied.Gathered h = absurd h
 follows_after digest hash latest s t Other (applied.Actions v) h = absurd h
 follows_after digest hash latest s t Other applied.Replaced h = absurd h
 
+-- and is fit for it
+pub follows_fit : (digest : Digest) (hash : Hasher) (latest : Option ℕ) (s t : State) (l : StateLine) (a : Applied) → Follows digest hash latest s l a t → IsFit hash s l
+follows_fit digest hash latest s t (Replaced at) applied.Nothing h = absurd h
+follows_fit digest hash latest s t (Replaced at) applied.Gathered h = absurd h
+follows_fit digest hash latest s t (Replaced at) (applied.Actions v) h = absurd h
+follows_fit digest hash latest s t (Replaced at) applied.Replaced h = h.2
+follows_fit digest hash latest s t Nothing a h = tt
+follows_fit digest hash latest s t (Added r) a h = tt
+follows_fit digest hash latest s t (Called at c) a h = tt
+follows_fit digest hash latest s t Other a h = tt
+
 pub applied_as : (digest : Digest) (hash : Hasher) (latest : Option ℕ) (s t : State) (line : List ℕ) (l : StateLine) (a : Applied) → has_feed line ≡ false → state_line line ≡ Some l → Follows digest hash latest s l a t → applied_line digest s line ≡ Some t
 applied_as digest hash latest s t line l a n e h =
     let read : Option State = state_line line >>= λ k. after digest k s in
     ap (λ b. cond b None read) n ∙ ap (λ o. o >>= λ k. after digest k s) e ∙ follows_after digest hash latest s t l a h
-
--- ---- refusals
-
-no_many : (digest : Digest) (hash : Hasher) (latest : Option ℕ) (s : State) (l : StateLine) → RefusesTo digest hash latest s l refusal.ManyLines → ⊥
-no_many digest hash latest s Nothing h = h
-no_many digest hash latest s (Added r) h = h
-no_many digest hash latest s (Replaced at) h = h
-no_many digest hash latest s (Called at c) h = h
-no_many digest hash latest s Other h = h
-
-no_unread : (digest : Digest) (hash : Hasher) (latest : Option ℕ) (s : State) (l : StateLine) (f : LineFault) → RefusesTo digest hash latest s l (refusal.Unreadable f) → ⊥
-no_unread digest hash latest s Nothing f h = h
-no_unread digest hash latest s (Added r) f h = h
-no_unread digest hash latest s (Replaced at) f h = h
-no_unread digest hash latest s (Called at c) f h = h
-no_unread digest hash latest s Other f h = h
-
--- a line that was read
-pub refuses_read : (digest : Digest) (hash : Hasher) (latest : Option ℕ) (s : State) (line : List ℕ) (l : StateLine) (f : Refusal) → state_line line ≡ Some l → RefusesTo digest hash latest s l f → RefusesLine digest hash latest s line f
-refuses_read digest hash latest s line l refusal.Memory e h = tt
-refuses_read digest hash latest s line l refusal.ManyLines e h = absurd (no_many digest hash latest s l h)
-refuses_read digest hash latest s line l (refusal.Unreadable f) e h = absurd (no_unread digest hash latest s l f h)
-refuses_read digest hash latest s line l refusal.NotOfState e h = of_line (λ k. RefusesTo digest hash latest s k refusal.NotOfState) (state_line line) l e h
-refuses_read digest hash latest s line l refusal.TooEarly e h = of_line (λ k. RefusesTo digest hash latest s k refusal.TooEarly) (state_line line) l e h
-refuses_read digest hash latest s line l (refusal.Zone f) e h = of_line (λ k. RefusesTo digest hash latest s k (refusal.Zone f)) (state_line line) l e h
-refuses_read digest hash latest s line l (refusal.Key f) e h = of_line (λ k. RefusesTo digest hash latest s k (refusal.Key f)) (state_line line) l e h
-refuses_read digest hash latest s line l (refusal.Replace f) e h = of_line (λ k. RefusesTo digest hash latest s k (refusal.Replace f)) (state_line line) l e h
-
--- a line that was not
-pub refuses_unread : {X : Type 0} (view : X → StateLine) (digest : Digest) (hash : Hasher) (latest : Option ℕ) (s : State) (line : List ℕ) (e : LineError) → Reads view (Err e) (state_line line) → RefusesLine digest hash latest s line (refusal_of_line e)
-refuses_unread view digest hash latest s line (error.Unreadable f) h = h
-refuses_unread view digest hash latest s line error.Memory h = tt

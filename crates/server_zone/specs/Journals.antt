@@ -3,15 +3,15 @@ use Rattle.std.specs.Prelude.{◌≡◌, ℕ, ◌+◌, ◌<◌, ◌≤◌, ◌==
 use Rattle.std.specs.Str.{is_utf8}
 use Rattle.messages.specs.HandedRr.{HandedRr, handed_of}
 use Rattle.answer_terms.specs.Hashing.{Hasher}
-use Rattle.answer_zone_records.specs.AliasFaults.{RefusesZoneWithAliases}
+use Rattle.answer_zone_records.specs.AliasFaults.{IsAcceptedWithAliases, RefusesZoneWithAliases}
 use Rattle.session_grammar.specs.Grammar.{◌>>=◌, ZoneLine, zone_line}
 use Rattle.session_grammar.specs.Lines.{is_passed_over}
 use Rattle.session_grammar.specs.Readings.{zone_view}
 use Rattle.session_grammar.specs.Sessions.{fields_of}
 use Rattle.session_grammar.specs.declared.line_error.LineFault.TheVariants.{NoZone}
 use Rattle.server_zone.specs.Lines.{unfinished, whole_lines}
-use Rattle.server_zone.specs.StateLines.{StateLine, Nothing, Added, state_line}
-use Rattle.server_zone.specs.States.{Digest, HasAddresses, OfLine, RefusesLine, RefusesTo, State, after, applied_line, made, state_of}
+use Rattle.server_zone.specs.StateLines.{StateLine, Nothing, Added, Replaced, state_line}
+use Rattle.server_zone.specs.States.{Digest, HoldsZone, IsMemory, OfLine, RefusesLine, RefusesTo, State, after, applied_line, made, state_of}
 use Rattle.server_zone.specs.declared.refusals.OpenError.{OpenError}
 use Rattle.server_zone.specs.declared.refusals.Refusal.{Refusal}
 use Rattle.server_zone.specs.declared.refusals.Refusal.TheVariants as refusal
@@ -77,16 +77,54 @@ state_behind digest ls = with_lines digest Empty ls >>= λ p. ended p
 abbrev pub journal_state : Digest → List ℕ → Option State
 journal_state digest text = state_behind digest (whole_lines text)
 
--- a zone of this scheme and this hasher, with its addresses, that gave no answer yet
-pub record IsFresh {S H : Type 0} (scheme : S) (hasher : H) (z : Zone S H) : Type 0 where
+-- ---- which lines are accepted
+
+-- the records of a replacement make a zone; of other lines nothing is asked
+abbrev pub IsFit : Hasher → State → StateLine → Type 0
+IsFit hash s (Replaced at) = IsAcceptedWithAliases hash s.zone.apex s.zone.mode s.zone.limit s.gathered
+IsFit hash s _ = Unit {0}
+
+-- where the zone's own records stand, these make a zone, which the first event is applied to
+abbrev pub IsOwnFit : Hasher → ZoneLine → List HandedRr → StateLine → Type 0
+IsOwnFit hash z rs Nothing = Unit {0}
+IsOwnFit hash z rs (Added r) = Unit {0}
+IsOwnFit hash z rs l = IsAcceptedWithAliases hash z.apex z.mode z.limit rs × IsFit hash (made z rs) l
+
+abbrev pub IsLineFit : Hasher → Phase → List ℕ → Type 0
+IsLineFit hash Empty line = Unit {0}
+IsLineFit hash (Beginning z rs) line = OfLine (IsOwnFit hash z rs) (state_line line)
+IsLineFit hash (Running s) line = OfLine (IsFit hash s) (state_line line)
+
+-- the same at the end of the lines, where a zone is to stand
+abbrev pub IsEndFit : Hasher → Phase → Type 0
+IsEndFit hash Empty = ⊥
+IsEndFit hash (Beginning z rs) = IsAcceptedWithAliases hash z.apex z.mode z.limit rs
+IsEndFit hash (Running s) = Unit {0}
+
+-- lines that are accepted, one after another, lead from one phase to another
+abbrev pub Leads : Digest → Hasher → Phase → List (List ℕ) → Phase → Type 0
+Leads digest hash p [] q = q ≡ p
+Leads digest hash p (l ∷ ls) q = (r : Phase) × (with_line digest p l ≡ Some r) × IsLineFit hash p l × Leads digest hash r ls q
+
+-- a journal whose whole lines are accepted, and give a state
+pub record IsJournalOf (digest : Digest) (hash : Hasher) (text : List ℕ) (s : State) : Type 0 where
+  pub phase : Phase
+  pub leads : Leads digest hash Empty (whole_lines text) phase
+  pub ends : ended phase ≡ Some s
+  pub fit : IsEndFit hash phase
+
+-- ---- opening
+
+-- a zone of this scheme and this hasher, of accepted records, that gave no answer yet
+pub record IsFresh {S H : Type 0} (hash : Hasher) (scheme : S) (hasher : H) (z : Zone S H) : Type 0 where
   pub scheme_is : z.publisher.scheme.now ≡ scheme
   pub hasher_is : z.publisher.zone.hasher ≡ hasher
   pub unanswered : z.publisher.latest ≡ None
-  pub addresses : HasAddresses z
+  pub holds : HoldsZone hash z
 
-abbrev pub IsOpening : {S H : Type 0} → S → H → CodePhase S H → Type 0
-IsOpening scheme hasher (code.Running z) = IsFresh scheme hasher z
-IsOpening scheme hasher _ = Unit {0}
+abbrev pub IsOpening : {S H : Type 0} → Hasher → S → H → CodePhase S H → Type 0
+IsOpening hash scheme hasher (code.Running z) = IsFresh hash scheme hasher z
+IsOpening hash scheme hasher _ = Unit {0}
 
 -- whether the line of a zone stands
 abbrev pub is_there : Phase → Bool
@@ -104,12 +142,12 @@ NoneSettledBehind digest text at whole = (n : ℕ) → at < n → n ≤ whole �
 
 -- A front of a journal was read, so many lines, up to a phase; the phase at an octet in it was the last in which no records were
 -- gathered.
-pub record HasRead {S H : Type 0} (digest : Digest) (scheme : S) (hasher : H) (journal rest : List ℕ) (phase : CodePhase S H) (number settled : ℕ) : Type 0 where
+pub record HasRead {S H : Type 0} (digest : Digest) (hash : Hasher) (scheme : S) (hasher : H) (journal rest : List ℕ) (phase : CodePhase S H) (number settled : ℕ) : Type 0 where
   pub front : List ℕ
   pub text_is : journal ≡ front ++ rest
   pub whole : unfinished front ≡ []
-  pub accepted : with_lines digest Empty (whole_lines front) ≡ Some (phase_view phase)
-  pub kept : IsOpening scheme hasher phase
+  pub accepted : Leads digest hash Empty (whole_lines front) (phase_view phase)
+  pub kept : IsOpening hash scheme hasher phase
   pub number_is : number ≡ length (whole_lines front)
   pub counted : number + length rest ≤ length journal
   pub settled_in : settled + length rest ≤ length journal
@@ -132,6 +170,8 @@ RefusesFirst line f = ⊥
 -- why it is refused where the zone's own records stand, which the first event takes together: no answer was given, so no
 -- replacement comes too soon
 abbrev pub RefusesOwn : Digest → Hasher → ZoneLine → List HandedRr → StateLine → Refusal → Type 0
+RefusesOwn digest hash z rs Nothing f = IsMemory f
+RefusesOwn digest hash z rs (Added r) f = IsMemory f
 RefusesOwn digest hash z rs l (refusal.Zone f) = RefusesZoneWithAliases hash z.apex z.mode z.limit rs f
 RefusesOwn digest hash z rs l f = RefusesTo digest hash None (made z rs) l f
 

@@ -5,9 +5,11 @@
 pub mod laws;
 pub mod line;
 mod lines;
+mod moments;
 pub mod open_zone;
 pub mod opening;
 pub mod refusals;
+mod ttls;
 
 pub use crate::open_zone::{Applied, Zone};
 pub use crate::opening::Opened;

@@ -1,23 +1,30 @@
 //! Opening a zone from its journal.
 ghost use Rattle.std.specs.Prelude.{◌≡◌, ◌++◌, ◌≤◌, ◌==◌, length, map, IfErr, IfOk, Some, false};
 ghost use Rattle.std.specs.Prelude.{take, true};
+ghost use Rattle.answer_publisher.specs.World.{world_of};
 ghost use Rattle.messages.specs.HandedRr.{handed_of};
+ghost use Rattle.answer_zone_records.specs.AliasFaults.{IsAcceptedWithAliases};
 ghost use Rattle.answer_zone_records.specs.AliasFaults.{RefusesZoneWithAliases};
+ghost use Rattle.server_answers.specs.Zones.{IsZone};
 ghost use Rattle.session_grammar.specs.Readings.{zone_view};
-ghost use Rattle.server_zone.specs.Journals.{HasRead, IsFresh, IsOpenError, IsOpening, IsSettledAt};
-ghost use Rattle.server_zone.specs.Journals.{NoneSettledBehind, RefusesBehind, RefusesBeginning};
+ghost use Rattle.server_zone.specs.Journals.{HasRead, IsEndFit, IsFit, IsFresh, IsJournalOf};
+ghost use Rattle.server_zone.specs.Journals.{IsLineFit, IsOpenError, IsOpening, IsOwnFit};
+ghost use Rattle.server_zone.specs.Journals.{IsSettledAt, NoneSettledBehind, RefusesBehind};
+ghost use Rattle.server_zone.specs.Journals.{RefusesBeginning};
 ghost use Rattle.server_zone.specs.Journals.{RefusesEnd, RefusesFirst, RefusesOwn, ended};
 ghost use Rattle.server_zone.specs.Journals.{first_line, is_settled, journal_state, own_line};
 ghost use Rattle.server_zone.specs.Journals.{phase_view, ran, with_line, with_own};
 ghost use Rattle.server_zone.specs.Lines.{has_feed, unfinished};
-ghost use Rattle.server_zone.specs.StateLines.{added_in, is_event, line_view};
-ghost use Rattle.server_zone.specs.States.{RefusesLine, RefusesTo, after, applied_line, made};
+ghost use Rattle.server_zone.specs.StateLines.{added_in, is_event, line_view, state_line};
+ghost use Rattle.server_zone.specs.States.{OfLine, RefusesLine, RefusesTo, after, applied_line};
+ghost use Rattle.server_zone.specs.States.{made};
 ghost use Rattle.server_zone.specs.States.{state_of};
 
 use crate::line::{Line, read_line};
 use crate::lines::split_line;
 use crate::open_zone::Zone;
 use crate::refusals::{OpenError, Refusal};
+use crate::ttls::greatest_ttl;
 use answer_events::record::ZoneRecord;
 use answer_publisher::fault::ZoneFault;
 use answer_publisher::publishing::Publisher;
@@ -66,7 +73,9 @@ struct Opener<'a, S: Scheme, H: Nsec3Hasher> {
 impl<'a, S: Scheme, H: Nsec3Hasher> Zone<'a, S, H> {
     /// Opens a zone from its journal: the lines of a session (its zone, its records, then
     /// replacements and calls on the keys) that end in a line feed. The first line that cannot be
-    /// read or is refused refuses the whole, and so does a line that asks, shows or judges.
+    /// read or is refused refuses the whole, and so does a line that asks, shows or judges. A
+    /// journal that opened opens again, also with the lines behind it that the zone accepted
+    /// ([`laws`](crate::laws)).
     pub fn open(
         alloc: Global,
         journal: &[u8],
@@ -75,7 +84,13 @@ impl<'a, S: Scheme, H: Nsec3Hasher> Zone<'a, S, H> {
     ) -> Result<Opened<'a, S, H>, OpenError>
         ensures state { let digest = S.digest_of scheme.now in
             IfOk result (λ o. journal_state digest journal.now ≡ Some (state_of o.zone)) }
-        ensures fresh { IfOk result (λ o. IsFresh scheme.now hasher.now o.zone) }
+        ensures journal { let digest = S.digest_of scheme.now in
+            let hash = H.hash_of hasher.now in
+            IfOk result (λ o. IsJournalOf digest hash journal.now (state_of o.zone)) }
+        ensures fresh { let hash = H.hash_of hasher.now in
+            IfOk result (λ o. IsFresh hash scheme.now hasher.now o.zone) }
+        ensures accepted { let world = world_of S.signature_of S.verifies S.digest_of H.hash_of in
+            IfOk result (λ o. IsZone (world o.zone.publisher)) }
         ensures whole { let rest = unfinished journal.now in
             IfOk result (λ o. journal.now ≡ take o.whole journal.now ++ rest) }
         ensures settled { let digest = S.digest_of scheme.now in
@@ -138,9 +153,9 @@ impl<'a, S: Scheme, H: Nsec3Hasher> Phase<'a, S, H> {
 impl<'a, S: Scheme, H: Nsec3Hasher> Opener<'a, S, H> {
     /// Reads the lines of a journal that end in a line feed.
     fn read_lines<'j>(&self, journal: &'j [u8]) -> Result<Progress<'a, 'j, S, H>, OpenError>
-        ensures ok { let scheme = self.now.scheme.now in let digest = S.digest_of scheme in
-            let has_read = HasRead digest scheme self.now.hasher.now journal.now in
-            IfOk result (λ p. has_read p.rest.now p.phase p.number p.settled) }
+        ensures ok { let scheme = self.now.scheme.now in let hasher = self.now.hasher.now in
+            let has_read = HasRead (S.digest_of scheme) (H.hash_of hasher) scheme hasher in
+            IfOk result (λ p. has_read journal.now p.rest.now p.phase p.number p.settled) }
         ensures all { IfOk result (λ p. has_feed p.rest.now ≡ false) }
         ensures err { let hash = H.hash_of self.now.hasher.now in
             let is_error = IsOpenError (S.digest_of self.now.scheme.now) hash in
@@ -172,11 +187,15 @@ impl<'a, S: Scheme, H: Nsec3Hasher> Opener<'a, S, H> {
 
     /// Reads a line more.
     fn read(&self, phase: Phase<'a, S, H>, line: &[u8]) -> Result<Phase<'a, S, H>, Refusal>
-        requires { IsOpening self.now.scheme.now self.now.hasher.now phase }
+        requires { let hash = H.hash_of self.now.hasher.now in
+            IsOpening hash self.now.scheme.now self.now.hasher.now phase }
         ensures ok { let digest = S.digest_of self.now.scheme.now in
             let with = with_line digest (phase_view phase.entry) line.now in
             IfOk result (λ q. with ≡ Some (phase_view q)) }
-        ensures kept { IfOk result (IsOpening self.now.scheme.now self.now.hasher.now) }
+        ensures fit { let hash = H.hash_of self.now.hasher.now in
+            IfOk result (λ _. IsLineFit hash (phase_view phase.entry) line.now) }
+        ensures kept { let hash = H.hash_of self.now.hasher.now in
+            IfOk result (IsOpening hash self.now.scheme.now self.now.hasher.now) }
         ensures err { let hash = H.hash_of self.now.hasher.now in
             let refuses = RefusesBehind (S.digest_of self.now.scheme.now) hash in
             IfErr result (refuses (phase_view phase.entry) line.now) }
@@ -191,7 +210,8 @@ impl<'a, S: Scheme, H: Nsec3Hasher> Opener<'a, S, H> {
     /// Reads a line where no zone's line stands yet.
     fn read_first(&self, line: &[u8]) -> Result<Phase<'a, S, H>, Refusal>
         ensures ok { IfOk result (λ q. first_line line.now ≡ Some (phase_view q)) }
-        ensures kept { IfOk result (IsOpening self.now.scheme.now self.now.hasher.now) }
+        ensures kept { let hash = H.hash_of self.now.hasher.now in
+            IfOk result (IsOpening hash self.now.scheme.now self.now.hasher.now) }
         ensures err { IfErr result (RefusesFirst line.now) }
     {
         if is_passed_over(line) {
@@ -217,7 +237,11 @@ impl<'a, S: Scheme, H: Nsec3Hasher> Opener<'a, S, H> {
         ensures ok { let z = zone_view zone in let rs = map handed_of records.items in
             let with = with_own (S.digest_of self.now.scheme.now) z rs line.now in
             IfOk result (λ q. with ≡ Some (phase_view q)) }
-        ensures kept { IfOk result (IsOpening self.now.scheme.now self.now.hasher.now) }
+        ensures fit { let z = zone_view zone in let rs = map handed_of records.items in
+            let hash = H.hash_of self.now.hasher.now in
+            IfOk result (λ _. OfLine (IsOwnFit hash z rs) (state_line line.now)) }
+        ensures kept { let hash = H.hash_of self.now.hasher.now in
+            IfOk result (IsOpening hash self.now.scheme.now self.now.hasher.now) }
         ensures err { let z = zone_view zone in let rs = map handed_of records.items in
             let digest = S.digest_of self.now.scheme.now in
             let refuses = RefusesBeginning digest (H.hash_of self.now.hasher.now) z rs in
@@ -247,7 +271,11 @@ impl<'a, S: Scheme, H: Nsec3Hasher> Opener<'a, S, H> {
         ensures ok { let z = zone_view zone in let rs = map handed_of records.items in
             let with = own_line (S.digest_of self.now.scheme.now) z rs (line_view event) in
             IfOk result (λ q. with ≡ Some (phase_view q)) }
-        ensures kept { IfOk result (IsOpening self.now.scheme.now self.now.hasher.now) }
+        ensures fit { let z = zone_view zone in let rs = map handed_of records.items in
+            let hash = H.hash_of self.now.hasher.now in
+            IfOk result (λ _. IsOwnFit hash z rs (line_view event)) }
+        ensures kept { let hash = H.hash_of self.now.hasher.now in
+            IfOk result (IsOpening hash self.now.scheme.now self.now.hasher.now) }
         ensures err { let z = zone_view zone in let rs = map handed_of records.items in
             let digest = S.digest_of self.now.scheme.now in
             let hash = H.hash_of self.now.hasher.now in
@@ -260,16 +288,21 @@ impl<'a, S: Scheme, H: Nsec3Hasher> Opener<'a, S, H> {
     }
 
     /// A zone of its own records.
-    #[tactic(auto, using(crate::proofs::OpeningLemmas::fresh_of))]
     fn made(&self, zone: ZoneLine, records: Vec<ZoneRecord>) -> Result<Zone<'a, S, H>, ZoneFault>
         ensures ok { let own = made (zone_view zone) (map handed_of records.items) in
             IfOk result (λ z. state_of z ≡ own) }
-        ensures fresh { IfOk result (IsFresh self.now.scheme.now self.now.hasher.now) }
+        ensures fresh { let hash = H.hash_of self.now.hasher.now in
+            IfOk result (IsFresh hash self.now.scheme.now self.now.hasher.now) }
+        ensures accepted { let z = zone_view zone in let rs = map handed_of records.items in
+            let hash = H.hash_of self.now.hasher.now in
+            IfOk result (λ _. IsAcceptedWithAliases hash z.apex z.mode z.limit rs) }
         ensures err { let z = zone_view zone in let rs = map handed_of records.items in
             let hash = H.hash_of self.now.hasher.now in
             IfErr result (RefusesZoneWithAliases hash z.apex z.mode z.limit rs) }
     {
         let addresses = Addresses::of(self.alloc, &records);
+        let ttl = greatest_ttl(0, &records);
+        let life = zone.life;
         let publisher = Publisher::with_aliases(
             self.alloc,
             zone.apex,
@@ -278,20 +311,24 @@ impl<'a, S: Scheme, H: Nsec3Hasher> Opener<'a, S, H> {
             self.scheme,
             self.hasher,
             zone.limit,
-            zone.life,
+            life,
         )?;
         match addresses {
-            Ok(addresses) => Ok(Zone::new(self.alloc, publisher, addresses)),
+            Ok(addresses) => Ok(Zone::new(self.alloc, publisher, addresses, life, ttl)),
             Err(_) => Err(ZoneFault::Memory),
         }
     }
 
     /// The zone behind all whole lines.
     fn finish(&self, phase: Phase<'a, S, H>) -> Result<Zone<'a, S, H>, Refusal>
-        requires { IsOpening self.now.scheme.now self.now.hasher.now phase }
+        requires { let hash = H.hash_of self.now.hasher.now in
+            IsOpening hash self.now.scheme.now self.now.hasher.now phase }
         ensures ok { let state = ended (phase_view phase.entry) in
             IfOk result (λ z. state ≡ Some (state_of z)) }
-        ensures fresh { IfOk result (IsFresh self.now.scheme.now self.now.hasher.now) }
+        ensures fresh { let hash = H.hash_of self.now.hasher.now in
+            IfOk result (IsFresh hash self.now.scheme.now self.now.hasher.now) }
+        ensures fit { let hash = H.hash_of self.now.hasher.now in
+            IfOk result (λ _. IsEndFit hash (phase_view phase.entry)) }
         ensures err { let hash = H.hash_of self.now.hasher.now in
             IfErr result (RefusesEnd hash (phase_view phase.entry)) }
     {
@@ -315,9 +352,12 @@ fn follow_first<'a, S: Scheme, H: Nsec3Hasher>(
     ensures ok { let z = zone.entry in let digest = S.digest_of z.publisher.scheme.now in
         let after = after digest (line_view event) (state_of z) in
         IfOk result (λ q. ran after ≡ Some (phase_view q)) }
+    ensures fit { let z = zone.entry in let hash = H.hash_of z.publisher.zone.hasher in
+        IfOk result (λ _. IsFit hash (state_of z) (line_view event)) }
     ensures kept { let z = zone.entry in
         let scheme = z.publisher.scheme.now in let hasher = z.publisher.zone.hasher in
-        IsFresh scheme hasher z → IfOk result (IsOpening scheme hasher) }
+        let hash = H.hash_of hasher in
+        IsFresh hash scheme hasher z → IfOk result (IsOpening hash scheme hasher) }
     ensures err { let z = zone.entry in let p = z.publisher in
         let digest = S.digest_of p.scheme.now in let hash = H.hash_of p.zone.hasher in
         IfErr result (RefusesTo digest hash p.latest (state_of z) (line_view event)) }
@@ -336,9 +376,12 @@ fn go_on<'a, S: Scheme, H: Nsec3Hasher>(
     ensures ok { let z = zone.entry in
         let with = applied_line (S.digest_of z.publisher.scheme.now) (state_of z) line.now in
         IfOk result (λ q. ran with ≡ Some (phase_view q)) }
+    ensures fit { let z = zone.entry in let hash = H.hash_of z.publisher.zone.hasher in
+        IfOk result (λ _. OfLine (IsFit hash (state_of z)) (state_line line.now)) }
     ensures kept { let z = zone.entry in
         let scheme = z.publisher.scheme.now in let hasher = z.publisher.zone.hasher in
-        IsFresh scheme hasher z → IfOk result (IsOpening scheme hasher) }
+        let hash = H.hash_of hasher in
+        IsFresh hash scheme hasher z → IfOk result (IsOpening hash scheme hasher) }
     ensures err { let z = zone.entry in let p = z.publisher in
         let digest = S.digest_of p.scheme.now in let hash = H.hash_of p.zone.hasher in
         IfErr result (RefusesLine digest hash p.latest (state_of z) line.now) }

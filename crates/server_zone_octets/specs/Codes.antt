@@ -16,3 +16,5 @@ number_of c.BadSignatures = 72
 number_of c.BadCall = 73
 number_of c.NotOpen = 74
 number_of c.IsOpen = 75
+number_of c.TooSoon = 76
+number_of c.Expired = 77

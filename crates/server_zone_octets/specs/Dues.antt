@@ -83,8 +83,8 @@ pub record IsDueTold (keys : KeySetState) (r : RollType) (new : OctetDue) (befor
   pub code_is : code ≡ told_code fits
 
 -- nothing is written
-pub record IsUnsaid (old new : OctetDue) (before after : List ℕ) : Type 0 where
-  pub due_is : new ≡ old
+pub record IsUnsaid {R : Type 0} (old new : R) (before after : List ℕ) : Type 0 where
+  pub said_is : new ≡ old
   pub octets_are : after ≡ before
 
 -- why nothing is said

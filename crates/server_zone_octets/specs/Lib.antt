@@ -1,6 +1,7 @@
 pub mod Codes
 pub mod Dues
 pub mod Entries
+pub mod Facts
 pub mod Lines
 pub mod Masters
 pub mod Requests

@@ -1,49 +1,20 @@
 -- What opening a zone and applying a line tell.
-use Rattle.std.specs.Prelude.{◌≡◌, ◌⊎◌, ℕ, ◌≤◌, ◌++◌, Bool, true, false, List, [], length, take, Some}
+use Rattle.std.specs.Prelude.{◌≡◌, ◌⊎◌, ℕ, ◌≤◌, ◌++◌, true, false, List, [], length, take, Some}
 use Rattle.answer_terms.specs.Hashing.{Hasher}
-use Rattle.answer_zone_records.specs.declared.fault.ZoneFault.{ZoneFault}
-use Rattle.answer_zone_records.specs.declared.fault.ZoneFault.TheVariants as zone
-use Rattle.answer_publisher_keys.specs.declared.fault.KeyFault.{KeyFault}
-use Rattle.answer_publisher_keys.specs.declared.fault.KeyFault.TheVariants as key
-use Rattle.answer_publisher.specs.declared.fault.ReplaceFault.{ReplaceFault}
-use Rattle.answer_publisher.specs.declared.fault.ReplaceFault.TheVariants as replace
-use Rattle.server_zone.specs.Journals.{IsFresh, IsOpenError, IsSettledAt, NoneSettledBehind, journal_state}
+use Rattle.server_zone.specs.Journals.{IsFresh, IsJournalOf, IsOpenError, IsSettledAt, NoneSettledBehind, journal_state}
 use Rattle.server_zone.specs.Lines.{unfinished}
+use Rattle.server_zone.specs.Refusals.{is_memory}
 use Rattle.server_zone.specs.StateLines.{state_line}
-use Rattle.server_zone.specs.States.{Digest, Follows, HasAddresses, IsRestKept, OfLine, RefusesLine, applied_line, state_of}
+use Rattle.server_zone.specs.States.{Digest, Follows, HoldsZone, IsRestKept, OfLine, RefusesLine, applied_line, state_of}
 use Rattle.server_zone.specs.declared.open_zone.Applied.{Applied}
 use Rattle.server_zone.specs.declared.open_zone.Zone.{Zone}
 use Rattle.server_zone.specs.declared.refusals.OpenError.{OpenError}
 use Rattle.server_zone.specs.declared.refusals.Refusal.{Refusal}
-use Rattle.server_zone.specs.declared.refusals.Refusal.TheVariants as refusal
 use Rattle.server_zone_octets.specs.Texts.{applied_text, refusal_text}
 use Rattle.server_zone_octets.specs.declared.code.ZoneCode.{ZoneCode}
 use Rattle.server_zone_octets.specs.declared.code.ZoneCode.TheVariants as c
 use Rattle.server_zone_octets.specs.declared.report.ZoneReport.{ZoneReport}
 use Rattle.server_zone_octets.specs.Telling.{IsShown, IsUnknown, CodeAndOctets, is_known, only, telling, told_report}
-
--- ---- want of memory
-
--- for a zone of records, for its replacement, for a call on its keys
-abbrev pub is_zone_memory : ZoneFault → Bool
-is_zone_memory zone.Memory = true
-is_zone_memory _ = false
-
-abbrev pub is_replace_memory : ReplaceFault → Bool
-is_replace_memory replace.TooSoon = false
-is_replace_memory (replace.Zone f) = is_zone_memory f
-
-abbrev pub is_key_memory : KeyFault → Bool
-is_key_memory key.Memory = true
-is_key_memory _ = false
-
--- memory ran out, wherever it was wanted
-abbrev pub is_memory : Refusal → Bool
-is_memory refusal.Memory = true
-is_memory (refusal.Zone f) = is_zone_memory f
-is_memory (refusal.Key f) = is_key_memory f
-is_memory (refusal.Replace f) = is_replace_memory f
-is_memory _ = false
 
 -- ---- what is told
 
@@ -57,22 +28,22 @@ IsToldRefused f said = ((is_memory f ≡ false) × (said ≡ telling c.Refused (
 
 -- ---- a line
 
--- an accepted line: the state is that behind it, the addresses are those of the zone, and nothing else of it has changed
+-- an accepted line: the state is that behind it, the zone is one of accepted records, and nothing else of it has changed
 pub record SaysAccepted {S H : Type 0} (digest : Digest) (hash : Hasher) (line : List ℕ) (old new : Zone S H) (said : CodeAndOctets) : Type 0 where
   pub a : Applied
   pub follows : OfLine (λ l. Follows digest hash old.publisher.latest (state_of old) l a (state_of new)) (state_line line)
   pub behind : applied_line digest (state_of old) line ≡ Some (state_of new)
   pub rest : IsRestKept old.publisher new.publisher
-  pub addresses : HasAddresses old → HasAddresses new
+  pub holds : HoldsZone hash old → HoldsZone hash new
   pub told : IsToldApplied a said
 
--- a refused line: the state and the publisher are as before, and the addresses those of the zone
+-- a refused line: the state and the publisher are as before, and so the zone is one of accepted records
 pub record SaysRefused {S H : Type 0} (digest : Digest) (hash : Hasher) (line : List ℕ) (old new : Zone S H) (said : CodeAndOctets) : Type 0 where
   pub f : Refusal
   pub refuses : RefusesLine digest hash old.publisher.latest (state_of old) line f
   pub state : state_of new ≡ state_of old
   pub publisher : new.publisher ≡ old.publisher
-  pub addresses : HasAddresses old → HasAddresses new
+  pub holds : HoldsZone hash old → HoldsZone hash new
   pub told : IsToldRefused f said
 
 abbrev pub SaysApplied : {S H : Type 0} → Digest → Hasher → List ℕ → Zone S H → Zone S H → CodeAndOctets → Type 0
@@ -95,9 +66,10 @@ pub record AppliesLine {S H : Type 0} (digest : Digest) (hash : Hasher) (line : 
 
 -- A zone that is opened, and what its report says: how many octets its whole lines have, and the last of these octets at which a line
 -- ends behind which no records are gathered.
-pub record OpensAs {S H : Type 0} (digest : Digest) (scheme : S) (hasher : H) (journal : List ℕ) (report : ZoneReport) (z : Zone S H) : Type 0 where
+pub record OpensAs {S H : Type 0} (digest : Digest) (hash : Hasher) (scheme : S) (hasher : H) (journal : List ℕ) (report : ZoneReport) (z : Zone S H) : Type 0 where
   pub state : journal_state digest journal ≡ Some (state_of z)
-  pub fresh : IsFresh scheme hasher z
+  pub opens_again : IsJournalOf digest hash journal (state_of z)
+  pub fresh : IsFresh hash scheme hasher z
   pub whole : journal ≡ take report.whole journal ++ unfinished journal
   pub settled : IsSettledAt digest journal report.settled
   pub inside : (report.settled ≤ report.whole) × (report.whole ≤ length journal)

@@ -30,6 +30,10 @@ pub enum ZoneCode {
     NotOpen = 74,
     /// The zone is open already.
     IsOpen = 75,
+    /// The moment of the answer is not behind the last replacement.
+    TooSoon = 76,
+    /// Signatures hold no longer than the answer is dated back.
+    Expired = 77,
 }
 
 impl ZoneCode {

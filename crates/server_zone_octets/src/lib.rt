@@ -6,6 +6,7 @@
 mod code;
 mod due;
 mod entries;
+mod facts;
 mod lines;
 mod master;
 mod parts;
@@ -17,6 +18,7 @@ mod told;
 
 pub use crate::code::ZoneCode;
 pub use crate::due::{OctetDue, due_octets};
+pub use crate::facts::{OctetFacts, facts_octets};
 pub use crate::lines::{apply_octets, open_octets};
 pub use crate::master::{OctetMaster, master_octets};
 pub use crate::records::records_octets;

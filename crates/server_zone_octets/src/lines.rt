@@ -1,9 +1,11 @@
 //! Opening a zone from its journal, and applying a line.
 ghost use Rattle.std.specs.Prelude.{◌≡◌, true, IfErr, IfOk};
+ghost use Rattle.server_answers.specs.World.{world_of};
+ghost use Rattle.server_answers.specs.Zones.{IsZone};
+ghost use Rattle.server_zone.specs.Refusals.{is_key_memory, is_memory, is_replace_memory};
+ghost use Rattle.server_zone.specs.Refusals.{is_zone_memory};
 ghost use Rattle.server_zone_octets.specs.Lines.{AppliesLine, IsToldApplied, IsToldRefused};
 ghost use Rattle.server_zone_octets.specs.Lines.{OpensAs, RefusesOpening, SaysApplied};
-ghost use Rattle.server_zone_octets.specs.Lines.{is_key_memory, is_memory, is_replace_memory};
-ghost use Rattle.server_zone_octets.specs.Lines.{is_zone_memory};
 ghost use Rattle.server_zone_octets.specs.Telling.{is_known, told_seen};
 
 use crate::code::ZoneCode;
@@ -26,9 +28,11 @@ pub fn open_octets<'a, S: Scheme, H: Nsec3Hasher>(
     out: &mut [u8],
     report: &mut ZoneReport,
 ) -> Result<Zone<'a, S, H>, ZoneCode>
-    ensures opened { let digest = S.digest_of scheme.now in
-        let opens = OpensAs digest scheme.now hasher.now journal.now report.new in
+    ensures opened { let digest = S.digest_of scheme.now in let hash = H.hash_of hasher.now in
+        let opens = OpensAs digest hash scheme.now hasher.now journal.now report.new in
         IfOk result (λ z. opens z × (out.new ≡ out.old)) }
+    ensures accepted { let world = world_of S.signature_of S.verifies S.digest_of H.hash_of in
+        IfOk result (λ z. IsZone (world z.publisher)) }
     ensures known { IfOk result (λ z. is_known report.old ≡ true) }
     ensures refused { let digest = S.digest_of scheme.now in let hash = H.hash_of hasher.now in
         let refuses = RefusesOpening digest hash journal.now report.old report.new in

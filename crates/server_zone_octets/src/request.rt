@@ -1,8 +1,9 @@
 //! A request that is answered.
-ghost use Rattle.std.specs.Prelude.{◌≡◌};
+ghost use Rattle.std.specs.Prelude.{◌≡◌, ◌<◌, Some, false};
+ghost use Rattle.answer_publisher.specs.Replacing.{is_too_soon};
 ghost use Rattle.server_answers.specs.World.{world_of};
 ghost use Rattle.server_zone_octets.specs.Requests.{AnswersRequest, IsToldResponse, TellsResponse};
-ghost use Rattle.server_zone_octets.specs.Requests.{transport_of};
+ghost use Rattle.server_zone_octets.specs.Requests.{moment_of, transport_of};
 ghost use Rattle.server_zone_octets.specs.Telling.{told_seen};
 
 use crate::code::ZoneCode;
@@ -12,7 +13,7 @@ use crate::told::{CodeAndOctets, hand_out};
 use answer_scheme::Scheme;
 use denial_nsec3_hash::hasher::Nsec3Hasher;
 use keyset::UnixTime;
-use server_answers::{Request, Response, ServerTerms, respond};
+use server_answers::{Request, Response, ServerTerms, backdated, respond};
 use server_responses::Transport;
 use server_zone::Zone;
 use std::alloc::{AllocError, Global};
@@ -30,7 +31,8 @@ pub struct OctetRequest<'a> {
     pub made: &'a [u8],
     /// The moment of the clock, in seconds since 1970.
     pub moment: u64,
-    /// How many seconds before the clock everything is that an answer says.
+    /// How many seconds before the clock everything is that an answer says: less than the life of
+    /// its signatures.
     pub backdate: u32,
     /// 1 where a stream carries the response, as TCP does; 0 where a datagram does.
     pub stream: u32,
@@ -47,7 +49,8 @@ const _: () = prove!(size_of::<OctetRequest>() == REQUEST_SIZE);
 
 /// Answers a request as [`respond`] does. The response is written to the front of `out` where there
 /// is room for it, or the entries of signatures that are to be made: each has room for its
-/// signature, and belongs into `made` once that is there.
+/// signature, and belongs into `made` once that is there. A request is refused at a moment that is
+/// closed ([`Zone::is_closed`]), and where its signatures would have expired by the clock.
 pub fn respond_octets<S: Scheme, H: Nsec3Hasher>(
     alloc: Global,
     zone: &mut Zone<'_, S, H>,
@@ -58,7 +61,8 @@ pub fn respond_octets<S: Scheme, H: Nsec3Hasher>(
     ensures answered { let p = zone.old.publisher in
         let w = world_of S.signature_of S.verifies S.digest_of H.hash_of p in
         let addresses = zone.old.addresses in let latest = zone.new.publisher.latest in
-        let answers = AnswersRequest w p.keys addresses request.now p.latest latest in
+        let life = zone.old.life in let closed = zone.old.closed in
+        let answers = AnswersRequest w p.keys addresses life closed request.now p.latest latest in
         answers report.old report.new out.old out.new result }
     ensures rest { let p = record zone.old.publisher { latest = zone.new.publisher.latest } in
         zone.new ≡ record zone.old { publisher = p } }
@@ -79,8 +83,9 @@ fn reply_to<S: Scheme, H: Nsec3Hasher>(
     ensures told { let p = zone.old.publisher in
         let w = world_of S.signature_of S.verifies S.digest_of H.hash_of p in
         let addresses = zone.old.addresses in let latest = zone.new.publisher.latest in
-        let tells = TellsResponse w p.keys addresses octet_request.now p.latest latest in
-        tells (told_seen result) }
+        let life = zone.old.life in let closed = zone.old.closed in
+        let tells = TellsResponse w p.keys addresses life closed octet_request.now in
+        tells p.latest latest (told_seen result) }
     ensures rest { let p = record zone.old.publisher { latest = zone.new.publisher.latest } in
         zone.new ≡ record zone.old { publisher = p } }
 {
@@ -88,6 +93,34 @@ fn reply_to<S: Scheme, H: Nsec3Hasher>(
         Some(transport) => transport,
         None => return CodeAndOctets::only(alloc, ZoneCode::BadCall),
     };
+    if zone.life() <= octet_request.backdate {
+        return CodeAndOctets::only(alloc, ZoneCode::Expired);
+    }
+    if zone.is_closed(&moment_of(octet_request)) {
+        return CodeAndOctets::only(alloc, ZoneCode::TooSoon);
+    }
+    timely_reply(alloc, zone, octet_request, transport)
+}
+
+/// The reply to a request at a moment that the zone answers.
+fn timely_reply<S: Scheme, H: Nsec3Hasher>(
+    alloc: Global,
+    zone: &mut Zone<'_, S, H>,
+    octet_request: &OctetRequest,
+    transport: Transport,
+) -> CodeAndOctets
+    requires carried { transport_of octet_request.now ≡ Some transport }
+    requires lives { octet_request.now.backdate < zone.old.life }
+    requires behind { is_too_soon zone.old.closed (moment_of octet_request.now) ≡ false }
+    ensures told { let p = zone.old.publisher in
+        let w = world_of S.signature_of S.verifies S.digest_of H.hash_of p in
+        let addresses = zone.old.addresses in let latest = zone.new.publisher.latest in
+        let life = zone.old.life in let closed = zone.old.closed in
+        let tells = TellsResponse w p.keys addresses life closed octet_request.now in
+        tells p.latest latest (told_seen result) }
+    ensures rest { let p = record zone.old.publisher { latest = zone.new.publisher.latest } in
+        zone.new ≡ record zone.old { publisher = p } }
+{
     let table = match read_made(alloc, octet_request.made) {
         Ok(table) => table,
         Err(code) => return CodeAndOctets::only(alloc, code),
@@ -112,6 +145,14 @@ fn reply_to<S: Scheme, H: Nsec3Hasher>(
         Ok(response) => told_response(alloc, response),
         Err(AllocError) => CodeAndOctets::only(alloc, ZoneCode::OutOfMemory),
     }
+}
+
+/// The moment that the answer to a request is of.
+fn moment_of(octet_request: &OctetRequest) -> UnixTime
+    ensures { result ≡ moment_of octet_request.now }
+{
+    let moment = UnixTime::new(Duration::from_secs(octet_request.moment));
+    backdated(&moment, octet_request.backdate)
 }
 
 /// What is told of a response.

@@ -1,8 +1,10 @@
 -- What calls from C do to the zone that C holds: what the calls over an open zone do, and what is left as it was.
 use Rattle.std.specs.Prelude.{◌≡◌, ◌⊎◌, ℕ, List, true, Option, Some, None}
+use Rattle.server_answers.specs.Zones.{IsZone}
 use Rattle.server_zone.specs.States.{state_of, ungathered}
 use Rattle.server_zone_octets.specs.Codes.{number_of}
 use Rattle.server_zone_octets.specs.Dues.{SaysDue}
+use Rattle.server_zone_octets.specs.Facts.{SaysFacts}
 use Rattle.server_zone_octets.specs.Lines.{AppliesLine, OpensAs, RefusesOpening}
 use Rattle.server_zone_octets.specs.Masters.{SaysMaster}
 use Rattle.server_zone_octets.specs.Requests.{AnswersRequest}
@@ -11,6 +13,7 @@ use Rattle.server_zone_octets.specs.Telling.{is_known}
 use Rattle.server_zone_octets.specs.declared.code.ZoneCode.{ZoneCode}
 use Rattle.server_zone_octets.specs.declared.code.ZoneCode.TheVariants as c
 use Rattle.server_zone_octets.specs.declared.due.OctetDue.{OctetDue}
+use Rattle.server_zone_octets.specs.declared.facts.OctetFacts.{OctetFacts}
 use Rattle.server_zone_octets.specs.declared.master.OctetMaster.{OctetMaster}
 use Rattle.server_zone_octets.specs.declared.report.ZoneReport.{ZoneReport}
 use Rattle.server_zone_octets.specs.declared.request.OctetRequest.{OctetRequest}
@@ -45,7 +48,8 @@ pub record TellsLines (master : OctetMaster) (report report' : ZoneReport) (befo
 -- the zone of a journal, what the report says of it, and no octets
 pub record GivesZone (journal : List ℕ) (report report' : ZoneReport) (before after : List ℕ) (z : OpenZone) : Type 0 where
   pub known : is_known report ≡ true
-  pub opens : OpensAs digest (record {}) (record {}) journal report' z.zone
+  pub opens : OpensAs digest hash (record {}) (record {}) journal report' z.zone
+  pub accepted : IsZone (world_in z)
   pub octets_are : after ≡ before
 
 -- a zone is opened
@@ -104,6 +108,17 @@ abbrev pub TellsDueOf : ℕ → Option OpenZone → Option OpenZone → OctetDue
 TellsDueOf roll None new due due' before after reply = IsNotOpen new due due' before after reply
 TellsDueOf roll (Some z) new due due' before after reply = TellsDue z roll new due due' before after reply
 
+-- what its lines say of a zone is said, and the zone is as it was
+pub record TellsFacts (z : OpenZone) (new : Option OpenZone) (facts facts' : OctetFacts) (before after : List ℕ) (reply : ℕ) : Type 0 where
+  pub code : ZoneCode
+  pub says : SaysFacts (state_of z.zone) facts facts' before after code
+  pub stays : new ≡ Some z
+  pub reply_is : reply ≡ number_of code
+
+abbrev pub TellsFactsOf : Option OpenZone → Option OpenZone → OctetFacts → OctetFacts → List ℕ → List ℕ → ℕ → Type 0
+TellsFactsOf None new facts facts' before after reply = IsNotOpen new facts facts' before after reply
+TellsFactsOf (Some z) new facts facts' before after reply = TellsFacts z new facts facts' before after reply
+
 -- a set is told, and the zone is as it was
 pub record TellsSet (z : OpenZone) (rtype : ℕ) (new : Option OpenZone) (report report' : ZoneReport) (before after : List ℕ) (reply : ℕ) : Type 0 where
   pub code : ZoneCode
@@ -119,7 +134,7 @@ TellsSetOf rtype (Some z) new report report' before after reply = TellsSet z rty
 pub record Answers (z : OpenZone) (request : OctetRequest) (new : Option OpenZone) (report report' : ZoneReport) (before after : List ℕ) (reply : ℕ) : Type 0 where
   pub latest : Option ℕ
   pub code : ZoneCode
-  pub answers : AnswersRequest (world_in z) z.zone.publisher.keys z.zone.addresses request z.zone.publisher.latest latest report report' before after code
+  pub answers : AnswersRequest (world_in z) z.zone.publisher.keys z.zone.addresses z.zone.life z.zone.closed request z.zone.publisher.latest latest report report' before after code
   pub stays_open : new ≡ Some (record { zone = record z.zone { publisher = record z.zone.publisher { latest = latest } } })
   pub reply_is : reply ≡ number_of code
 

@@ -11,15 +11,16 @@ ghost use Rattle.std.specs.Prelude.{◌≡◌};
 ghost use Rattle.server_zone_octets.specs.Codes.{number_of};
 ghost use Rattle.server_zone_octets.specs.declared.code.ZoneCode.TheVariants as c;
 ghost use Rattle.zermuita_zone.specs.Calls.{AnswersFrom, AppliesTo, ForgetsIn, OpensFrom};
-ghost use Rattle.zermuita_zone.specs.Calls.{TellsDueOf, TellsLines, TellsSetOf, zone_in};
+ghost use Rattle.zermuita_zone.specs.Calls.{TellsDueOf, TellsFactsOf, TellsLines, TellsSetOf};
+ghost use Rattle.zermuita_zone.specs.Calls.{zone_in};
 
 use denial_nsec3_sha1::hasher::Sha1Hasher;
 use handle::ZoneHandle;
 use opened::OpenZone;
 use server_signatures::DigestScheme;
 use server_zone_octets::{
-    OctetDue, OctetMaster, OctetRequest, ZoneCode, ZoneReport, apply_octets, due_octets,
-    master_octets, open_octets, records_octets, respond_octets,
+    OctetDue, OctetFacts, OctetMaster, OctetRequest, ZoneCode, ZoneReport, apply_octets,
+    due_octets, facts_octets, master_octets, open_octets, records_octets, respond_octets,
 };
 use std::alloc::Global;
 
@@ -122,6 +123,25 @@ pub extern "C" fn zermuita_zone_due(
         return ZoneCode::NotOpen.number();
     };
     let code = due_octets(alloc, &open.zone, roll, out, due);
+    *handle = ZoneHandle::of(open);
+    code.number()
+}
+
+/// Says what the lines of a zone say of it, as [`facts_octets`] does.
+#[unsafe(no_mangle)]
+pub extern "C" fn zermuita_zone_facts(
+    alloc: Global,
+    handle: &mut ZoneHandle,
+    out: &mut [u8],
+    facts: &mut OctetFacts,
+) -> u32
+    ensures { let tells = TellsFactsOf (zone_in handle.old) (zone_in handle.new) in
+        tells facts.old facts.new out.old out.new result }
+{
+    let Some(open) = handle.take(alloc) else {
+        return ZoneCode::NotOpen.number();
+    };
+    let code = facts_octets(alloc, &open.zone, out, facts);
     *handle = ZoneHandle::of(open);
     code.number()
 }

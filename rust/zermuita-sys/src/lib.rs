@@ -152,6 +152,8 @@ pub const ZERMUITA_ZONE_BAD_SIGNATURES: u32 = 72;
 pub const ZERMUITA_ZONE_BAD_CALL: u32 = 73;
 pub const ZERMUITA_ZONE_NOT_OPEN: u32 = 74;
 pub const ZERMUITA_ZONE_IS_OPEN: u32 = 75;
+pub const ZERMUITA_ZONE_TOO_SOON: u32 = 76;
+pub const ZERMUITA_ZONE_EXPIRED: u32 = 77;
 
 pub const ZERMUITA_KSK_ROLL: u32 = 1;
 pub const ZERMUITA_KSK_DOUBLE_DS_ROLL: u32 = 2;
@@ -213,6 +215,18 @@ pub struct zermuita_due {
     pub phase: u32,
 }
 
+/// `struct zermuita_facts`: what the lines of a zone say about it.
+#[repr(C)]
+#[derive(Clone, Copy, Debug)]
+pub struct zermuita_facts {
+    pub size: usize,
+    pub len: usize,
+    pub last: u64,
+    pub answers_from: u64,
+    pub ttl: u32,
+    pub life: u32,
+}
+
 /// `struct zermuita_request`: a request to a served zone.
 #[repr(C)]
 #[derive(Clone, Copy, Debug)]
@@ -272,6 +286,7 @@ extern "C" {
         out_len: usize,
         report: *mut zermuita_zone_report,
     ) -> u32;
+    pub fn zermuita_zone_facts(zone: *mut zermuita_zone, out: *mut u8, out_len: usize, facts: *mut zermuita_facts) -> u32;
     pub fn zermuita_zone_respond_to(
         zone: *mut zermuita_zone,
         request: *const zermuita_request,

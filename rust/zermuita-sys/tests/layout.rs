@@ -52,6 +52,7 @@ fn layouts(numbers: &mut Numbers) {
     layout!(numbers, zermuita_zone_report { size, len, line, whole, settled });
     layout!(numbers, zermuita_master { size, text, origin, chain, apex });
     layout!(numbers, zermuita_due { size, len, from, ttl, phase });
+    layout!(numbers, zermuita_facts { size, len, last, answers_from, ttl, life });
     layout!(numbers, zermuita_request { size, request, made, now, backdate, stream, limit, udp_size });
     numbers.insert("sizeof(struct zermuita_octets)".to_owned(), std::mem::size_of::<Octets>() as u64);
     numbers.insert("offsetof(struct zermuita_octets, len)".to_owned(), 8);
@@ -73,8 +74,8 @@ fn numbers() -> Numbers {
         ZERMUITA_INCOMPLETE_DENIAL, ZERMUITA_TOO_MUCH_WORK, ZERMUITA_DELEGATES_UNKNOWN, ZERMUITA_DELEGATES_YES, ZERMUITA_DELEGATES_NO,
         ZERMUITA_ZONE_DONE, ZERMUITA_ZONE_UNTOLD, ZERMUITA_ZONE_REFUSED, ZERMUITA_ZONE_RESPONSE, ZERMUITA_ZONE_NO_RESPONSE,
         ZERMUITA_ZONE_SIGN, ZERMUITA_ZONE_OUT_OF_MEMORY, ZERMUITA_ZONE_BUFFER_TOO_SMALL, ZERMUITA_ZONE_BAD_SIGNATURES,
-        ZERMUITA_ZONE_BAD_CALL, ZERMUITA_ZONE_NOT_OPEN, ZERMUITA_ZONE_IS_OPEN, ZERMUITA_KSK_ROLL, ZERMUITA_KSK_DOUBLE_DS_ROLL,
-        ZERMUITA_ZSK_ROLL, ZERMUITA_ZSK_DOUBLE_SIGNATURE_ROLL, ZERMUITA_CSK_ROLL, ZERMUITA_ALGORITHM_ROLL, ZERMUITA_NO_ROLL,
+        ZERMUITA_ZONE_BAD_CALL, ZERMUITA_ZONE_NOT_OPEN, ZERMUITA_ZONE_IS_OPEN, ZERMUITA_ZONE_TOO_SOON, ZERMUITA_ZONE_EXPIRED,
+        ZERMUITA_KSK_ROLL, ZERMUITA_KSK_DOUBLE_DS_ROLL, ZERMUITA_ZSK_ROLL, ZERMUITA_ZSK_DOUBLE_SIGNATURE_ROLL, ZERMUITA_CSK_ROLL, ZERMUITA_ALGORITHM_ROLL, ZERMUITA_NO_ROLL,
         ZERMUITA_PROPAGATION_1, ZERMUITA_EXPIRY_1, ZERMUITA_PROPAGATION_2, ZERMUITA_EXPIRY_2, ZERMUITA_ROLLED,
     );
     numbers

@@ -324,6 +324,22 @@ impl ZoneHandle {
         }
     }
 
+    pub(crate) fn facts(&mut self) -> (u32, sys::zermuita_facts, Vec<u8>) {
+        let mut out = vec![0; FIRST_ROOM];
+        loop {
+            let size = std::mem::size_of::<sys::zermuita_facts>();
+            let facts = sys::zermuita_facts { size, len: 0, last: 0, answers_from: 0, ttl: 0, life: 0 };
+            let mut facts = Room::<_, { sys::ZERMUITA_REPORT_ROOM }>::new(facts);
+            // SAFETY: as in `open`.
+            let reply = unsafe { sys::zermuita_zone_facts(&mut self.zone, out.as_mut_ptr(), out.len(), facts.as_mut_ptr()) };
+            if reply != sys::ZERMUITA_ZONE_BUFFER_TOO_SMALL || facts.held.len <= out.len() {
+                out.truncate(facts.held.len);
+                return (reply, facts.held, out);
+            }
+            out = vec![0; facts.held.len];
+        }
+    }
+
     pub(crate) fn records(&mut self, rtype: u16) -> ZoneReplied {
         let zone = &mut self.zone;
         zone_replied(|out, report| {

@@ -59,7 +59,7 @@ pub use name::{Name, NameError};
 pub use reply::{Refusal, Reply, Unreadable};
 pub use rtype::{Question, Rtype, RtypeError};
 pub use walk::{End, Outcome, Progress, Secure, Walk, WalkError, Wanted};
-pub use zone::{Applied, Due, MasterError, Phase, Request, Response, Roll, SetType, SignError, Signer, Zone, ZoneError};
+pub use zone::{Applied, Due, Facts, MasterError, Phase, Request, Response, Roll, SetType, SignError, Signer, Zone, ZoneError};
 
 /// Seconds since 1970, without leap seconds.
 pub type UnixTime = u64;

@@ -60,6 +60,12 @@ pub enum ZoneError {
     /// A signature could not be made.
     #[error(transparent)]
     Sign(#[from] SignError),
+    /// The moment of an answer is not behind the last replacement: [`Facts::answers_from`] is the first that is.
+    #[error("the moment of the answer is not behind the last replacement")]
+    TooSoon,
+    /// Signatures live no longer than the answer is backdated.
+    #[error("signatures live no longer than the answer is backdated")]
+    Expired,
     /// Memory ran out.
     #[error("memory ran out")]
     OutOfMemory,
@@ -73,6 +79,8 @@ impl ZoneError {
         match replied.reply {
             sys::ZERMUITA_ZONE_REFUSED => ZoneError::Refused { line: replied.report.line, reason: text(replied.octets()) },
             sys::ZERMUITA_ZONE_OUT_OF_MEMORY => ZoneError::OutOfMemory,
+            sys::ZERMUITA_ZONE_TOO_SOON => ZoneError::TooSoon,
+            sys::ZERMUITA_ZONE_EXPIRED => ZoneError::Expired,
             reply => ZoneError::Unexpected(reply),
         }
     }
@@ -179,6 +187,21 @@ pub struct Due {
     pub ttl: u32,
     /// What the keeper owes.
     pub actions: Vec<String>,
+}
+
+/// What the lines of a zone say about it.
+#[derive(Clone, Debug, PartialEq, Eq)]
+pub struct Facts {
+    /// The name of the zone as text, without a dot at the end but for the root.
+    pub apex: String,
+    /// The greatest moment of a call on its keys or a replacement; 0 where there is none.
+    pub last: UnixTime,
+    /// The first moment of which it answers: the one behind its last replacement; 0 where there is none.
+    pub answers_from: UnixTime,
+    /// The greatest TTL of its records, those that were replaced included.
+    pub ttl: u32,
+    /// How many seconds a signature is valid.
+    pub life: u32,
 }
 
 /// A set of a zone that can be told.
@@ -324,6 +347,26 @@ impl Zone {
             }),
             (sys::ZERMUITA_ZONE_OUT_OF_MEMORY, _) => Err(ZoneError::OutOfMemory),
             (reply, _) => Err(ZoneError::Unexpected(reply)),
+        }
+    }
+
+    /// What the lines of the zone say about it.
+    ///
+    /// # Errors
+    ///
+    /// If memory ran out.
+    pub fn facts(&mut self) -> Result<Facts, ZoneError> {
+        let (reply, facts, apex) = self.handle.facts();
+        match reply {
+            sys::ZERMUITA_ZONE_DONE => Ok(Facts {
+                apex: text(&apex),
+                last: facts.last,
+                answers_from: facts.answers_from,
+                ttl: facts.ttl,
+                life: facts.life,
+            }),
+            sys::ZERMUITA_ZONE_OUT_OF_MEMORY => Err(ZoneError::OutOfMemory),
+            reply => Err(ZoneError::Unexpected(reply)),
         }
     }
 

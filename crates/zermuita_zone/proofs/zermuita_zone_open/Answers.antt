@@ -11,7 +11,7 @@ returns-in-Ok-new c =
     let P : Option OpenZone → Type 0 = λ o. OpensFrom c.args.journal.now o (zone_in c.of.result) c.args.report.now now.report c.args.out.now now.out c.number-in-Ok-new.result in
     let closed : zone_in c.args.handle.now ≡ None = flag_none (zone_in c.args.handle.now) (sym c.is_open.ensures ∙ c.if-is_open.false) in
     let opened : zone_in c.of.result ≡ Some (record { zone = zone }) = c.of.ensures ∙ ap (λ (z : OpenZone). Some z) c.in-Ok-new.ensures.ok in
-    subst P (sym closed) (inl (record { z = record { zone = zone }; gives = record { known = c.in-Ok.ensures.known; opens = c.in-Ok.ensures.opened.0; octets_are = c.in-Ok.ensures.opened.1 }; is_open = opened; reply_is = c.number-in-Ok-new.ensures }))
+    subst P (sym closed) (inl (record { z = record { zone = zone }; gives = record { known = c.in-Ok.ensures.known; opens = c.in-Ok.ensures.opened.0; accepted = c.in-Ok.ensures.accepted; octets_are = c.in-Ok.ensures.opened.1 }; is_open = opened; reply_is = c.number-in-Ok-new.ensures }))
 
 -- memory runs out for it
 pub returns-in-Ok : goal.returns-in-Ok
@@ -19,4 +19,4 @@ returns-in-Ok c =
     let now = c.open_octets.new in let zone = c.in-Ok.zone in
     let P : Option OpenZone → Type 0 = λ o. OpensFrom c.args.journal.now o o c.args.report.now now.report c.args.out.now now.out c.number-in-Err-new.result in
     let closed : zone_in c.args.handle.now ≡ None = flag_none (zone_in c.args.handle.now) (sym c.is_open.ensures ∙ c.if-is_open.false) in
-    subst P (sym closed) (inr (refl, inr (record { zone = zone }, record { known = c.in-Ok.ensures.known; opens = c.in-Ok.ensures.opened.0; octets_are = c.in-Ok.ensures.opened.1 }, c.number-in-Err-new.ensures)))
+    subst P (sym closed) (inr (refl, inr (record { zone = zone }, record { known = c.in-Ok.ensures.known; opens = c.in-Ok.ensures.opened.0; accepted = c.in-Ok.ensures.accepted; octets_are = c.in-Ok.ensures.opened.1 }, c.number-in-Err-new.ensures)))

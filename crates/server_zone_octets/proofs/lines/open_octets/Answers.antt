@@ -9,6 +9,7 @@ returns-in-Ok-clause-opened g c =
     let z = c.in-Ok.opened.zone in (
       record {
         state = e.state;
+        opens_again = e.journal;
         fresh = e.fresh;
         whole = e.whole;
         settled = e.settled;
