@@ -56,6 +56,10 @@ class Due(ctypes.Structure):
     _fields_ = members((SIZE, "len"), (U64, "from"), (U32, "ttl phase"))
 
 
+class Facts(ctypes.Structure):
+    _fields_ = members((SIZE, "len"), (U64, "last answers_from"), (U32, "ttl life"))
+
+
 class Request(ctypes.Structure):
     _fields_ = members((Octets, "request made"), (U64, "now"), (U32, "backdate stream"), (U16, "limit udp_size"))
 
@@ -69,7 +73,7 @@ class Handle(ctypes.Structure):
 
 
 class _Out(ctypes.Union):
-    _fields_ = [("report", Report), ("zone", ZoneReport), ("due", Due), ("octets", ctypes.c_char * ROOM)]
+    _fields_ = [("report", Report), ("zone", ZoneReport), ("due", Due), ("facts", Facts), ("octets", ctypes.c_char * ROOM)]
 
 
 class _In(ctypes.Union):

@@ -12,10 +12,11 @@ from typing import Any
 from . import _c
 from .types import Message, clock, octets_of
 
-__all__ = ["Applied", "Due", "Phase", "Roll", "Sign", "Zone", "ZoneRefused"]
+__all__ = ["Applied", "Due", "Facts", "Phase", "Roll", "Sign", "Zone", "ZoneRefused"]
 
 DONE, UNTOLD, REFUSED, RESPONSE, NO_RESPONSE, SIGN, OUT_OF_MEMORY = 64, 65, 66, 67, 68, 69, 70
 NEVER = (1 << 64) - 1
+WRONG_TIMES = {76: "the time of the answer is not after the last replacement", 77: "signatures live no longer than `backdate`"}
 
 
 class Roll(enum.IntEnum):
@@ -70,6 +71,22 @@ class Due:
 
 
 @dataclasses.dataclass(frozen=True)
+class Facts:
+    """What the lines of a zone say about it."""
+
+    apex: str
+    """Its name as text, without a dot at the end unless it is the root."""
+    last: int
+    """The greatest time of a key call or a replacement; 0 if there is none."""
+    answers_from: int
+    """The first second that the zone answers, the one after its last replacement; 0 if there is none."""
+    ttl: int
+    """The greatest TTL of its records, those that were replaced included."""
+    life: int
+    """How many seconds a signature is valid."""
+
+
+@dataclasses.dataclass(frozen=True)
 class Sign:
     """A signature that is to be made."""
 
@@ -93,6 +110,8 @@ def _expect(reply: int, octets: bytes, report: Any, *allowed: int) -> int:
         raise ZoneRefused(_text(octets), int(report.line))
     if reply == OUT_OF_MEMORY:
         raise MemoryError("memory ran out")
+    if reply in WRONG_TIMES:
+        raise ValueError(WRONG_TIMES[reply])
     raise ValueError(f"reply {reply} of a zone")
 
 
@@ -146,6 +165,11 @@ class Zone:
         since = int(getattr(due, "from"))
         actions = _text(out).split("\n") if out else []
         return Due(Phase(due.phase), actions, None if since == NEVER else since, int(due.ttl))
+
+    def facts(self) -> Facts:
+        reply, out, facts = self._call("zone_facts", kind="facts")
+        _expect(reply, out, facts, DONE)
+        return Facts(_text(out), int(facts.last), int(facts.answers_from), int(facts.ttl), int(facts.life))
 
     def records(self, rtype: int) -> list[bytes]:
         """The data of the DNSKEY (48), DS (43), CDS (59) or CDNSKEY (60) records."""

@@ -3,6 +3,7 @@
 use zermuita::{Zone, ZoneError};
 
 use super::journal;
+use super::moments::Moments;
 use super::shared::Shared;
 
 /// A zone as so many octets of the journal make it. It stays with its thread.
@@ -29,15 +30,21 @@ impl Copy {
             return Ok(());
         }
         let octets = journal::read(&shared.journal, self.at, len - self.at).map_err(|error| error.to_string())?;
-        shared.moments.raise(journal::last_moment(&octets));
         for line in journal::whole_lines(&octets) {
             follow_key(shared, line);
             if self.zone.apply(line).is_err() {
                 *self = Copy::reopen(shared, len)?;
-                return Ok(());
+                break;
             }
         }
         self.at = len;
+        self.raise(&shared.moments).map_err(|error| error.to_string())
+    }
+
+    /// From now on no moment is before the zone's lines, and none is one that the zone does not answer.
+    pub fn raise(&mut self, moments: &Moments) -> Result<(), ZoneError> {
+        let facts = self.zone.facts()?;
+        moments.raise(facts.last.max(facts.answers_from));
         Ok(())
     }
 

@@ -77,26 +77,6 @@ fn lines(octets: &[u8]) -> impl Iterator<Item = &[u8]> {
     octets.split_inclusive(|it| *it == b'\n').filter(|it| it.ends_with(b"\n")).map(|it| &it[..it.len() - 1])
 }
 
-/// The last moment of key calls and replacements: the last word of each. Other lines have none.
-pub fn last_moment(octets: &[u8]) -> u64 {
-    let is_call = |it: &&[u8]| !it.starts_with(b"#") && !it.starts_with(b"rr ") && !it.starts_with(b"zone ");
-    let moment = |it: &[u8]| -> Option<u64> { std::str::from_utf8(it.rsplit(|it| *it == b' ').next()?).ok()?.parse().ok() };
-    lines(octets).filter(is_call).filter_map(moment).max().unwrap_or(0)
-}
-
-/// The zone's name, which stands behind the word `zone` in a journal's first line.
-pub fn apex(octets: &[u8]) -> String {
-    let first = lines(octets).find(|it| !it.is_empty() && !it.starts_with(b"#")).unwrap_or(b"");
-    let name = first.strip_prefix(b"zone ").unwrap_or(first).split(|it| *it == b' ').next().unwrap_or(b"");
-    String::from_utf8_lossy(name).into_owned()
-}
-
-/// The seconds for which signatures hold, which end the zone's line.
-pub fn life(octets: &[u8]) -> Option<u64> {
-    let zone = lines(octets).find(|it| it.starts_with(b"zone "))?;
-    std::str::from_utf8(zone.rsplit(|it| *it == b' ').next()?).ok()?.parse().ok()
-}
-
 /// How many octets stand up to the end of the last line that is whole and behind which no records wait for a replacement.
 pub fn settled(octets: &[u8]) -> usize {
     let (mut at, mut settled) = (0, 0);
@@ -140,7 +120,6 @@ mod tests {
 
     #[test]
     fn journals_are_read() {
-        assert_eq!((apex(JOURNAL).as_str(), life(JOURNAL), last_moment(JOURNAL)), ("example.", Some(604_800), 9));
         assert_eq!(settled(JOURNAL), JOURNAL.len() - 4);
         assert_eq!(last_records(JOURNAL), b"rr example. 1 1 6 01\n");
         assert_eq!(last_records(&JOURNAL[..60]), b"rr example. 1 1 6 00\n");

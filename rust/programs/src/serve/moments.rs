@@ -69,6 +69,11 @@ impl Moments {
         known.floor = known.floor.max(moment);
     }
 
+    /// No moment is at or before this one, of a replacement, from now on: no second has two versions of the zone.
+    pub fn raise_behind(&self, replaced: u64) {
+        self.raise(replaced.saturating_add(1));
+    }
+
     /// Reads the moment that the servers of the folder have come to.
     pub fn read(&self, file: &Answered) -> io::Result<()> {
         let answered = if self.is_shared {

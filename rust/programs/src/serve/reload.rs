@@ -95,7 +95,7 @@ pub fn in_turn(keeper: &mut Keeper, worker: &mut Worker, turn: &mut Changing<'_>
     let moment = keeper.shared.moments.of_replacement();
     lines.extend_from_slice(format!("replace {moment}\n").as_bytes());
     let said = apply(worker, &lines)?;
-    keeper.shared.moments.raise(moment);
+    keeper.shared.moments.raise_behind(moment);
     lines::keep(keeper, worker, &lines)?;
     turn.set(keeper.journal.len);
     keeper.shared.reloads.fetch_add(1, Ordering::Relaxed);
@@ -129,7 +129,7 @@ fn publish(keeper: &mut Keeper, worker: &Worker, moment: u64) {
     let shared = keeper.shared.clone();
     let mut turn = shared.turns.change(&worker.file);
     turn.set(keeper.journal.len);
-    shared.moments.raise(moment);
+    shared.moments.raise_behind(moment);
     shared.moments.thaw();
     let count = shared.reloads.fetch_add(1, Ordering::Relaxed) as usize;
     let place = &shared.slots[count % shared.slots.len()].home;

@@ -170,16 +170,14 @@ pub fn open_folder(config: &Config) -> Result<(Opened, bool), Ended> {
     }
     let keys = Arc::new(Keys::new(config.folder.join("keys")));
     keys.read_all();
-    let copy = open_zone(&mut journal).map_err(|it| if is_new { unlinked(&path, config, it) } else { it })?;
-    let octets = journal::read(&journal.file, 0, journal.len).map_err(|error| ended(path.display(), error))?;
+    let mut copy = open_zone(&mut journal).map_err(|it| if is_new { unlinked(&path, config, it) } else { it })?;
     let moments = Moments::new(config.backdate, config.step, config.share, answered);
-    moments.raise(journal::last_moment(&octets));
-    let apex = journal::apex(&octets);
-    if journal::life(&octets).map_or(false, |life| life <= u64::from(config.backdate) + u64::from(config.step)) {
+    let facts = copy.raise(&moments).and_then(|()| copy.zone.facts()).map_err(|error| ended("journal", error))?;
+    if u64::from(facts.life) <= u64::from(config.backdate) + u64::from(config.step) {
         let why = "the zone's signatures do not hold longer than backdate and step: they would be over when they are sent";
         return Err(ended("start", why));
     }
-    let mut opened = Opened { copy, journal, file: Arc::new(file), keys, moments, apex };
+    let mut opened = Opened { copy, journal, file: Arc::new(file), keys, moments, apex: facts.apex };
     has_private_keys(&mut opened)?;
     // Where no moment is noted, that of the start counts as one of an answer: a folder may have come here without its file.
     if answered == 0 {

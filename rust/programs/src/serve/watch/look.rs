@@ -1,6 +1,6 @@
 //! The process that watches.
 
-use std::io::{BufRead, BufReader, Read};
+use std::io::Read;
 use std::net::SocketAddr;
 use std::path::PathBuf;
 use std::sync::Arc;
@@ -41,7 +41,7 @@ struct Watch {
     lacking: String,
 }
 
-/// The zone's name, and the greatest TTL of all lines of its journal.
+/// The zone's name, and the greatest TTL of the records that it has or had.
 struct Zone {
     name: Name,
     greatest: u32,
@@ -82,22 +82,9 @@ impl Watch {
     }
 
     fn read_zone(&self) -> Option<Zone> {
-        let mut zone = Zone { name: Name::root(), greatest: 0 };
-        let mut has_name = false;
-        let journal = std::fs::File::open(self.folder.join("journal")).ok()?;
-        for line in BufReader::new(journal).lines() {
-            let line = line.ok()?;
-            let words: Vec<&str> = line.splitn(4, ' ').collect();
-            match words[..] {
-                ["zone", name, ..] => {
-                    zone.name = name.parse().ok()?;
-                    has_name = true;
-                }
-                ["rr", _, ttl, ..] => zone.greatest = zone.greatest.max(ttl.parse().unwrap_or(0)),
-                _ => {}
-            }
-        }
-        has_name.then_some(zone)
+        let journal = std::fs::read(self.folder.join("journal")).ok()?;
+        let facts = zermuita::Zone::open(&journal).ok()?.facts().ok()?;
+        Some(Zone { name: facts.apex.parse().ok()?, greatest: facts.ttl })
     }
 
     /// Whether all servers of the zone show what this one shows.

@@ -1,7 +1,7 @@
 //! Reports that nobody has to make: a process beside the server asks the zone's servers and the parent's, and makes a report, or ends a
 //! roll, once all of them show the change. It believes what they say: the way to them is to be one on which nobody forges.
 //!
-//! A report's TTL is the greatest of what was there before: of the zone the greatest that a line of its journal has; of the parent the
+//! A report's TTL is the greatest of what was there before: of the zone the greatest that its records have or had; of the parent the
 //! greatest that its servers said, which is known where each of them was asked while it had another DS set.
 
 mod ask;
