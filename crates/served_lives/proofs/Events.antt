@@ -1,5 +1,6 @@
 -- Each thing that happens to a served zone is an event of a simulation, or none.
-use Rattle.std.proofs.Common.{◌≡◌, ℕ, true, false, List, [], ◌∷◌, ◌++◌, map, length, None, refl, sym, ap, subst, ◌∙◌}
+use Rattle.std.proofs.Common.{◌≡◌, ℕ, true, false, ◌&&◌, List, [], ◌∷◌, ◌++◌, map, length, Option, Some, None, refl, sym, ap, subst, ◌∙◌, arith}
+use Rattle.std.proofs.lemmas.Bool.{leb-false, le-leb}
 use Rattle.std.specs.Prelude.{Ok, Err}
 use Rattle.std.specs.Global.{Vec}
 use Rattle.std.specs.List.{AllByRecursion}
@@ -19,10 +20,12 @@ use Rattle.answer_terms.specs.Accepting.{sorted_records}
 use Rattle.answer_terms.specs.ZoneView.{AcceptedZone}
 use Rattle.answer_publisher_keys.specs.Bindings.{ZoneKeys, apply}
 use Rattle.answer_publisher.specs.Publishing.{digest_at}
+use Rattle.answer_publisher.specs.Replacing.{is_too_soon, noted, whole_second}
 use Rattle.answer_publisher.specs.World.{AnswersKeysQuestion, AnswersQuestion, HashesNames, SpellsAnswer, SpellsKeys, World, world}
 use Rattle.answer_outcomes.specs.declared.outcome.Outcome.{Outcome}
 use Rattle.answer_outcomes.specs.declared.outcome.Outcome.TheVariants as outcome
 use Rattle.answer_laws.specs.Simulating.{Simulates, Sofar, StepOf, now_in}
+use Rattle.answer_laws.specs.Versions.{Parting, is_behind, parting_with}
 use Rattle.keyset_rolls.specs.declared.rolls.Action.{Action}
 use Rattle.server_signatures.specs.Outcomes.{signed_by}
 use Rattle.server_answers.specs.Responding.{Serving}
@@ -32,12 +35,24 @@ use Rattle.server_zone.specs.declared.line.Line.{Line}
 use Rattle.server_zone.specs.declared.line.Line.TheVariants as line
 use Rattle.server_zone.specs.declared.open_zone.Applied.{Applied}
 use Rattle.server_zone.specs.declared.open_zone.Applied.TheVariants as applied
-use Rattle.served_lives.specs.Lives.{Happening, Happens, IsElsewhere, Mirrors, Records, ServesFrom, Takes, Answers, AnswersKeys, Else, events_of}
+use Rattle.served_lives.specs.Lives.{Happening, Happens, IsBehindReplacements, IsElsewhere, Mirrors, PartsInto, Records, ServesFrom, Takes, Answers, AnswersKeys, Else, events_of}
 use Rattle.served_lives.proofs.Made.{plain_lists_accepted}
 
+-- where replacements part the seconds of answers in front of what happens, they do so behind it
+abbrev pub Parts : State → Happening → List Outcome → State → Type 0
+Parts st h os t = (p : Parting) → p.since ≡ st.closed → p.kept ≡ true → IsBehindReplacements st h → PartsInto p (events_of h) os t.closed
+
 -- the events of what happens are a simulation, which the zone mirrors behind them
-abbrev pub IsEvents : World → Sofar → Happening → State → Sofar → Type 0
-IsEvents w s h t u = (os : List Outcome) × Simulates w s (events_of h) os u × Mirrors w t u
+abbrev pub IsEvents : World → State → Sofar → Happening → State → Sofar → Type 0
+IsEvents w st s h t u = (os : List Outcome) × Simulates w s (events_of h) os u × Mirrors w t u × Parts st h os t
+
+-- an answer that comes behind replacements keeps them so
+behind_kept : (closed since : Option ℕ) (at : ℕ) → since ≡ closed → is_too_soon closed at ≡ false → is_behind since at ≡ true
+behind_kept closed since at e h = subst (λ (o : Option ℕ). is_behind o at ≡ true) (sym e) (go closed h)
+  where
+    go : (o : Option ℕ) → is_too_soon o at ≡ false → is_behind o at ≡ true
+    go None k = refl
+    go (Some second) k = let later = leb-false (whole_second at) second k in le-leb second (whole_second at) (omega arith)
 
 -- ---- no event
 
@@ -105,20 +120,28 @@ module _ (w : World) (st t : State) (s u : Sofar) (m : Mirrors w st s) (e : u �
         },
       )
 
-taken : (w : World) (st t : State) (s u : Sofar) → Mirrors w st s → (gathered : Records) (l : Line) (a : Applied) → Happens w st s (Takes gathered l a) t u → IsEvents w s (Takes gathered l a) t u
+taken : (w : World) (st t : State) (s u : Sofar) → Mirrors w st s → (gathered : Records) (l : Line) (a : Applied) → Happens w st s (Takes gathered l a) t u → IsEvents w st s (Takes gathered l a) t u
 taken w st t s u m gathered line.Nothing applied.Nothing h =
-    let q = quiet w st t s u m h.3 (ap (λ (x : State). x.zone) h.2) (ap (λ (x : State). x.life) h.2) (ap (λ (x : State). x.keys) h.2) in ([], q.0, q.1)
+    let q = quiet w st t s u m h.3 (ap (λ (x : State). x.zone) h.2) (ap (λ (x : State). x.life) h.2) (ap (λ (x : State). x.keys) h.2) in
+    ([], q.0, q.1, λ p e k b. (e ∙ sym (ap (λ (x : State). x.closed) h.2), k))
 taken w st t s u m gathered (line.Record r) applied.Gathered h =
     let g = h.2.1 in
-    let q = quiet w st t s u m h.3 (ap (λ (x : State). x.zone) g) (ap (λ (x : State). x.life) g) (ap (λ (x : State). x.keys) g) in ([], q.0, q.1)
+    let q = quiet w st t s u m h.3 (ap (λ (x : State). x.zone) g) (ap (λ (x : State). x.life) g) (ap (λ (x : State). x.keys) g) in
+    ([], q.0, q.1, λ p e k b. (e ∙ sym (ap (λ (x : State). x.closed) g), k))
 taken w st t s u m gathered (line.Call c at) (applied.Actions actions) h =
-    let r = by_call w st t s u m h.3 c at actions h.2.0 h.2.1 h.2.2 in (outcome.Key (Ok actions) ∷ [], (u, r.0, refl), r.1)
+    let r = by_call w st t s u m h.3 c at actions h.2.0 h.2.1 h.2.2 in
+    (outcome.Key (Ok actions) ∷ [], (u, r.0, refl), r.1, λ p e k b. (k, (e ∙ sym (ap (λ (x : State). x.closed) h.2.2), k)))
 taken w st t s u m gathered (line.Replacement at) applied.Replaced h =
     let f = h.2 in
     let accepted : IsAccepted w.answers.hash st.zone.apex st.zone.mode st.zone.limit st.gathered =
     plain_lists_accepted w.answers.hash st.zone.apex st.zone.mode st.zone.limit st.gathered f.2 h.1.1 in
     let r = by_replacement w st t s u m h.3 at gathered h.0 f.1 accepted f.3 in
-    (outcome.Replaced (Ok tt) ∷ [], (u, (h.1.0, r.0, r.1, r.2), refl), r.3)
+    (
+      outcome.Replaced (Ok tt) ∷ [],
+      (u, (h.1.0, r.0, r.1, r.2), refl),
+      r.3,
+      λ p e k b. (k, (ap (λ (x : Option ℕ). noted x at) e ∙ sym (ap (λ (x : State). x.closed) f.3), k)),
+    )
 taken w st t s u m gathered line.Nothing _ h = absurd h.2
 taken w st t s u m gathered (line.Record r) _ h = absurd h.2
 taken w st t s u m gathered (line.Call c at) _ h = absurd h.2
@@ -145,7 +168,7 @@ module _ (w : World) (st : State) (s : Sofar) (m : Mirrors w st s) (v : Serving)
     keys_are = ap (λ (x : State). x.keys) g ∙ m.keys_are ∙ sym keys;
   }
 
-  answered : (t : State) (u : Sofar) (q : Question Name) (octets : Vec ℕ) → Happens w st s (Answers v q octets) t u → IsEvents w s (Answers v q octets) t u
+  answered : (t : State) (u : Sofar) (q : Question Name) (octets : Vec ℕ) → Happens w st s (Answers v q octets) t u → IsEvents w st s (Answers v q octets) t u
   answered t u q octets h =
       let asked : Asked = asked_of q in
       let both = h.3.0 w.sign w.answers.verifies from.signs in
@@ -155,9 +178,10 @@ module _ (w : World) (st : State) (s : Sofar) (m : Mirrors w st s) (v : Serving)
         outcome.Message (length s.shown) octets ∷ [],
         (u, (refl, h.2, h.1, (shows, spells, hashes), h.5), refl),
         stays t u h.4 (ap (λ (x : Sofar). x.records) h.5) (ap (λ (x : Sofar). x.keys) h.5),
+        λ p e k b. (k, (e ∙ sym (ap (λ (x : State). x.closed) h.4), ap (λ x. x && is_behind p.since v.at) k ∙ behind_kept st.closed p.since v.at e b)),
       )
 
-  answered_keys : (t : State) (u : Sofar) (octets : Vec ℕ) → Happens w st s (AnswersKeys v octets) t u → IsEvents w s (AnswersKeys v octets) t u
+  answered_keys : (t : State) (u : Sofar) (octets : Vec ℕ) → Happens w st s (AnswersKeys v octets) t u → IsEvents w st s (AnswersKeys v octets) t u
   answered_keys t u octets h =
       let both = h.1 w.sign w.answers.verifies from.signs in
       let shows = in_place (λ x k. AnswersKeysQuestion x k v.at octets.items) both.0 in
@@ -165,6 +189,7 @@ module _ (w : World) (st : State) (s : Sofar) (m : Mirrors w st s) (v : Serving)
         outcome.Message (length s.shown) octets ∷ [],
         (u, (refl, (shows, spells), h.3), refl),
         stays t u h.2 (ap (λ (x : Sofar). x.records) h.3) (ap (λ (x : Sofar). x.keys) h.3),
+        λ p e k b. (k, (e ∙ sym (ap (λ (x : State). x.closed) h.2), k)),
       )
 
 -- ---- elsewhere
@@ -184,7 +209,19 @@ elsewhere_keeps w s u at (act.Replace rs) o k h = absurd k
 elsewhere_keeps w s u at act.ShowDnskey o k h = absurd k
 elsewhere_keeps w s u at (act.Ask q) o k h = absurd k
 
-elsewhere : (w : World) (st t : State) (s u : Sofar) → Mirrors w st s → (e : Event) (o : Outcome) → Happens w st s (Else e o) t u → IsEvents w s (Else e o) t u
+-- nor what replacements part
+elsewhere_parts : (p : Parting) (at : ℕ) (a : Act) (o : Outcome) → IsElsewhere a → parting_with p at a o ≡ p
+elsewhere_parts p at act.ShowDs o k = refl
+elsewhere_parts p at act.ShowCds o k = refl
+elsewhere_parts p at act.ShowCdnskey o k = refl
+elsewhere_parts p at (act.Judge ds dnskey answer) o k = refl
+elsewhere_parts p at (act.JudgeBytes ds dnskey answer q) o k = refl
+elsewhere_parts p at (act.Key c) o k = absurd k
+elsewhere_parts p at (act.Replace rs) o k = absurd k
+elsewhere_parts p at act.ShowDnskey o k = absurd k
+elsewhere_parts p at (act.Ask q) o k = absurd k
+
+elsewhere : (w : World) (st t : State) (s u : Sofar) → Mirrors w st s → (e : Event) (o : Outcome) → Happens w st s (Else e o) t u → IsEvents w st s (Else e o) t u
 elsewhere w st t s u m e o h =
     let kept = elsewhere_keeps w s u e.at e.act o h.0 h.1 in (
       o ∷ [],
@@ -194,9 +231,11 @@ elsewhere w st t s u m e o h =
         life_is = ap (λ (x : State). x.life) h.2 ∙ m.life_is;
         keys_are = ap (λ (x : State). x.keys) h.2 ∙ m.keys_are ∙ sym kept.1;
       },
+      λ p f k b. let same = elsewhere_parts p e.at e.act o h.0 in
+      (k, (ap (λ (x : Parting). x.since) same ∙ f ∙ sym (ap (λ (x : State). x.closed) h.2), ap (λ (x : Parting). x.kept) same ∙ k)),
     )
 
-pub happening_is_events : (w : World) (st t : State) (s u : Sofar) (h : Happening) → Mirrors w st s → Happens w st s h t u → IsEvents w s h t u
+pub happening_is_events : (w : World) (st t : State) (s u : Sofar) (h : Happening) → Mirrors w st s → Happens w st s h t u → IsEvents w st s h t u
 happening_is_events w st t s u (Takes gathered l a) m h = taken w st t s u m gathered l a h
 happening_is_events w st t s u (Answers v q octets) m h = answered w st s m v h.0 t u q octets h
 happening_is_events w st t s u (AnswersKeys v octets) m h = answered_keys w st s m v h.0 t u octets h

@@ -21,6 +21,7 @@ use Rattle.answer_outcomes.specs.declared.outcome.Outcome.{Outcome}
 use Rattle.answer_outcomes.specs.declared.outcome.Outcome.TheVariants as outcome
 use Rattle.answer_laws.specs.Simulating.{OfKeys, OfZone, Simulates, Sofar, StepOf, begin, now_in}
 use Rattle.answer_laws.specs.Simulations.{IsSimulation, IsZoneOf}
+use Rattle.answer_laws.specs.Versions.{Parting, no_parting, parting_with}
 use Rattle.server_signatures.specs.Outcomes.{AnswersEach, AnswersKeysEach}
 use Rattle.server_signatures.specs.Table.{SignsAs}
 use Rattle.server_answers.specs.Responding.{Serving}
@@ -119,8 +120,30 @@ pub record IsNewborn (w : World) (st : State) : Type 0 where
   pub life_is : st.life ≡ w.life
   pub keys_are : st.keys ≡ no_keys w.zone.apex
 
--- Whatever happens in a life from its beginning is a simulation, event by event, and the zone is what that has come to.
+-- ---- the seconds of answers
+
+-- an answer is of a second behind those of all replacements, as the moment of a zone's response is
+abbrev pub IsBehindReplacements : State → Happening → Type 0
+IsBehindReplacements st (Answers v q m) = is_too_soon st.closed v.at ≡ false
+IsBehindReplacements st _ = Unit {0}
+
+-- so is each in a life
+abbrev pub AnswersLieBehind : (w : World) (st : State) (s : Sofar) (hs : List Happening) (t : State) (u : Sofar) → Lives w st s hs t u → Type 0
+AnswersLieBehind w st s [] t u l = Unit {0}
+AnswersLieBehind w st s (h ∷ hs) t u l = IsBehindReplacements st h × AnswersLieBehind w l.0 l.1 hs t u l.3
+
+-- At each event the seconds of answers in front of a replacement lie before all those behind it; the greatest second of a replacement
+-- is this in the end.
+abbrev pub PartsInto : Parting → List Event → List Outcome → Option ℕ → Type 0
+PartsInto p [] [] closed = (p.since ≡ closed) × (p.kept ≡ true)
+PartsInto p (e ∷ es) (o ∷ os) closed = (p.kept ≡ true) × PartsInto (parting_with p e.at e.act o) es os closed
+PartsInto p [] (o ∷ os) closed = ⊥
+PartsInto p (e ∷ es) [] closed = ⊥
+
+-- Whatever happens in a life from its beginning is a simulation, event by event, and the zone is what that has come to. Where its answers
+-- lie behind replacements, these part their seconds.
 abbrev pub LivesAreSimulations : Type 0
 LivesAreSimulations =
-    (w : World) (rs : List HandedRr) (hs : List Happening) (st t : State) (u : Sofar) → IsZoneOf w rs → IsNewborn w st → Lives w st (begin w.zone) hs t u
+    (w : World) (rs : List HandedRr) (hs : List Happening) (st t : State) (u : Sofar) → IsZoneOf w rs → IsNewborn w st → (l : Lives w st (begin w.zone) hs t u)
     → (os : List Outcome) × Simulates w (begin w.zone) (flat_map events_of hs) os u × IsSimulation w rs (flat_map events_of hs) os × Mirrors w t u
+    × (st.closed ≡ None → AnswersLieBehind w st (begin w.zone) hs t u l → PartsInto no_parting (flat_map events_of hs) os t.closed)

@@ -10,7 +10,10 @@ ghost use Rattle.served_lives.specs.Made.{ResponsesAreOfAnswers};
 ///
 /// A life begins with the zone's own records, without keys. A zone that is opened from its journal
 /// goes on with the life that its lines are. A replacement is to lie behind the second of every
-/// answer before it, of each process that serves the zone.
+/// answer before it, of each process that serves the zone. Answers lie behind the replacements
+/// before them, since the zone gives no others ([`Zone::is_closed`](server_zone::Zone::is_closed)):
+/// so the seconds of answers in front of a replacement lie before all those behind it, and no
+/// second has two versions of the zone. Between replacements moments may go back.
 pub fn served_zones_live_as_simulated()
     ensures { LivesAreSimulations }
 {}
