@@ -10,7 +10,6 @@ use Rattle.denial_chain_owners.specs.declared.error.SigningError.TheVariants as 
 use Rattle.denial_nsec3_hash.specs.Hashing.{FitsName}
 use Rattle.keyset_keys.specs.declared.errors.Error.TheVariants as error
 use Rattle.messages.specs.HandedRr.{HandedRr}
-use Rattle.answer_events.specs.Calls.{Call}
 use Rattle.answer_terms.specs.Accepting.{zone_of}
 use Rattle.answer_terms.specs.Chainable.{HasChain}
 use Rattle.answer_terms.specs.Hashing.{Hasher}
@@ -25,7 +24,7 @@ use Rattle.answer_publisher_keys.specs.declared.fault.KeyFault.{KeyFault}
 use Rattle.answer_publisher_keys.specs.declared.fault.KeyFault.TheVariants as key
 use Rattle.answer_publisher_keys.specs.Bindings.{apply}
 use Rattle.answer_publisher.specs.declared.fault.ReplaceFault.TheVariants as replace
-use Rattle.session_grammar.specs.Grammar.{◌>>=◌, ZoneLine}
+use Rattle.session_grammar.specs.Grammar.{ZoneLine}
 use Rattle.server_zone.specs.JournalLaws.{JournalsOpenAgain}
 use Rattle.server_zone.specs.Journals.{Phase, Empty, Beginning, Running, IsEndFit, IsFit, IsLineFit, IsOwnFit, Leads, RefusesBehind, RefusesEnd, RefusesLines, RefusesOwn, own_line, ran, with_line}
 use Rattle.server_zone.specs.Lines.{has_feed, whole_lines}

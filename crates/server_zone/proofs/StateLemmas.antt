@@ -1,19 +1,12 @@
 -- What applying a line gives, and why it is refused.
 use Rattle.std.proofs.Common.{◌≡◌, ℕ, false, cond, List, sym, ap, subst, ◌∙◌}
-use Rattle.std.specs.Prelude.{Option, Some, None, Err}
+use Rattle.std.specs.Prelude.{Option, Some, None}
 use Rattle.answer_terms.specs.Hashing.{Hasher}
 use Rattle.session_grammar.specs.Grammar.{◌>>=◌}
-use Rattle.session_grammar.specs.Readings.{Reads}
-use Rattle.session_grammar.specs.declared.line_error.LineFault.{LineFault}
-use Rattle.session_grammar.specs.declared.line_error.LineError.{LineError}
-use Rattle.session_grammar.specs.declared.line_error.LineError.TheVariants as error
 use Rattle.server_zone.specs.Journals.{IsFit}
 use Rattle.server_zone.specs.Lines.{has_feed}
-use Rattle.server_zone.specs.Refusals.{refusal_of_line}
 use Rattle.server_zone.specs.StateLines.{StateLine, Nothing, Added, Replaced, Called, Other, state_line}
-use Rattle.server_zone.specs.States.{Digest, Follows, gathering, OfLine, RefusesLine, RefusesTo, State, after, applied_line, behind_call}
-use Rattle.server_zone.specs.declared.refusals.Refusal.{Refusal}
-use Rattle.server_zone.specs.declared.refusals.Refusal.TheVariants as refusal
+use Rattle.server_zone.specs.States.{Digest, Follows, gathering, OfLine, State, after, applied_line, behind_call}
 use Rattle.server_zone.specs.declared.open_zone.Applied.{Applied}
 use Rattle.server_zone.specs.declared.open_zone.Applied.TheVariants as applied
 

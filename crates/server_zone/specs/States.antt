@@ -1,5 +1,5 @@
 -- The state of a zone, which its lines determine.
-use Rattle.std.specs.Prelude.{◌≡◌, ℕ, ◌==◌, Bool, true, false, List, [], ◌∷◌, ◌++◌, map, max, Option, Some, None, Ok, Err, if◌then◌else◌}
+use Rattle.std.specs.Prelude.{◌≡◌, ℕ, Bool, true, false, List, [], ◌∷◌, ◌++◌, map, max, Option, Some, None, Ok, Err, if◌then◌else◌}
 use Rattle.std.specs.List.{AllByRecursion}
 use Rattle.std.specs.Option.{is_some}
 use Rattle.definitions.specs.Dnskey.{Dnskey}
@@ -18,7 +18,6 @@ use Rattle.answer_publisher.specs.Replacing.{is_too_soon, noted}
 use Rattle.answer_publisher.specs.World.{zone_by}
 use Rattle.answer_publisher.specs.declared.publishing.Publisher.{Publisher}
 use Rattle.session_grammar.specs.Grammar.{◌>>=◌, ZoneLine}
-use Rattle.session_grammar.specs.declared.line_error.LineFault.TheVariants as line_fault
 use Rattle.server_glue.specs.Glue.{addresses_of}
 use Rattle.server_answers.specs.Zones.{IsAcceptedZone}
 use Rattle.server_zone.specs.Lines.{has_feed}

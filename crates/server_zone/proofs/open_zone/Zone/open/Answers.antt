@@ -1,4 +1,4 @@
-use Rattle.std.proofs.Common.{◌≡◌, true, ap, ◌∙◌, ◌+◌, ◌-◌, ◌==◌, length, arith}
+use Rattle.std.proofs.Common.{◌≡◌, true, ap, ◌∙◌, ◌-◌, ◌==◌, length, arith}
 use Rattle.std.proofs.lemmas.List.{length-map}
 use Rattle.messages.specs.HandedRr.{handed_of}
 use Rattle.server_zone.specs.Journals.{is_settled, phase_view}
