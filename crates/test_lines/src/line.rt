@@ -12,7 +12,7 @@ use std::fmt::Display;
 pub struct Line<'l> {
     alloc: Global,
     text: &'l str,
-    between: &'static str,
+    between: &'l str,
     answer: String,
     is_lost: bool,
 }
@@ -30,7 +30,7 @@ impl<'l> Line<'l> {
     }
 
     /// Another answer to the same line, this between two words.
-    pub fn aside(&self, between: &'static str) -> Line<'l> {
+    pub fn aside(&self, between: &'l str) -> Line<'l> {
         Line {
             alloc: self.alloc,
             text: self.text,
