@@ -6,24 +6,16 @@ use test_lines::Line;
 
 /// The name that octets spell; the root where they spell none.
 pub fn flat<'a>(line: &mut Line<'_>, octets: &'a [u8]) -> Name<&'a [u8]> {
-    match Name::from_slice(octets) {
-        Ok(name) => name,
-        Err(_) => {
-            line.lose();
-            Name::root_ref()
-        }
-    }
+    let made = Name::from_slice(octets);
+    line.check(made.is_ok());
+    made.unwrap_or(Name::root_ref())
 }
 
 /// The relative name that octets spell; the empty one where they spell none.
 pub fn relative_flat<'a>(line: &mut Line<'_>, octets: &'a [u8]) -> RelativeName<&'a [u8]> {
-    match RelativeName::from_slice(octets) {
-        Ok(name) => name,
-        Err(_) => {
-            line.lose();
-            RelativeName::empty_ref()
-        }
-    }
+    let made = RelativeName::from_slice(octets);
+    line.check(made.is_ok());
+    made.unwrap_or(RelativeName::empty_ref())
 }
 
 /// The octets of a label, if there is one.

@@ -105,11 +105,17 @@ pub fn insert(line: &mut Line<'_>) {
     if let Some(rr) = record_of(line, more) {
         match sorted.insert(rr) {
             Ok(()) => {}
-            Err(InsertError::Present(back)) => present(line, back),
-            Err(InsertError::Memory(_)) => line.lose(),
+            Err(refused) => not_put_in(line, refused),
         }
     }
     show_all(line, sorted.as_slice());
+}
+
+fn not_put_in(line: &mut Line<'_>, refused: InsertError<Owner, Data>) {
+    match refused {
+        InsertError::Present(back) => present(line, back),
+        InsertError::Memory(_back) => line.lose(),
+    }
 }
 
 fn present(line: &mut Line<'_>, back: Rr) {
