@@ -131,17 +131,35 @@ fn is_behind_len(behind: &[u8], alone: &[u8]) -> bool {
     }
 }
 
+/// Leaves no answer unless octets are no data of the type that is asked for, and their parser stays
+/// where it was.
+fn check_none<'a, D: ParseRecordData<'a> + Drop>(
+    line: &mut Line<'_>,
+    rtype: Rtype,
+    parser: &mut Parser<'a>,
+) {
+    let begin = parser.pos();
+    let found = D::parse_rdata(rtype, parser);
+    line.check(matches!(found, Ok(None)));
+    line.check(parser.pos() == begin);
+}
+
+/// The data that are read where their type is asked for.
+fn found<'a, D: ParseRecordData<'a> + Drop>(rtype: Rtype, parser: &mut Parser<'a>) -> Option<D> {
+    match D::parse_rdata(rtype, parser) {
+        Ok(found) => found,
+        Err(_) => None,
+    }
+}
+
 /// The fields of SOA data, which are none of NS data.
 pub fn soa(line: &mut Line<'_>) {
     let place = Place::read(line, 1);
     let (mut parser, mut again) = (place.parser(place.len()), place.parser(place.len()));
-    let begin = parser.pos();
-    let other: Result<Option<Soa<ParsedName>>, _> = Soa::parse_rdata(Rtype::NS, &mut parser);
-    line.check(matches!(other, Ok(None)));
-    line.check(parser.pos() == begin);
-    let asked: Result<Option<Soa<ParsedName>>, _> = Soa::parse_rdata(Rtype::SOA, &mut again);
+    check_none::<Soa<ParsedName<'_>>>(line, Rtype::NS, &mut parser);
+    let asked = found::<Soa<ParsedName<'_>>>(Rtype::SOA, &mut again);
     match (asked, Soa::parse(&mut parser)) {
-        (Ok(Some(asked)), Ok(soa)) => {
+        (Some(asked), Ok(soa)) => {
             line.check(asked == soa);
             soa_fields(line, &soa);
         }
@@ -164,13 +182,10 @@ fn soa_fields(line: &mut Line<'_>, soa: &Soa<ParsedName<'_>>) {
 pub fn ns(line: &mut Line<'_>) {
     let place = Place::read(line, 1);
     let (mut parser, mut again) = (place.parser(place.len()), place.parser(place.len()));
-    let begin = parser.pos();
-    let other: Result<Option<Ns<ParsedName>>, _> = Ns::parse_rdata(Rtype::SOA, &mut parser);
-    line.check(matches!(other, Ok(None)));
-    line.check(parser.pos() == begin);
-    let asked: Result<Option<Ns<ParsedName>>, _> = Ns::parse_rdata(Rtype::NS, &mut again);
+    check_none::<Ns<ParsedName<'_>>>(line, Rtype::SOA, &mut parser);
+    let asked = found::<Ns<ParsedName<'_>>>(Rtype::NS, &mut again);
     match (asked, Ns::parse(&mut parser)) {
-        (Ok(Some(asked)), Ok(ns)) => {
+        (Some(asked), Ok(ns)) => {
             line.check(asked == ns);
             line.check(ns.nsdname().name_eq(ns.nsdname()));
             line.value(ns.nsdname());
