@@ -34,7 +34,8 @@ pub fn times(line: &mut Line<'_>) {
 /// A time of octets, written again.
 pub fn time(line: &mut Line<'_>) {
     let octets = line.octets(1);
-    told(line, Timestamp::parse(&mut Parser::from_ref(&octets)));
+    let read = Timestamp::parse(&mut Parser::from_ref(&octets));
+    told(line, read);
 }
 
 /// A time of a text, written.

@@ -30,14 +30,14 @@ pub fn typed(line: &mut Line<'_>) {
         octets: &octets,
         others: &others,
     };
-    answer(line, asked);
+    answer(line, &asked);
 }
 
 /// What is asked of octets as data of a type: how they are printed (`text`), their octets in
 /// canonical form (`canonical`), these as they are written again (`data`), whether these are the
 /// same (`same`), how they stand to others (`order`), and else why they are refused, and where the
 /// parser stands then.
-fn answer(line: &mut Line<'_>, asked: Asked<'_>) {
+fn answer(line: &mut Line<'_>, asked: &Asked<'_>) {
     match asked.rtype {
         Rtype::DS => of_type::<Ds<&[u8]>>(line, asked),
         Rtype::RRSIG => of_type::<Rrsig<&[u8], ParsedName>>(line, asked),
@@ -52,7 +52,7 @@ fn answer(line: &mut Line<'_>, asked: Asked<'_>) {
 fn of_type<
     'a,
     D: ParseRecordData<'a> + ComposeRecordData + Ord + CanonicalOrd + Hash + Display + Drop,
->(line: &mut Line<'_>, asked: Asked<'a>) {
+>(line: &mut Line<'_>, asked: &Asked<'a>) {
     let mut parser = Parser::from_ref(asked.octets);
     match D::parse_rdata(asked.rtype, &mut parser) {
         Ok(Some(found)) => of_data(line, asked, &found, parser.remaining() == 0),
@@ -69,7 +69,7 @@ fn of_type<
 fn of_data<
     'a,
     D: ParseRecordData<'a> + ComposeRecordData + Ord + CanonicalOrd + Hash + Display + Drop,
->(line: &mut Line<'_>, asked: Asked<'a>, found: &D, is_read: bool) {
+>(line: &mut Line<'_>, asked: &Asked<'a>, found: &D, is_read: bool) {
     match asked.asked {
         "text" => line.value(found),
         "canonical" => canonical(line, found),
@@ -87,7 +87,7 @@ fn of_data<
 
 fn ordered<'a, D: ParseRecordData<'a> + Ord + CanonicalOrd + Hash + Drop>(
     line: &mut Line<'_>,
-    asked: Asked<'a>,
+    asked: &Asked<'a>,
     found: &D,
 ) {
     match D::parse_rdata(asked.rtype, &mut Parser::from_ref(asked.others)) {
@@ -104,7 +104,7 @@ fn canonical<D: ComposeRecordData>(line: &mut Line<'_>, data: &D) {
 
 /// Data as they are written, where they say their length, and are as long in canonical form; or
 /// whether they are written the same.
-fn written<D: ComposeRecordData>(line: &mut Line<'_>, asked: Asked<'_>, data: &D) {
+fn written<D: ComposeRecordData>(line: &mut Line<'_>, asked: &Asked<'_>, data: &D) {
     let (mut written, mut canonical) = (Vec::new(line.alloc()), Vec::new(line.alloc()));
     line.must(data.compose_rdata(&mut written));
     line.must(data.compose_canonical_rdata(&mut canonical));
@@ -146,7 +146,7 @@ pub fn data(line: &mut Line<'_>) {
         octets: &octets,
         others: b"",
     };
-    answer(line, asked);
+    answer(line, &asked);
     line.must(octets.push(0));
     let mut ranges = Ranges::new(line);
     for len in 0..=octets.len() {
@@ -168,7 +168,7 @@ fn is_written_again(line: &Line<'_>, rtype: Rtype, octets: &[u8]) -> bool {
         octets,
         others: b"",
     };
-    answer(&mut again, asked);
+    answer(&mut again, &asked);
     !again.is_lost()
 }
 
