@@ -5,7 +5,6 @@ use arrayvec::ArrayVec;
 use denial_data::{Nsec3Salt, OwnerHash, Timestamp};
 use names::{CanonicalOrd, Parser};
 use plain::base32hex as digits;
-use std::fmt::Display;
 use std::str::FromStr;
 use test_lines::Line;
 
@@ -34,30 +33,29 @@ pub fn times(line: &mut Line<'_>) {
 /// A time of octets, written again.
 pub fn time(line: &mut Line<'_>) {
     let octets = line.octets(1);
-    let read = Timestamp::parse(&mut Parser::from_ref(&octets));
-    told(line, read);
+    match Timestamp::parse(&mut Parser::from_ref(&octets)) {
+        Ok(time) => told(line, time),
+        Err(error) => line.refused(&error),
+    }
 }
 
 /// A time of a text, written.
 pub fn time_text(line: &mut Line<'_>) {
-    let text = line.rest(1);
-    told(line, Timestamp::from_str(text));
+    match Timestamp::from_str(line.rest(1)) {
+        Ok(time) => told(line, time),
+        Err(error) => line.refused(&error),
+    }
 }
 
 /// A time, its number, and its octets.
-fn told<E: Display + Drop>(line: &mut Line<'_>, read: Result<Timestamp, E>) {
-    match read {
-        Ok(time) => {
-            let mut octets = Vec::new(line.alloc());
-            line.must(time.compose(&mut octets));
-            line.value(&time);
-            line.value(&time.into_int());
-            line.hex(&octets);
-            line.say("of");
-            line.value(&Timestamp::COMPOSE_LEN);
-        }
-        Err(error) => line.refused(&error),
-    }
+fn told(line: &mut Line<'_>, time: Timestamp) {
+    let mut octets = Vec::new(line.alloc());
+    line.must(time.compose(&mut octets));
+    line.value(&time);
+    line.value(&time.into_int());
+    line.hex(&octets);
+    line.say("of");
+    line.value(&Timestamp::COMPOSE_LEN);
 }
 
 /// The salt of a text: its octets, and its text.
