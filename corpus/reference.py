@@ -339,10 +339,10 @@ class Link:
 
     @property
     def speaks_of_owner(self) -> bool:
-        """Whether it says which types its owner has. One without types of its own does where a name below it is next, as that of an
-        empty non-terminal is (RFC 9824, 3.2); else its owner may be made up, and have records by a wildcard (RFC 4470, 3)."""
-        is_next_below = len(self.next) > len(self.owner) and self.next[: len(self.owner)] == self.owner
-        return not self.is_denial and (self.has_types or is_next_below)
+        """Whether it says which types its owner has. One without types of its own does where the first name below it is next, as that of
+        an empty non-terminal is (RFC 9824, 3.2), since no name lies in between for which it would be made; else its owner may be made up,
+        and have records by a wildcard (RFC 4470, 3)."""
+        return not self.is_denial and (self.has_types or self.next == (*self.owner, b"\0"))
 
     def encloser(self, name: Name) -> Name:
         """The longest name above, or at, that owner or next show to exist (RFC 4592, 2.2); an owner that may be made up shows those

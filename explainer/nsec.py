@@ -1,4 +1,5 @@
-"""What verified NSEC records tell of a question, and why (RFC 4035, 5.4; RFC 4592; RFC 6840, 4.1 and 4.3; RFC 9824, 3.1)."""
+"""What verified NSEC records tell of a question, and why (RFC 4035, 5.4; RFC 4470, 3; RFC 4592; RFC 6840, 4.1 and 4.3;
+RFC 9824, 3)."""
 
 from __future__ import annotations
 
@@ -29,9 +30,27 @@ class Link:
         """Whether it says that its owner does not exist."""
         return rtypes.NXNAME in self.data.types
 
+    @property
+    def is_bare(self) -> bool:
+        """Whether it has no types but RRSIG and NSEC: its owner may be made up (RFC 4470, 3)."""
+        return {*self.data.types} <= {rtypes.RRSIG, rtypes.NSEC}
+
+    @property
+    def has_more(self) -> bool:
+        """Whether its types are those of a name that exists."""
+        return not self.is_bare and not self.is_denial
+
+    @property
+    def tells(self) -> bool:
+        """Whether it says which types its owner has: an empty non-terminal's own record has the first name below it as its next
+        name (RFC 9824, 3.2)."""
+        return self.has_more or self.data.next == Name((b"\0", *self.owner.labels))
+
     def encloser(self, name: Name) -> Name | None:
-        """The closest encloser of a name that is covered: the nearest ancestor of the name that owner or next name shows to exist."""
-        return next((it for it in name.ancestors() if it.is_at_or_above(self.owner) or it.is_at_or_above(self.data.next)), None)
+        """The closest encloser of a name that is covered: the nearest ancestor of the name that owner or next name shows to exist.
+        An owner that may be made up shows what is above it."""
+        shown = self.owner if self.has_more else self.owner.suffix(max(self.owner.depth - 1, 0))
+        return next((it for it in name.ancestors() if it.is_at_or_above(shown) or it.is_at_or_above(self.data.next)), None)
 
 
 def is_cut(types: tuple[int, ...], apex: Name, owner: Name) -> bool:
@@ -106,6 +125,9 @@ class NsecDenial:
         case = self.case
         if link.owner != case.name:
             return None
+        if not link.tells:
+            self._tell_made_up(link)
+            return None
         types = link.data.types
         if is_cut(types, case.apex, case.name) and case.rtype != rtypes.DS:
             self.because.append(f"{case.name} is a delegation: the types of its NSEC record are {types_text(types)}")
@@ -138,7 +160,9 @@ class NsecDenial:
 
     def _at_wildcard(self, star: Name) -> str | None:
         for link in self.links:
-            if link.owner == star and not link.is_denial:
+            if link.owner == star and link.is_bare:
+                self._tell_made_up(link)
+            elif link.owner == star and link.has_more:
                 if tell_types_of_wildcard(self.because, self.case, "NSEC", star, link.data.types):
                     return "StarNoType"
             elif link.covers(self.case.apex, star):
@@ -149,6 +173,9 @@ class NsecDenial:
                 return "NoName"
         self.because.append(f"wanting: an NSEC record that covers {star}, or that of {star} without the type")
         return None
+
+    def _tell_made_up(self, link: Link) -> None:
+        self.because.append(f"the NSEC record of {link.owner} has no types but RRSIG and NSEC: the name may be made up")
 
     def _tell_covered(self, link: Link, name: Name) -> None:
         self.because.append(f"{name} does not exist: the NSEC record of {link.owner} to {link.data.next} covers it")

@@ -22,7 +22,7 @@ use Rattle.answer_terms.specs.Accepted.{IsAccepted}
 use Rattle.answer_terms.specs.Accepting.{delegates_star, is_added_by_signing, is_alias, record_cmp, rr_of, soas, sorted_records, zone_of}
 use Rattle.answer_terms.specs.Asking.{is_allowed}
 use Rattle.answer_terms.specs.Hashing.{Hasher}
-use Rattle.answer_terms.proofs.Servable.{asked_inside, real_type}
+use Rattle.answer_terms.proofs.Servable.{asked_inside, held_type, real_type}
 use Rattle.answer_zone_records.specs.AliasFaults.{IsAcceptedWithAliases, crowds, has_data, has_disorder, is_below_dname, is_disorderly, lacks_target, redirects_star, repeats, rivals, rivals_cname, rivals_dname}
 use Rattle.answer_zone_records.proofs.Disorder.{no_disorder}
 
@@ -159,6 +159,8 @@ servable hasher apex mode limit rs a =
     let stars = all_fail delegates_star rs a.faultless.plain.no_star_delegation in
     record {
       apex = contained (map owner_of (map rr_of sorted)) (low apex) (apex_in apex sorted some);
+      typed = all_mapped (λ (r : Rr). r.rtype < 65536) rr_of sorted (all_sorted (λ (r : HandedRr). r.rtype < 65536) record_cmp rs
+          (all_more (λ r. is_meta r ≡ false) (λ r. r.rtype < 65536) rs held_type (all_fail is_meta rs a.faultless.plain.known)));
       ordinary = all_mapped (λ (r : Rr). is_added_type r.rtype ≡ false) rr_of sorted (all_sorted (λ (r : HandedRr). is_added_type r.rtype ≡ false) record_cmp rs signing);
       real = all_mapped (λ (r : Rr). is_meta_type r.rtype ≡ false) rr_of sorted (all_sorted (λ (r : HandedRr). is_meta_type r.rtype ≡ false) record_cmp rs
           (all_more (λ r. is_meta r ≡ false) (λ r. is_meta_type r.rtype ≡ false) rs real_type (all_fail is_meta rs a.faultless.plain.known)));

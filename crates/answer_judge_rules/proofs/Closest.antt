@@ -1,41 +1,54 @@
 -- The closest encloser of a name, by how many labels it has.
 use Rattle.std.proofs.Common.{◌≡◌, ℕ, zero, suc, ◌-◌, ◌<◌, ◌≤◌, max, Bool, true, false, ◌||◌, [], ◌∷◌, length, drop, refl, sym, ap, ◌∙◌, subst, arith}
-use Rattle.std.specs.Prelude.{◌↔◌, Option, Some, None, IsNone, Result, Ok, Err, IfOk, IfSome, slice_get}
+use Rattle.std.specs.Prelude.{◌↔◌, if◌then◌else◌, Option, Some, None, IsNone, Result, Ok, Err, IfOk, IfSome, slice_get}
 use Rattle.std.specs.Option.{option_map}
 use Rattle.definitions.specs.Name.{Name, Label, IsName, wire_len, at_or_above}
 use Rattle.names_labels.specs.Suffixes.{suffixes}
 use Rattle.definitions.specs.Zone.{star_under}
 use Rattle.denial_laws.specs.Facts.{Link}
-use Rattle.denial_laws.specs.NsecRules.{closest}
+use Rattle.denial_laws.specs.NsecRules.{closest, has_more, shown_owner}
 use Rattle.denial_laws.specs.Nsec3Rules.{last_labels}
 use Rattle.messages.proofs.NameLaws.{IsName-drop, star_room}
 use Rattle.answer_judge_rules.specs.Enclosers.{shared}
 use Rattle.answer_judge_rules.proofs.SharedLabels.{root_above, shared-le}
 
--- ---- it has as many labels as the parent shares with owner or next name
+-- ---- an owner that has no labels shows none
 
-pub closest_labels : (f : Link) (l : Label) (q : Name) → option_map length (closest f (l ∷ q)) ≡ Some (max (shared q f.owner) (shared q f.next))
-closest_labels f l [] = ap (λ (b : Bool). option_map length (elim (b || at_or_above [] f.next) as (λ _. Option Name) [ true ↦ Some [] | false ↦ None ])) (root_above f.owner)
-closest_labels f l (k ∷ r) = step (at_or_above (k ∷ r) f.owner) (at_or_above (k ∷ r) f.next) (closest_labels f k r)
+none_shared : (n : Name) → 0 ≡ shared n []
+none_shared [] = refl
+none_shared (l ∷ n) = none_shared n
+
+pub none_shown : (f : Link) (n : Name) → f.owner ≡ [] → 0 ≡ shared n (shown_owner f)
+none_shown f n e = none_shared n ∙ ap (shared n) (sym (go (has_more f.bits)))
   where
-    step : (x y : Bool) → option_map length (closest f (k ∷ r)) ≡ Some (max (shared r f.owner) (shared r f.next))
+    go : (b : Bool) → (if b then f.owner else drop 1 f.owner) ≡ (let none : Name = [] in none)
+    go true = e
+    go false = ap (drop 1) e
+
+-- ---- it has as many labels as the parent shares with what the owner shows, or with the next name
+
+pub closest_labels : (f : Link) (l : Label) (q : Name) → option_map length (closest f (l ∷ q)) ≡ Some (max (shared q (shown_owner f)) (shared q f.next))
+closest_labels f l [] = ap (λ (b : Bool). option_map length (elim (b || at_or_above [] f.next) as (λ _. Option Name) [ true ↦ Some [] | false ↦ None ])) (root_above (shown_owner f))
+closest_labels f l (k ∷ r) = step (at_or_above (k ∷ r) (shown_owner f)) (at_or_above (k ∷ r) f.next) (closest_labels f k r)
+  where
+    step : (x y : Bool) → option_map length (closest f (k ∷ r)) ≡ Some (max (shared r (shown_owner f)) (shared r f.next))
         → option_map length (elim (x || y) as (λ _. Option Name) [ true ↦ Some (k ∷ r) | false ↦ closest f (k ∷ r) ])
-        ≡ Some (max (elim x as (λ _. ℕ) [ true ↦ length (k ∷ r) | false ↦ shared r f.owner ]) (elim y as (λ _. ℕ) [ true ↦ length (k ∷ r) | false ↦ shared r f.next ]))
+        ≡ Some (max (elim x as (λ _. ℕ) [ true ↦ length (k ∷ r) | false ↦ shared r (shown_owner f) ]) (elim y as (λ _. ℕ) [ true ↦ length (k ∷ r) | false ↦ shared r f.next ]))
     step true true h = let e : length (k ∷ r) ≡ max (length (k ∷ r)) (length (k ∷ r)) = omega arith in ap (λ (n : ℕ). Some n) e
     step true false h = let e : length (k ∷ r) ≡ max (length (k ∷ r)) (shared r f.next) = omega (arith, shared-le r f.next) in ap (λ (n : ℕ). Some n) e
-    step false true h = let e : length (k ∷ r) ≡ max (shared r f.owner) (length (k ∷ r)) = omega (arith, shared-le r f.owner) in ap (λ (n : ℕ). Some n) e
+    step false true h = let e : length (k ∷ r) ≡ max (shared r (shown_owner f)) (length (k ∷ r)) = omega (arith, shared-le r (shown_owner f)) in ap (λ (n : ℕ). Some n) e
     step false false h = h
 
-pub parent_labels : (f : Link) (n p : Name) (a b m : ℕ) → IsNone (Some p) ↔ (n ≡ []) → p ≡ drop 1 n → a ≡ shared p f.owner → b ≡ shared p f.next → m ≡ max a b → Some m ≡ option_map length (closest f n)
+pub parent_labels : (f : Link) (n p : Name) (a b m : ℕ) → IsNone (Some p) ↔ (n ≡ []) → p ≡ drop 1 n → a ≡ shared p (shown_owner f) → b ≡ shared p f.next → m ≡ max a b → Some m ≡ option_map length (closest f n)
 parent_labels f [] p a b m h e x y z = let none : IsNone (Some p) = h.1 refl in absurd cc
 parent_labels f (l ∷ q) p a b m h e x y z =
-    let is : m ≡ max (shared q f.owner) (shared q f.next) = z ∙ (λ i. max (x i) (y i)) ∙ ap (λ k. max (shared k f.owner) (shared k f.next)) e in
+    let is : m ≡ max (shared q (shown_owner f)) (shared q f.next) = z ∙ (λ i. max (x i) (y i)) ∙ ap (λ k. max (shared k (shown_owner f)) (shared k f.next)) e in
     ap (λ k. Some k) is ∙ sym (closest_labels f l q)
 
 -- it is what the name ends with, and shorter than the name
 pub closest_end : (f : Link) (n e : Name) → closest f n ≡ Some e → (e ≡ last_labels (length e) n) × (length e < length n)
 closest_end f [] e c = absurd cc
-closest_end f (l ∷ q) e c = go (at_or_above q f.owner || at_or_above q f.next) (closest_end f q e) c
+closest_end f (l ∷ q) e c = go (at_or_above q (shown_owner f) || at_or_above q f.next) (closest_end f q e) c
   where
     go : (b : Bool) → (closest f q ≡ Some e → (e ≡ last_labels (length e) q) × (length e < length q)) → (elim b as (λ _. Option Name) [ true ↦ Some q | false ↦ closest f q ]) ≡ Some e → (e ≡ last_labels (length e) (l ∷ q)) × (length e < length (l ∷ q))
     go true k d =
@@ -74,8 +87,8 @@ module _ (f : Link) (n : Name) (labels : ℕ) where
 
 -- ---- the wildcard under the closest encloser
 
-shorter : (f : Link) (l : Label) (q e : Name) → IsName (l ∷ q) → ((b : Bool) → (at_or_above q f.owner || at_or_above q f.next) ≡ b → (elim b [ true ↦ Some q | false ↦ closest f q ]) ≡ Some e → wire_len (star_under e) ≤ 255) → closest f (l ∷ q) ≡ Some e → wire_len (star_under e) ≤ 255
-shorter f l q e h k c = k (at_or_above q f.owner || at_or_above q f.next) refl c
+shorter : (f : Link) (l : Label) (q e : Name) → IsName (l ∷ q) → ((b : Bool) → (at_or_above q (shown_owner f) || at_or_above q f.next) ≡ b → (elim b [ true ↦ Some q | false ↦ closest f q ]) ≡ Some e → wire_len (star_under e) ≤ 255) → closest f (l ∷ q) ≡ Some e → wire_len (star_under e) ≤ 255
+shorter f l q e h k c = k (at_or_above q (shown_owner f) || at_or_above q f.next) refl c
 
 -- it is at least a label shorter than the name, so there is room for a star
 pub closest_room : (f : Link) (q e : Name) → IsName q → closest f q ≡ Some e → wire_len (star_under e) ≤ 255

@@ -1,18 +1,21 @@
 //! What links prove of a name and a type (RFC 4035, 5.4; RFC 4592; RFC 6840, 4.1 and 4.3).
 ghost use Rattle.std.specs.Prelude.{◌≡◌, length, IfOk, IfSome};
 ghost use Rattle.std.specs.Option.{option_map};
+ghost use Rattle.definitions.specs.Name.{same};
 ghost use Rattle.definitions.specs.Zone.{star_under};
 ghost use Rattle.denial_laws.specs.NsecRules.{first_some, denies, at_owner, below_cut, redirects};
 ghost use Rattle.denial_laws.specs.NsecRules.{link_covers, closest, at_star, covered, denied};
-ghost use Rattle.answer_judge_rules.specs.Enclosers.{told_of_star, IsUntold};
+ghost use Rattle.denial_laws.specs.NsecRules.{first_below, tells, shown_owner};
+ghost use Rattle.answer_judge_rules.specs.Enclosers.{shared, told_of_star, IsUntold};
 ghost use Rattle.answer_judge_rules.specs.Rules.{verdict_of};
 
 use crate::asked::Asked;
 use crate::facts::NsecLink;
 use crate::shared::shared_labels;
-use crate::types::{at_name, has_nxname, is_cut, star_lacks};
+use crate::types::{at_name, has_more, has_nxname, is_cut, star_lacks};
 use crate::verdict::Verdict;
 use messages::names::{Name, ToName, ZoneName, is_above};
+use names_labels::traits::Absolute;
 use names_rdata::rtype::Rtype;
 use std::alloc::{AllocError, Global};
 
@@ -54,6 +57,30 @@ impl<'a> NsecLink<'a> {
         }
     }
 
+    /// Whether the next name is the first of those below the owner, as an empty non-terminal's is
+    /// that was made for a question (RFC 9824, 3.2).
+    fn leads_first(&self) -> bool
+        ensures { result ≡ same self.now.next (first_below self.now.owner) }
+    {
+        match self.next().split_first() {
+            None => false,
+            Some((label, parent)) => {
+                label.as_slice().eq_ignore_ascii_case([0u8].as_slice())
+                    && parent.name_eq(&self.owner)
+            },
+        }
+    }
+
+    /// Whether the link says which types its own name has.
+    ///
+    /// An owner that was made up has those of the wildcard that stands for it: taken as proof, its
+    /// record would deny them (RFC 4470, 3).
+    fn tells(&self) -> bool
+        ensures { result ≡ tells self.now }
+    {
+        has_more(self.types()) || self.leads_first()
+    }
+
     /// What the link says of its own name.
     ///
     /// A record at another name says nothing of this one: replayed, it would deny what that name
@@ -62,7 +89,7 @@ impl<'a> NsecLink<'a> {
         ensures { let q = asked.now in
             option_map verdict_of result ≡ at_owner q.apex.now q.name.now q.rtype self.now }
     {
-        if self.owner.name_eq(asked.name) {
+        if self.owner.name_eq(asked.name) && self.tells() {
             at_name(self.types(), asked.apex, asked.name, asked.rtype)
         } else {
             None
@@ -85,13 +112,27 @@ impl<'a> NsecLink<'a> {
         None
     }
 
+    /// How many labels a name has at its end that the owner shows to exist: the owner may be made
+    /// up, and then what is above it exists.
+    fn owner_labels<N: Absolute>(&self, name: &N) -> usize
+        ensures { result ≡ shared (N.name name.now) (shown_owner self.now) }
+    {
+        if has_more(self.types()) {
+            return shared_labels(name, &self.owner);
+        }
+        match self.owner.parent() {
+            None => 0,
+            Some(parent) => shared_labels(name, &parent),
+        }
+    }
+
     /// How many labels the closest encloser of a name that the link covers has: an ancestor exists
-    /// where owner or next name is at or below it.
+    /// where the owner shows it, or the next name is at or below it.
     fn encloser_labels(&self, name: &Name<Vec<u8>>) -> Option<usize>
         ensures { result ≡ option_map length (closest self.now name.now) }
     {
         let parent = name.parent()?;
-        let labels = shared_labels(&parent, &self.owner);
+        let labels = self.owner_labels(&parent);
         Some(labels.max(shared_labels(&parent, self.next())))
     }
 
@@ -125,12 +166,12 @@ impl<'a> NsecLink<'a> {
     /// What the link says of a wildcard.
     ///
     /// Without a look at the wildcard a name that it stands for would pass for one that does not
-    /// exist (RFC 4035, 5.4).
+    /// exist (RFC 4035, 5.4). A wildcard that was made up would stand for names that do not exist.
     fn at_star(&self, apex: &Name<Vec<u8>>, star: &Name<Vec<u8>>, rtype: Rtype) -> Option<Verdict>
         ensures { option_map verdict_of result ≡ at_star apex.now star.now rtype self.now }
     {
         if self.owner.name_eq(star) {
-            return if star_lacks(self.types(), rtype) && !has_nxname(self.types()) {
+            return if star_lacks(self.types(), rtype) && has_more(self.types()) {
                 Some(Verdict::StarNoType)
             } else {
                 None

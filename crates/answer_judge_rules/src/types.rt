@@ -2,7 +2,8 @@
 //! and 4.3).
 ghost use Rattle.std.specs.Prelude.{◌≡◌};
 ghost use Rattle.std.specs.Option.{option_map};
-ghost use Rattle.denial_laws.specs.NsecRules.{is_cut, lacks, star_lacks, at_name, has_nxname};
+ghost use Rattle.denial_laws.specs.NsecRules.{is_cut, lacks, star_lacks, at_name};
+ghost use Rattle.denial_laws.specs.NsecRules.{has_nxname, is_bare, has_more};
 ghost use Rattle.answer_judge_rules.specs.Rules.{verdict_of};
 
 use crate::verdict::Verdict;
@@ -18,6 +19,28 @@ pub(crate) fn has_nxname(types: &RtypeBitmap<&[u8]>) -> bool
     ensures { result ≡ has_nxname types.now }
 {
     types.contains(Rtype::from_int(NXNAME))
+}
+
+/// Whether they are RRSIG and NSEC at most: those of an owner that a signer made up for a question
+/// (RFC 4470, 3). An owner of a chain has others (RFC 4035, 2.3).
+fn is_bare(types: &RtypeBitmap<&[u8]>) -> bool
+    ensures { result ≡ is_bare types.now }
+{
+    let octets = types.as_slice();
+    octets == [0u8; 0].as_slice()
+        || octets == [0u8, 6, 0, 0, 0, 0, 0, 1].as_slice()
+        || octets == [0u8, 6, 0, 0, 0, 0, 0, 2].as_slice()
+        || octets == [0u8, 6, 0, 0, 0, 0, 0, 3].as_slice()
+}
+
+/// Whether they are those of a name that exists.
+///
+/// An owner that was made up, taken for one that exists, would hide the wildcard that stands for it
+/// and for what is below it (RFC 4470, 3).
+pub(crate) fn has_more(types: &RtypeBitmap<&[u8]>) -> bool
+    ensures { result ≡ has_more types.now }
+{
+    !is_bare(types) && !has_nxname(types)
 }
 
 /// Whether they prove that a type is missing: they have neither the type nor CNAME.

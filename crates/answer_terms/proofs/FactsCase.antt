@@ -1,6 +1,6 @@
 -- What facts decide depends neither on the case of the names in links nor on that of the name that is asked for.
 use Rattle.std.proofs.Common.{◌≡◌, ℕ, zero, suc, ◌+◌, ◌-◌, Bool, true, false, ◌&&◌, ◌||◌, not, List, [], ◌∷◌, map, length, drop, reverse, Option, Some, None, refl, ap, ◌∙◌}
-use Rattle.std.specs.Prelude.{nat_lt, ◌==◌}
+use Rattle.std.specs.Prelude.{nat_lt, ◌==◌, if◌then◌else◌}
 use Rattle.std.specs.Option.{option_map}
 use Rattle.std.specs.List.{list_any}
 use Rattle.std.specs.Ordering.{is_lt, nat_cmp}
@@ -13,7 +13,7 @@ use Rattle.definitions.specs.Bitmap.{bitmap_has}
 use Rattle.definitions.specs.Zone.{Verdict, Records, NoType, NoName, StarRecords, StarNoType, Delegated, Open, star_under}
 use Rattle.definitions.proofs.ZoneNames.{low-low, above_lowered, lowered_above}
 use Rattle.denial_laws.specs.Facts.{Rrset, Link, HashLink, Facts, is_expanded}
-use Rattle.denial_laws.specs.NsecRules.{first_some, or_else, has_nxname, denies, is_cut, lacks, star_lacks, at_name, at_owner, below_cut, link_covers, closest, at_star, covered, denied, encloses_at, expanded_by}
+use Rattle.denial_laws.specs.NsecRules.{first_some, or_else, has_nxname, has_more, tells, shown_owner, denies, is_cut, lacks, star_lacks, at_name, at_owner, below_cut, link_covers, closest, at_star, covered, denied, encloses_at, expanded_by}
 use Rattle.denial_laws.specs.Nsec3Rules.{is_at, covers_hash, is_matched, at_hash, encloses, cut_above, star_at, beyond, enclosed, by_closest_encloser, hash_denied, last_labels, hash_expanded_by, hash_expanded}
 use Rattle.denial_laws.specs.Deciding.{by_chain, by_wildcard, decided_inside, decided}
 use Rattle.denial_laws.proofs.NameFacts.{strictly_lowered}
@@ -35,6 +35,10 @@ strictly_first a (l ∷ b) = lowered_above a b
 is_cut_lowered : (apex o : Name) (bits : List ℕ) → is_cut apex (low o) bits ≡ is_cut apex o bits
 is_cut_lowered apex o bits i = bitmap_has bits 2 && not (same_first o apex i)
 
+parent_lowered : (o : Name) → drop 1 (low o) ≡ low (drop 1 o)
+parent_lowered [] = refl
+parent_lowered (l ∷ o) = refl
+
 -- the first answer is one where the answers are
 first_alike : {A B : Type 0} (f g : A → Option B) → ((x : A) → f x ≡ g x) → (xs : List A) → first_some f xs ≡ first_some g xs
 first_alike f g e [] = refl
@@ -50,8 +54,11 @@ module _ (apex : Name) where
   denies_linked : (q : Name) (f : Link) → denies q (low_link f) ≡ denies q f
   denies_linked q f i = elim (same_first f.owner q i && has_nxname f.bits) [ true ↦ Some NoName | false ↦ None ]
 
+  tells_linked : (f : Link) → tells (low_link f) ≡ tells f
+  tells_linked f i = has_more f.bits || labels_eq (low-low f.next i) (str_to_ascii_lowercase (0 ∷ []) ∷ low-low f.owner i)
+
   owner_linked : (q : Name) (t : ℕ) (f : Link) → at_owner apex q t (low_link f) ≡ at_owner apex q t f
-  owner_linked q t f i = elim (same_first f.owner q i) [ true ↦ at_name apex q t f.bits | false ↦ None ]
+  owner_linked q t f i = elim (same_first f.owner q i && tells_linked f i) [ true ↦ at_name apex q t f.bits | false ↦ None ]
 
   cut_linked : (q : Name) (f : Link) → below_cut apex q (low_link f) ≡ below_cut apex q f
   cut_linked q f i = elim (is_cut_lowered apex f.owner f.bits i && strictly_first f.owner q i && not (bitmap_has f.bits 39)) [ true ↦ Some Delegated | false ↦ None ]
@@ -64,13 +71,23 @@ module _ (apex : Name) where
   covers_linked : (q : Name) (f : Link) → link_covers apex (low_link f) q ≡ link_covers apex f q
   covers_linked q f i = between_linked f.owner f.next q i && not (strictly_first f.owner q i && bitmap_has f.bits 39)
 
+  shown_linked : (f : Link) → shown_owner (low_link f) ≡ low (shown_owner f)
+  shown_linked f = go (has_more f.bits)
+    where
+      go : (b : Bool) → (if b then low f.owner else drop 1 (low f.owner)) ≡ low (if b then f.owner else drop 1 f.owner)
+      go true = refl
+      go false = parent_lowered f.owner
+
+  owner_shows : (p : Name) (f : Link) → at_or_above p (shown_owner (low_link f)) ≡ at_or_above p (shown_owner f)
+  owner_shows p f = ap (at_or_above p) (shown_linked f) ∙ above_lowered p (shown_owner f)
+
   closest_linked : (q : Name) (f : Link) → closest (low_link f) q ≡ closest f q
   closest_linked [] f = refl
-  closest_linked (l ∷ q) f = λ i. elim (above_lowered q f.owner i || above_lowered q f.next i) [ true ↦ Some q | false ↦ closest_linked q f i ]
+  closest_linked (l ∷ q) f = λ i. elim (owner_shows q f i || above_lowered q f.next i) [ true ↦ Some q | false ↦ closest_linked q f i ]
 
   star_linked : (s : Name) (t : ℕ) (f : Link) → at_star apex s t (low_link f) ≡ at_star apex s t f
   star_linked s t f i = elim (same_first f.owner s i) [
-    | true ↦ elim (star_lacks f.bits t && not (has_nxname f.bits)) [ true ↦ Some StarNoType | false ↦ None ]
+    | true ↦ elim (star_lacks f.bits t && has_more f.bits) [ true ↦ Some StarNoType | false ↦ None ]
     | false ↦ elim (covers_linked s f i) [
       | true ↦ elim (strictly_lowered s f.next i) [ true ↦ Some StarNoType | false ↦ Some NoName ]
       | false ↦ None
@@ -121,8 +138,8 @@ star_shown f q false x y e = e
 closest_named : (q : Name) (f : Link) → closest f (low q) ≡ option_map low (closest f q)
 closest_named [] f = refl
 closest_named (l ∷ q) f =
-    (λ i. elim (lowered_above q f.owner i || lowered_above q f.next i) as (λ _. Option Name) [ true ↦ Some (low q) | false ↦ closest f (low q) ])
-    ∙ star_shown f q (at_or_above q f.owner || at_or_above q f.next) (closest f (low q)) (closest f q) (closest_named q f)
+    (λ i. elim (lowered_above q (shown_owner f) i || lowered_above q f.next i) as (λ _. Option Name) [ true ↦ Some (low q) | false ↦ closest f (low q) ])
+    ∙ star_shown f q (at_or_above q (shown_owner f) || at_or_above q f.next) (closest f (low q)) (closest f q) (closest_named q f)
 
 encloses_named : (n : ℕ) (o : Option Name) → encloses_at n (option_map low o) ≡ encloses_at n o
 encloses_named n None = refl
@@ -147,7 +164,7 @@ module _ (apex : Name) where
   denies_named q f i = elim (same_second f.owner q i && has_nxname f.bits) [ true ↦ Some NoName | false ↦ None ]
 
   owner_named : (q : Name) (t : ℕ) (f : Link) → at_owner apex (low q) t f ≡ at_owner apex q t f
-  owner_named q t f i = elim (same_second f.owner q i) [ true ↦ name_named q t f.bits i | false ↦ None ]
+  owner_named q t f i = elim (same_second f.owner q i && tells f) [ true ↦ name_named q t f.bits i | false ↦ None ]
 
   cut_named : (q : Name) (f : Link) → below_cut apex (low q) f ≡ below_cut apex q f
   cut_named q f i = elim (is_cut apex f.owner f.bits && strictly_lowered f.owner q i && not (bitmap_has f.bits 39)) [ true ↦ Some Delegated | false ↦ None ]
@@ -160,7 +177,7 @@ module _ (apex : Name) where
 
   star_named : (s : Name) (t : ℕ) (f : Link) → at_star apex (low s) t f ≡ at_star apex s t f
   star_named s t f i = elim (same_second f.owner s i) [
-    | true ↦ elim (star_lacks f.bits t && not (has_nxname f.bits)) [ true ↦ Some StarNoType | false ↦ None ]
+    | true ↦ elim (star_lacks f.bits t && has_more f.bits) [ true ↦ Some StarNoType | false ↦ None ]
     | false ↦ elim (covers_named s f i) [
       | true ↦ elim (strictly_first s f.next i) [ true ↦ Some StarNoType | false ↦ Some NoName ]
       | false ↦ None

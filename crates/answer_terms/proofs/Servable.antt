@@ -2,7 +2,7 @@
 use Rattle.std.proofs.Common.{◌≡◌, ℕ, ◌<◌, Bool, true, false, ◌&&◌, ◌||◌, not, cond, List, [], ◌∷◌, ◌++◌, map, length, refl, sym, ap, ◌∙◌, inl, inr, arith}
 use Rattle.std.specs.Prelude.{Some, nat_eq, nat_le, ◌==◌}
 use Rattle.std.specs.List.{list_any, AllByRecursion}
-use Rattle.std.proofs.lemmas.Bool.{and_parts, or_parts, not-true}
+use Rattle.std.proofs.lemmas.Bool.{and_parts, or_parts, cases_lt, le-leb, not-true, false≢true}
 use Rattle.definitions.specs.Name.{Name, low, same, at_or_above}
 use Rattle.definitions.specs.Zone.{Rr, owner_of, verdict}
 use Rattle.definitions.specs.ZoneChain.{Mode, optout_of}
@@ -44,10 +44,20 @@ no_alias_type t h =
 
 -- ---- the records
 
--- nor is it of a type that is no data
+-- it is of a type of 16 bits, and not of one that is no data
+no_meta : (r : HandedRr) → is_meta r ≡ false → (is_meta_type r.rtype ≡ false) × (nat_le 65536 r.rtype ≡ false)
+no_meta r e =
+    let types = (r.rtype == 0) || (r.rtype == 41) || (nat_le 128 r.rtype && nat_le r.rtype 255) in
+    or_parts types (nat_le 65536 r.rtype) (or_parts (types || nat_le 65536 r.rtype) (r.is_unknown && among (2 ∷ 6 ∷ []) r.rtype) e).0
+
 pub real_type : (r : HandedRr) → is_meta r ≡ false → is_meta_type r.rtype ≡ false
-real_type r e =
-    (or_parts ((r.rtype == 0) || (r.rtype == 41) || (nat_le 128 r.rtype && nat_le r.rtype 255)) (r.is_unknown && among (2 ∷ 6 ∷ []) r.rtype) e).0
+real_type r e = (no_meta r e).0
+
+pub held_type : (r : HandedRr) → is_meta r ≡ false → r.rtype < 65536
+held_type r e = elim (cases_lt r.rtype 65536) [
+  | inl l ↦ l
+  | inr more ↦ absurd (false≢true (sym (no_meta r e).1 ∙ le-leb 65536 r.rtype more))
+]
 
 all_mapped : {A B : Type 0} (P : B → Type 0) (f : A → B) (xs : List A) → AllByRecursion (λ x. P (f x)) xs → AllByRecursion P (map f xs)
 all_mapped P f [] h = tt
@@ -83,6 +93,8 @@ servable hasher apex mode limit rs a =
     let stars = all_fail delegates_star rs a.faultless.no_star_delegation in
     record {
       apex = contained (map owner_of (map rr_of sorted)) (low apex) (apex_in apex sorted none);
+      typed = all_mapped (λ (r : Rr). r.rtype < 65536) rr_of sorted (all_sorted (λ (r : HandedRr). r.rtype < 65536) record_cmp rs
+          (all_more (λ r. is_meta r ≡ false) (λ r. r.rtype < 65536) rs held_type (all_fail is_meta rs a.faultless.known)));
       ordinary = all_mapped (λ (r : Rr). is_added_type r.rtype ≡ false) rr_of sorted (all_sorted (λ (r : HandedRr). is_added_type r.rtype ≡ false) record_cmp rs signing);
       real = all_mapped (λ (r : Rr). is_meta_type r.rtype ≡ false) rr_of sorted (all_sorted (λ (r : HandedRr). is_meta_type r.rtype ≡ false) record_cmp rs
           (all_more (λ r. is_meta r ≡ false) (λ r. is_meta_type r.rtype ≡ false) rs real_type (all_fail is_meta rs a.faultless.known)));

@@ -7,7 +7,7 @@ use Rattle.definitions.specs.Name.{Name, at_or_above, low, same, strictly_above}
 use Rattle.definitions.specs.Zone.{Verdict, Records, NoType, NoName, StarRecords, StarNoType, Delegated, Open, Unsigned, star_under}
 use Rattle.denial_laws.specs.Deciding.{by_chain, by_wildcard, decided, decided_inside}
 use Rattle.denial_laws.specs.Facts.{Facts, HashLink, Link, Rrset, is_expanded}
-use Rattle.denial_laws.specs.NsecRules.{at_name, at_owner, at_star, below_cut, closest, covered, denied, denies, has_nxname, encloses_at, expanded, expanded_by, first_some, is_cut, lacks, link_covers, or_else, star_lacks}
+use Rattle.denial_laws.specs.NsecRules.{at_name, at_owner, at_star, below_cut, closest, covered, denied, denies, has_more, has_nxname, tells, encloses_at, expanded, expanded_by, first_some, is_cut, lacks, link_covers, or_else, star_lacks}
 use Rattle.denial_laws.specs.Nsec3Rules.{at_hash, beyond, by_closest_encloser, covers_hash, cut_above, enclosed, encloses, hash_denied, hash_expanded, hash_expanded_by, is_at, is_matched, last_labels, star_at}
 
 -- the data that a verdict tells
@@ -61,7 +61,7 @@ name_silent apex q t bits = either None (is_cut apex q bits && not (t == 43)) _ 
 
 star_silent : (apex s : Name) (t : ℕ) (f : Link) → Silent (at_star apex s t f)
 star_silent apex s t f = either None (same f.owner s) _ _
-    (either None (star_lacks f.bits t && not (has_nxname f.bits)) _ _ (plain StarNoType refl) (none_tells None))
+    (either None (star_lacks f.bits t && has_more f.bits) _ _ (plain StarNoType refl) (none_tells None))
     (either None (link_covers apex f s) _ _ (either None (strictly_above s f.next) _ _ (plain StarNoType refl) (plain NoName refl)) (none_tells None))
 
 covered_silent : (apex q : Name) (t : ℕ) (fs : List Link) (f : Link) → Silent (covered apex q t fs f)
@@ -73,7 +73,7 @@ covered_silent apex q t fs f = either None (link_covers apex f q) _ _ (either No
 
 undenied_silent : (apex q : Name) (t : ℕ) (fs : List Link) → Silent (or_else (first_some (at_owner apex q t) fs) (or_else (first_some (below_cut apex q) fs) (first_some (covered apex q t fs) fs)))
 undenied_silent apex q t fs = or_tells None (first_some (at_owner apex q t) fs) _
-    (first_tells None (at_owner apex q t) (λ f. either None (same f.owner q) _ _ (name_silent apex q t f.bits) (none_tells None)) fs)
+    (first_tells None (at_owner apex q t) (λ f. either None (same f.owner q && tells f) _ _ (name_silent apex q t f.bits) (none_tells None)) fs)
     (or_tells None (first_some (below_cut apex q) fs) _
     (first_tells None (below_cut apex q) (λ f. either None (is_cut apex f.owner f.bits && strictly_above f.owner q && not (bitmap_has f.bits 39)) _ _ (plain Delegated refl) (none_tells None)) fs)
     (first_tells None (covered apex q t fs) (covered_silent apex q t fs) fs))

@@ -8,7 +8,6 @@ use Rattle.definitions.specs.ZoneChain.{Nsec, Nsec3}
 use Rattle.denial_laws.specs.Truth.{IsTrueLink, IsTrueHashLink}
 use Rattle.counterexamples_denial.specs.Mistakes.{without_aliases, without_redirections}
 use Rattle.counterexamples_denial.specs.Falsely.{DecidesFalsely}
-use Rattle.counterexamples_denial.proofs.WireHash.{none_shared}
 use Rattle.counterexamples_denial.proofs.ChainsSay.{hashes_say, links_say}
 use Rattle.counterexamples_denial.proofs.Zones.{example, b, link, hash_link, by_links, by_hashes, hashed_apex_bits, hashed_apex_spelled}
 use Rattle.counterexamples_denial.proofs.AliasZones.{aliasing, redirecting, aliasing_served, redirecting_served, cname_bits, dname_bits, hashed_cname_bits, hashed_dname_bits, cname_spelled, dname_spelled, hashed_cname_spelled, hashed_dname_spelled}

@@ -106,7 +106,7 @@ redirecting_orderly = record {
 }
 
 pub aliasing_served : IsServable aliasing
-aliasing_served = record { apex = (0, omega arith, refl); ordinary = (refl, (refl, tt)); real = (refl, (refl, tt)); stars = (refl, (refl, tt)); aliases = aliasing_orderly }
+aliasing_served = record { apex = (0, omega arith, refl); typed = (omega arith, (omega arith, tt)); ordinary = (refl, (refl, tt)); real = (refl, (refl, tt)); stars = (refl, (refl, tt)); aliases = aliasing_orderly }
 
 pub redirecting_served : IsServable redirecting
-redirecting_served = record { apex = (0, omega arith, refl); ordinary = (refl, (refl, tt)); real = (refl, (refl, tt)); stars = (refl, (refl, tt)); aliases = redirecting_orderly }
+redirecting_served = record { apex = (0, omega arith, refl); typed = (omega arith, (omega arith, tt)); ordinary = (refl, (refl, tt)); real = (refl, (refl, tt)); stars = (refl, (refl, tt)); aliases = redirecting_orderly }

@@ -1,17 +1,16 @@
 -- Records that a signer made for a question about a name that does not exist (RFC 9824), of which wrong rules make what the zone does
 -- not say, by computing.
-use Rattle.std.proofs.Common.{◌≡◌, ◌⊎◌, ℕ, List, [], ◌∷◌, Some, None, false, true, refl, sym, ap, ◌∙◌, inl, inr, arith}
-use Rattle.std.specs.Prelude.{codes, Contains}
+use Rattle.std.proofs.Common.{◌≡◌, ◌⊎◌, ℕ, List, [], ◌∷◌, Some, false, refl, sym, ap, ◌∙◌, inl, inr, arith}
+use Rattle.std.specs.Prelude.{Contains}
 use Rattle.std.proofs.lemmas.Bool.{false≢true}
 use Rattle.definitions.specs.Bitmap.{bitmap, octet_of, window_size, window_count}
 use Rattle.definitions.specs.Covering.{covers}
 use Rattle.definitions.specs.Name.{Name, low, wire}
 use Rattle.definitions.specs.Zone.{NoType, NoName, StarNoType, ce, exists, star_under}
 use Rattle.definitions.specs.ZoneChain.{Nsec, nsec_names}
-use Rattle.definitions.proofs.Members.{In, in_contained}
+use Rattle.definitions.proofs.Members.{in_contained}
 use Rattle.denial_laws.specs.Facts.{Link}
-use Rattle.denial_laws.specs.Saying.{HasNoStar}
-use Rattle.denial_laws.specs.Truth.{Concerns, IsTrueLink, SaysTruly, concerned}
+use Rattle.denial_laws.specs.Truth.{Concerns, IsTrueLink, SaysTruly, Denied, concerned}
 use Rattle.denial_laws.proofs.ChainSays.{link_says}
 use Rattle.denial_laws.proofs.NameFacts.{covers-low}
 use Rattle.counterexamples_denial.specs.Mistakes.{without_denied_names, without_denied_wildcards}
@@ -40,7 +39,7 @@ one_of x c = elim (in_contained (concerned example b) (low x) c.0 c.1 c.2) [
   ]
 ]
 
-only_apex : (w : Name) → Contains (nsec_names bare) w → w ≡ example
+pub only_apex : (w : Name) → Contains (nsec_names bare) w → w ≡ example
 only_apex w c = elim (in_contained (nsec_names bare) w c.0 c.1 c.2) [ inl e ↦ e | inr n ↦ absurd n ]
 
 -- the closest encloser is the apex, under which no wildcard stands
@@ -56,9 +55,9 @@ b_silent x c = sym (covers-low example b ((0 ∷ []) ∷ b) x) ∙ (elim (one_of
 
 b_says : SaysTruly bare b (denial b)
 b_says = record {
-  live = refl;
+  inside = refl;
   direct = refl;
-  owner = inr (record { nxname = refl; plain = refl; missing = record { missing = record { uncut = refl; gone = refl }; gone = no_star b refl }; silent = b_silent });
+  owner = Denied (record { nxname = refl; plain = refl; missing = record { missing = record { uncut = refl; gone = refl }; gone = no_star b refl } });
   gap = λ w c. ap (covers example b ((0 ∷ []) ∷ b)) (only_apex w c);
   shown = λ p x asked c up a h. absurd (false≢true (sym (b_silent x asked) ∙ c));
 }
@@ -89,14 +88,14 @@ star_silent x c = sym (covers-low example star ((0 ∷ []) ∷ star) x) ∙ (eli
 
 star_says : SaysTruly bare b (denial star)
 star_says = record {
-  live = refl;
+  inside = refl;
   direct = refl;
-  owner = inr (record { nxname = refl; plain = refl; missing = record { missing = record { uncut = refl; gone = refl }; gone = no_star star refl }; silent = star_silent });
+  owner = Denied (record { nxname = refl; plain = refl; missing = record { missing = record { uncut = refl; gone = refl }; gone = no_star star refl } });
   gap = λ w c. ap (covers example star ((0 ∷ []) ∷ star)) (only_apex w c);
   shown = λ p x asked c up a h. absurd (false≢true (sym (star_silent x asked) ∙ c));
 }
 
-apex_holds : IsTrueLink bare (link example example apex_bits)
+pub apex_holds : IsTrueLink bare (link example example apex_bits)
 apex_holds = record { owner = (0, omega arith, refl); next = refl; bits = apex_spelled }
 
 pub denied_wildcards_falsely : DecidesFalsely without_denied_wildcards Nsec

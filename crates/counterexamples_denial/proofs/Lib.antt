@@ -7,3 +7,4 @@ pub mod Nsec3Mistakes
 pub mod AliasZones
 pub mod AliasMistakes
 pub mod DeniedMistakes
+pub mod MadeUpMistakes

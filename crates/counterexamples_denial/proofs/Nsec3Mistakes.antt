@@ -7,7 +7,6 @@ use Rattle.definitions.specs.ZoneChain.{Nsec3}
 use Rattle.denial_laws.specs.Truth.{IsTrueHashLink}
 use Rattle.counterexamples_denial.specs.Mistakes.{all_open, without_delegations, without_child_types, without_wildcards, without_label_counts, without_opt_out}
 use Rattle.counterexamples_denial.specs.Falsely.{DecidesFalsely}
-use Rattle.counterexamples_denial.proofs.WireHash.{none_shared}
 use Rattle.counterexamples_denial.proofs.NsecMistakes.{star_rrset, star_rrset_holds}
 use Rattle.counterexamples_denial.proofs.ChainsSay.{hashes_say}
 use Rattle.counterexamples_denial.proofs.Zones.{example, star, b, d, bare, delegating, starred, beside, bare_served, delegating_served, starred_served, beside_served, hash_link, by_hashes, hashed_apex_bits, hashed_address_bits, hashed_delegation_bits, hashed_apex_spelled, hashed_address_spelled, hashed_delegation_spelled}

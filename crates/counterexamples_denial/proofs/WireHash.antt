@@ -1,5 +1,4 @@
 -- A name's wire octets as its hash: no two names share them.
-use Rattle.std.proofs.Common.{ℕ}
 use Rattle.definitions.specs.Name.{Name, wire}
 use Rattle.definitions.specs.Zone.{Zone}
 use Rattle.definitions.specs.ZoneChain.{Mode, Nsec, Nsec3}

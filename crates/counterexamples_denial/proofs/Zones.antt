@@ -112,28 +112,28 @@ abbrev pub bare : Zone
 bare = zone_of (soa ∷ [])
 
 pub bare_served : IsServable bare
-bare_served = record { apex = (0, omega arith, refl); ordinary = (refl, tt); real = (refl, tt); stars = (refl, tt); aliases = alias_free_orderly bare (refl, tt) }
+bare_served = record { apex = (0, omega arith, refl); typed = (omega arith, tt); ordinary = (refl, tt); real = (refl, tt); stars = (refl, tt); aliases = alias_free_orderly bare (refl, tt) }
 
 -- a delegation
 abbrev pub delegating : Zone
 delegating = zone_of (soa ∷ delegation d ∷ [])
 
 pub delegating_served : IsServable delegating
-delegating_served = record { apex = (0, omega arith, refl); ordinary = (refl, (refl, tt)); real = (refl, (refl, tt)); stars = (refl, (refl, tt)); aliases = alias_free_orderly delegating (refl, (refl, tt)) }
+delegating_served = record { apex = (0, omega arith, refl); typed = (omega arith, (omega arith, tt)); ordinary = (refl, (refl, tt)); real = (refl, (refl, tt)); stars = (refl, (refl, tt)); aliases = alias_free_orderly delegating (refl, (refl, tt)) }
 
 -- a wildcard
 abbrev pub starred : Zone
 starred = zone_of (soa ∷ address star ∷ [])
 
 pub starred_served : IsServable starred
-starred_served = record { apex = (0, omega arith, refl); ordinary = (refl, (refl, tt)); real = (refl, (refl, tt)); stars = (refl, (refl, tt)); aliases = alias_free_orderly starred (refl, (refl, tt)) }
+starred_served = record { apex = (0, omega arith, refl); typed = (omega arith, (omega arith, tt)); ordinary = (refl, (refl, tt)); real = (refl, (refl, tt)); stars = (refl, (refl, tt)); aliases = alias_free_orderly starred (refl, (refl, tt)) }
 
 -- a wildcard, and a name beside it
 abbrev pub beside : Zone
 beside = zone_of (soa ∷ address star ∷ address b ∷ [])
 
 pub beside_served : IsServable beside
-beside_served = record { apex = (0, omega arith, refl); ordinary = (refl, (refl, (refl, tt))); real = (refl, (refl, (refl, tt))); stars = (refl, (refl, (refl, tt))); aliases = alias_free_orderly beside (refl, (refl, (refl, tt))) }
+beside_served = record { apex = (0, omega arith, refl); typed = (omega arith, (omega arith, (omega arith, tt))); ordinary = (refl, (refl, (refl, tt))); real = (refl, (refl, (refl, tt))); stars = (refl, (refl, (refl, tt))); aliases = alias_free_orderly beside (refl, (refl, (refl, tt))) }
 
 -- a name below `b`
 abbrev pub a_b : Name
@@ -143,7 +143,7 @@ abbrev pub deep : Zone
 deep = zone_of (soa ∷ address a_b ∷ [])
 
 pub deep_served : IsServable deep
-deep_served = record { apex = (0, omega arith, refl); ordinary = (refl, (refl, tt)); real = (refl, (refl, tt)); stars = (refl, (refl, tt)); aliases = alias_free_orderly deep (refl, (refl, tt)) }
+deep_served = record { apex = (0, omega arith, refl); typed = (omega arith, (omega arith, tt)); ordinary = (refl, (refl, tt)); real = (refl, (refl, tt)); stars = (refl, (refl, tt)); aliases = alias_free_orderly deep (refl, (refl, tt)) }
 
 -- Three names that stand in another order by their wire octets: in canonical order the first is below `a`, the others below
 -- `b`, where the shorter label is the greater.
@@ -162,6 +162,7 @@ crossed = zone_of (soa ∷ address star_a ∷ address aa_b ∷ address b_b ∷ [
 pub crossed_served : IsServable crossed
 crossed_served = record {
   apex = (0, omega arith, refl);
+  typed = (omega arith, (omega arith, (omega arith, (omega arith, tt))));
   ordinary = (refl, (refl, (refl, (refl, tt))));
   real = (refl, (refl, (refl, (refl, tt))));
   stars = (refl, (refl, (refl, (refl, tt))));

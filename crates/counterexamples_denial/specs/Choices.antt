@@ -31,6 +31,15 @@ pub record Choices : Type 0 where
   pub denied_names : Bool
   -- a record of the wildcard with NXNAME in its bits does not speak for it (RFC 9824, 3); otherwise it denies a type there
   pub denied_wildcards : Bool
+  -- an owner with RRSIG and NSEC at most is no ancestor that exists (RFC 4470, 3); otherwise it may be the closest encloser
+  pub made_up_enclosers : Bool
+  -- a record of the name with RRSIG and NSEC at most proves no type missing, unless its next name is below it (RFC 9824, 3.2);
+  -- otherwise each
+  pub made_up_names : Bool
+  -- that next name is the first below, which no record covers a name in front of; otherwise it may be any below
+  pub first_names : Bool
+  -- a record of the wildcard with RRSIG and NSEC at most does not speak for it (RFC 4470, 3); otherwise it denies each type there
+  pub made_up_wildcards : Bool
   -- a record with CNAME in its bits proves no type missing (RFC 6840, 4.3); otherwise each that its bits lack
   pub aliases : Bool
   -- a record with DNAME in its bits proves nothing of the names below it (RFC 6840, 4.1); otherwise that they are missing
@@ -49,6 +58,10 @@ right = record {
   opt_out = true;
   denied_names = true;
   denied_wildcards = true;
+  made_up_enclosers = true;
+  made_up_names = true;
+  first_names = true;
+  made_up_wildcards = true;
   aliases = true;
   redirections = true;
 }

@@ -63,6 +63,18 @@ without_denied_names = decided_with (record right { denied_names = false })
 abbrev pub without_denied_wildcards : Rule
 without_denied_wildcards = decided_with (record right { denied_wildcards = false })
 
+abbrev pub without_made_up_enclosers : Rule
+without_made_up_enclosers = decided_with (record right { made_up_enclosers = false })
+
+abbrev pub without_made_up_names : Rule
+without_made_up_names = decided_with (record right { made_up_names = false })
+
+abbrev pub without_first_names : Rule
+without_first_names = decided_with (record right { first_names = false })
+
+abbrev pub without_made_up_wildcards : Rule
+without_made_up_wildcards = decided_with (record right { made_up_wildcards = false })
+
 abbrev pub without_aliases : Rule
 without_aliases = decided_with (record right { aliases = false })
 

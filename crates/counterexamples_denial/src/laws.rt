@@ -12,6 +12,9 @@ ghost use Rattle.counterexamples_denial.specs.Mistakes.{without_non_terminals, w
 ghost use Rattle.counterexamples_denial.specs.Mistakes.{without_aliases, without_redirections};
 ghost use Rattle.counterexamples_denial.specs.Mistakes.{without_denied_names};
 ghost use Rattle.counterexamples_denial.specs.Mistakes.{without_denied_wildcards};
+ghost use Rattle.counterexamples_denial.specs.Mistakes.{without_made_up_enclosers};
+ghost use Rattle.counterexamples_denial.specs.Mistakes.{without_made_up_names, without_first_names};
+ghost use Rattle.counterexamples_denial.specs.Mistakes.{without_made_up_wildcards};
 
 /// With all choices made rightly the rules are those of `denial_laws`. They never decide falsely,
 /// and miss no zone's own answer.
@@ -90,6 +93,30 @@ pub fn names_are_denied_by_nxname()
 /// lacks a type takes names for which no wildcard stands for names that exist (RFC 9824, 3).
 pub fn no_type_is_denied_at_a_denied_wildcard()
     ensures { DecidesFalsely without_denied_wildcards Nsec }
+{}
+
+/// An owner that a signer made up stands above no name: who takes it for the closest encloser finds
+/// no wildcard under it, and denies the names for which that above it stands (RFC 4470, 3).
+pub fn a_made_up_owner_is_no_encloser()
+    ensures { DecidesFalsely without_made_up_enclosers Nsec }
+{}
+
+/// A record tells nothing of an owner that was made up. An attacker would ask for names right
+/// behind one for which a wildcard stands, and deny all its types (RFC 4470, 3).
+pub fn no_type_is_denied_at_a_made_up_owner()
+    ensures { DecidesFalsely without_made_up_names Nsec }
+{}
+
+/// Nor where its next name is somewhere below it: a signer makes such records up too. No record
+/// that is made to cover a name has the first name below as its next (RFC 9824, 3.2).
+pub fn an_empty_non_terminal_has_the_first_name_next()
+    ensures { DecidesFalsely without_first_names Nsec }
+{}
+
+/// A wildcard that is a made-up owner need not exist. Who takes its record for one that lacks a
+/// type takes names for which no wildcard stands for names that exist (RFC 4470, 3).
+pub fn no_type_is_denied_at_a_made_up_wildcard()
+    ensures { DecidesFalsely without_made_up_wildcards Nsec }
 {}
 
 /// A record with CNAME in its bits proves no type missing: the alias answers for each of them. An

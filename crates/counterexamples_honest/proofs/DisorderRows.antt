@@ -1,5 +1,5 @@
 -- Zones that are not in order, of which a judge says a verdict of a name that is an alias, or one that the zone does not have.
-use Rattle.std.proofs.Common.{◌≡◌, true, false, [], ◌∷◌, refl, sym, ap, ◌∙◌, inl, inr}
+use Rattle.std.proofs.Common.{◌≡◌, true, false, [], ◌∷◌, refl, sym, ap, ◌∙◌, inl, inr, arith}
 use Rattle.std.specs.Prelude.{◌==◌, Contains}
 use Rattle.std.proofs.lemmas.Bool.{and_parts, false_from_ne_true, false≢true}
 use Rattle.definitions.specs.Bitmap.{octet_of, window_count, window_size}
@@ -45,6 +45,7 @@ alias_order =
     let z : Zone = zone_in example beside_alias in
     record {
       apex = at_place (owners z) (apex_of z) 0 refl refl;
+      typed = (omega arith, (omega arith, (omega arith, tt)));
       ordinary = (refl, (refl, (refl, tt)));
       real = (refl, (refl, (refl, tt)));
       stars = (refl, (refl, (refl, tt)));
@@ -111,6 +112,7 @@ below_order =
     let z : Zone = zone_in example below_redirect in
     record {
       apex = at_place (owners z) (apex_of z) 0 refl refl;
+      typed = (omega arith, (omega arith, (omega arith, tt)));
       ordinary = (refl, (refl, (refl, tt)));
       real = (refl, (refl, (refl, tt)));
       stars = (refl, (refl, (refl, tt)));
@@ -200,6 +202,7 @@ cut_order =
     let z : Zone = zone_in example cut_redirect in
     record {
       apex = at_place (owners z) (apex_of z) 0 refl refl;
+      typed = (omega arith, (omega arith, (omega arith, tt)));
       ordinary = (refl, (refl, (refl, tt)));
       real = (refl, (refl, (refl, tt)));
       stars = (refl, (refl, (refl, tt)));
@@ -269,6 +272,7 @@ hand_order =
     let z : Zone = zone_in example chained_by_hand in
     record {
       apex = at_place (owners z) (apex_of z) 0 refl refl;
+      typed = (omega arith, (omega arith, (omega arith, tt)));
       ordinary = tt;
       real = (refl, (refl, (refl, tt)));
       stars = (refl, (refl, (refl, tt)));

@@ -5,6 +5,7 @@ pub mod Handed
 pub mod HonestRows
 pub mod Known
 pub mod MadeRows
+pub mod MadeUpRow
 pub mod Mixtures
 pub mod OwnKeys
 pub mod Premises

@@ -1,6 +1,6 @@
 -- Records of denial that were made for questions: one that says what is not so, and one that denies a name which is not there; and a
 -- zone with a record of type NXNAME.
-use Rattle.std.proofs.Common.{◌≡◌, ◌⊎◌, ℕ, false, true, List, [], ◌∷◌, Some, refl, sym, ap, ◌∙◌, inl, inr}
+use Rattle.std.proofs.Common.{◌≡◌, ◌⊎◌, ℕ, false, true, List, [], ◌∷◌, Some, refl, sym, ap, ◌∙◌, inl, inr, arith}
 use Rattle.std.specs.Prelude.{Contains}
 use Rattle.std.proofs.lemmas.Bool.{false≢true}
 use Rattle.definitions.specs.Bitmap.{bitmap, octet_of, window_count, window_size}
@@ -12,7 +12,7 @@ use Rattle.definitions.specs.Signing.{Fields, signed_octets}
 use Rattle.definitions.specs.Zone.{NoName, Zone, apex_of, ce, exists, owners, star_under}
 use Rattle.definitions.specs.ZoneChain.{Nsec, nsec_names}
 use Rattle.definitions.proofs.Members.{in_contained}
-use Rattle.denial_laws.specs.Truth.{Concerns, SaysTruly, concerned}
+use Rattle.denial_laws.specs.Truth.{Concerns, SaysTruly, Denied, concerned}
 use Rattle.denial_laws.proofs.NameFacts.{covers-low}
 use Rattle.messages.specs.Message.{owner_at}
 use Rattle.answer_judge.specs.Honest.{sought_of_answer}
@@ -124,9 +124,9 @@ no_star e c = let same : Some e ≡ Some example = sym c in let apex : e ≡ exa
 denied_says : SaysTruly z b (record { owner = b; next = below; bits = bitmap (46 ∷ 47 ∷ 128 ∷ []) })
 unfolding octet_of window_size window_count
 denied_says = record {
-  live = refl;
+  inside = refl;
   direct = refl;
-  owner = inr (record { nxname = refl; plain = refl; missing = record { missing = record { uncut = refl; gone = refl }; gone = no_star }; silent = silent });
+  owner = Denied (record { nxname = refl; plain = refl; missing = record { missing = record { uncut = refl; gone = refl }; gone = no_star } });
   gap = free;
   shown = λ p n asked c up i h. absurd (false≢true (sym (silent n asked) ∙ c));
 }
@@ -195,6 +195,7 @@ named_order =
     let n : Zone = zone_in example named in
     record {
       apex = at_place (owners n) (apex_of n) 0 refl refl;
+      typed = (omega arith, (omega arith, tt));
       ordinary = (refl, (refl, tt));
       real = tt;
       stars = (refl, (refl, tt));

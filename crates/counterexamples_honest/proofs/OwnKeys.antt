@@ -88,6 +88,7 @@ where_all false a = tt
 pub in_order : (p : Premises) (z : Zone) → IsServable z → IsServableIn p z
 in_order p z s = record {
   apex = s.apex;
+  typed = s.typed;
   ordinary = where_all p.ordinary s.ordinary;
   real = where_all p.real s.real;
   stars = s.stars;

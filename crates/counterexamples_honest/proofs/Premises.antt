@@ -21,6 +21,7 @@ is_version a h v x = record {
   records_are = x.records_are;
   in_order = record {
     apex = x.in_order.apex;
+    typed = x.in_order.typed;
     ordinary = x.in_order.ordinary;
     real = x.in_order.real;
     stars = x.in_order.stars;

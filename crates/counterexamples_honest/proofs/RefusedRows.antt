@@ -1,5 +1,5 @@
 -- Honest rows that a judge refuses, and that a judge which looks away would not.
-use Rattle.std.proofs.Common.{◌≡◌, ℕ, true, false, List, [], ◌∷◌, ◌++◌, eqb, refl, sym, ap, subst, ◌∙◌, inl, inr}
+use Rattle.std.proofs.Common.{◌≡◌, ℕ, true, false, List, [], ◌∷◌, ◌++◌, eqb, refl, sym, ap, subst, ◌∙◌, inl, inr, arith}
 use Rattle.std.specs.Prelude.{◌==◌, Contains}
 use Rattle.std.specs.List.{AllByRecursion}
 use Rattle.std.proofs.lemmas.Bool.{and_parts, eqb-true, false_from_ne_true, false≢true, ltb-true}
@@ -193,6 +193,7 @@ aliased_served =
     let z : Zone = zone_in example aliased in
     record {
       apex = at_place (owners z) (apex_of z) 0 refl refl;
+      typed = (omega arith, (omega arith, tt));
       ordinary = (refl, (refl, tt));
       real = (refl, (refl, tt));
       stars = (refl, (refl, tt));
@@ -280,6 +281,7 @@ redirected_served =
     let z : Zone = zone_in example redirected in
     record {
       apex = at_place (owners z) (apex_of z) 0 refl refl;
+      typed = (omega arith, (omega arith, tt));
       ordinary = (refl, (refl, tt));
       real = (refl, (refl, tt));
       stars = (refl, (refl, tt));

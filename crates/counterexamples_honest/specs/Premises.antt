@@ -117,6 +117,7 @@ Where false A = Unit {0}
 -- a zone in order, as far as some premises ask
 pub record IsServableIn (p : Premises) (z : Zone) : Type 0 where
   pub apex : Contains (owners z) (apex_of z)
+  pub typed : AllByRecursion (λ r. r.rtype < 65536) z.records
   pub ordinary : Where p.ordinary (AllByRecursion (λ r. is_added_type r.rtype ≡ false) z.records)
   pub real : Where p.real (AllByRecursion (λ r. is_meta_type r.rtype ≡ false) z.records)
   pub stars : AllByRecursion (λ r. delegates_star r ≡ false) z.records

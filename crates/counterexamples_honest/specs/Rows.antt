@@ -70,6 +70,22 @@ next_of_denied = wire ((0 ∷ []) ∷ b) ++ bitmap (46 ∷ 47 ∷ 128 ∷ [])
 abbrev pub denying : Version
 denying = record small { made = record { owner = b; rtype = 47; datas = next_of_denied ∷ [] } ∷ [] }
 
+-- one that covers a name and the wildcard beside it, between two names that are not there
+abbrev pub made_up : Name
+made_up = codes "!" ∷ example
+
+abbrev pub next_made_up : Name
+next_made_up = codes "0" ∷ example
+
+abbrev pub between : Name
+between = codes "+" ∷ example
+
+abbrev pub next_of_made_up : List ℕ
+next_of_made_up = wire next_made_up ++ bitmap (46 ∷ 47 ∷ [])
+
+abbrev pub making_up : Version
+making_up = record small { made = record { owner = made_up; rtype = 47; datas = next_of_made_up ∷ [] } ∷ [] }
+
 -- a record of type NXNAME, which its name's record of the chain lists
 abbrev pub named : Version
 named = by_names (soa ∷ handed a 128 (1 ∷ []) ∷ [])
@@ -228,12 +244,17 @@ of_named =
     judge_input (ds ∷ []) own_keys
     (message_of a 1 2 (rr a 47 next_of_named ++ rrsig a (fields 47 2 0 1000 2000 own_key) own_key a (next_of_named ∷ []))) a 1
 
--- ---- an honest row, of a record that was made for its question
+-- ---- honest rows, of records that were made for their questions
 
 abbrev pub of_denied : JudgeInput
 of_denied =
     judge_input (ds ∷ []) own_keys
     (message_of b 1 2 (rr b 47 next_of_denied ++ rrsig b (fields 47 2 3600 1000 2000 own_key) own_key b (next_of_denied ∷ []))) b 1
+
+abbrev pub of_made_up : JudgeInput
+of_made_up =
+    judge_input (ds ∷ []) own_keys
+    (message_of between 1 2 (rr made_up 47 next_of_made_up ++ rrsig made_up (fields 47 2 3600 1000 2000 own_key) own_key made_up (next_of_made_up ∷ []))) between 1
 
 -- ---- honest rows that a judge refuses, of whatever is forged where no judge may look
 

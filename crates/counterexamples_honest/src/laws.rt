@@ -21,7 +21,7 @@ ghost use Rattle.counterexamples_honest.specs.Rows.{aliased, at_alias, begun_at_
 ghost use Rattle.counterexamples_honest.specs.Rows.{below_redirected, first_version, forged_late};
 ghost use Rattle.counterexamples_honest.specs.Rows.{mixed, of_idle, of_other_signer, of_strangers};
 ghost use Rattle.counterexamples_honest.specs.Rows.{own, redirected, second_version, small};
-ghost use Rattle.counterexamples_honest.specs.Rows.{denying, of_denied};
+ghost use Rattle.counterexamples_honest.specs.Rows.{denying, making_up, of_denied, of_made_up};
 ghost use Rattle.counterexamples_honest.specs.Rows.{spliced, starred};
 ghost use Rattle.counterexamples_honest.specs.World.{address, false_address, plain};
 
@@ -174,6 +174,12 @@ pub fn denials_that_are_made_must_be_true()
 /// honest, and denies the name (RFC 9824, 3).
 pub fn a_denial_that_is_made_is_honest()
     ensures { IsHonestCase plain of_denied (denying ∷ []) (Says NoName) }
+{}
+
+/// So is one between two names that a signer makes up: it denies a name in between, and that a
+/// wildcard stands for it (RFC 4470, 3).
+pub fn a_record_between_names_that_are_made_up_is_honest()
+    ensures { IsHonestCase plain of_made_up (making_up ∷ []) (Says NoName) }
 {}
 
 /// A record of type NXNAME is listed by its name's NSEC record, which so denies the name: no zone

@@ -85,10 +85,10 @@ module _ {A : Type 0} (R : A → A → Ordering) (o : IsTotalOrder R) (eq : A �
 
 -- ---- a name that is covered
 
--- The owner is live and before the name, and each live owner is up to it, or the name is before the next name and this is not
+-- The owner lies in the zone below no delegation, and before the name, and each live owner is up to it, or the name is before the next name and this is not
 -- behind the live owner.
 pub record Covered (z : Zone) (o n q : Name) : Type 0 where
-  pub live : is_live z o ≡ true
+  pub inside : is_live z o ≡ true
   pub before : name_cmp o q ≡ Less
   pub apart : (w : Name) → In w (nsec_names z) → (name_cmp w o ≡ Greater → ⊥) ⊎ ((name_cmp q n ≡ Less) × (name_cmp n w ≡ Greater → ⊥))
 
@@ -151,7 +151,7 @@ module _ (z : Zone) (s : IsServable z) where
       let lq : Name = low q in
       let parts = and_parts (before o lq) _ (covers-low z.name f.owner f.next q ∙ h) in
       record {
-        live = g.live;
+        inside = g.inside;
         before = before_less o lq parts.0;
         apart = λ w i. elim (sides w o) [
           | inl up ↦ inl up

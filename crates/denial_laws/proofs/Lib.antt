@@ -1,5 +1,6 @@
 pub mod NameFacts
 pub mod ChainBits
+pub mod BareTypes
 pub mod ZoneCuts
 pub mod Unaliased
 pub mod AliasFree

@@ -1,7 +1,7 @@
 -- What NSEC3 records at the first ancestor of a name that one matches prove is the zone's verdict.
 use Rattle.std.proofs.Common.{◌≡◌, ℕ, ◌<◌, Bool, true, false, ◌&&◌, ◌||◌, not, List, [], ◌∷◌, Option, Some, None, refl, sym, ap, ◌∙◌, inl, inr}
 use Rattle.std.specs.Prelude.{◌==◌, if◌then◌else◌}
-use Rattle.std.specs.List.{AllByRecursion, list_any, Contains}
+use Rattle.std.specs.List.{AllByRecursion, list_any}
 use Rattle.std.specs.Str.{str_to_ascii_lowercase}
 use Rattle.std.proofs.lemmas.Bool.{and_parts, and_from, and_left, or_cases, not-true, false≢true, false_from_ne_true}
 use Rattle.definitions.specs.Name.{Name, low, same, labels_eq, at_or_above, strictly_above}

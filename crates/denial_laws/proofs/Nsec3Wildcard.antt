@@ -8,8 +8,6 @@ use Rattle.std.proofs.lemmas.List.{length-drop}
 use Rattle.definitions.specs.Name.{Name, low, same, at_or_above}
 use Rattle.definitions.specs.Signing.{label_count, signed_owner}
 use Rattle.definitions.specs.Zone.{Zone, Verdict, NoName, StarRecords, StarNoType, Open, apex_of, is_delegation, is_live, kept, exists, has, star_under, data_at, at_star}
-use Rattle.definitions.specs.ZoneChain.{nsec3_names}
-use Rattle.definitions.specs.Laws.{NoneShare}
 use Rattle.definitions.proofs.ZoneNames.{above_itself, low-low, above_lowered, lowered_above}
 use Rattle.denial_laws.specs.Facts.{Rrset, HashLink, is_expanded}
 use Rattle.denial_laws.specs.Nsec3Rules.{covers_hash, last_labels, hash_expanded_by, hash_expanded}

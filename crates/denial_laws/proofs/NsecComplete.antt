@@ -13,7 +13,7 @@ use Rattle.definitions.proofs.ChainSpeaks.{all_from}
 use Rattle.definitions.proofs.ZoneNames.{above_itself, above_lowered, lowered_above, same-length, low-low, same_lowered, owner_in_chain}
 use Rattle.denial_laws.specs.Aliases.{is_redirected}
 use Rattle.denial_laws.specs.Facts.{Rrset, Link, Facts}
-use Rattle.denial_laws.specs.NsecRules.{first_some, or_else, has_nxname, denies, is_cut, lacks, star_lacks, at_name, at_owner, below_cut, link_covers, closest, at_star, covered, denied, encloses_at, expanded_by, expanded}
+use Rattle.denial_laws.specs.NsecRules.{first_some, or_else, has_more, tells, denies, is_cut, lacks, star_lacks, at_name, at_owner, below_cut, link_covers, closest, at_star, covered, denied, encloses_at, expanded_by, expanded}
 use Rattle.denial_laws.specs.Deciding.{decided_inside, decided}
 use Rattle.denial_laws.specs.OwnFacts.{spoken, link_of, own_rrset, own_links, own_facts}
 use Rattle.denial_laws.specs.Truth.{Concerns, IsServable, IsTrueLink, IsTrueRrset, ShowsTypes, SaysTruly, AreTrue, is_star}
@@ -21,7 +21,8 @@ use Rattle.denial_laws.specs.Laws.{is_asked_type}
 use Rattle.denial_laws.proofs.NameFacts.{names_same, same-low, before_unlike, strictly-low, strictly_lowered, above_cases, strictly_at}
 use Rattle.denial_laws.proofs.AtName.{Answers, lacks_from, star_lacks_from, cut_answers, lack_answers}
 use Rattle.denial_laws.proofs.KeptAncestor.{kept_encloser}
-use Rattle.denial_laws.proofs.ChainBits.{nsec_shows, nsec_named, nsec_lacks, cut_test, asked_no_cname}
+use Rattle.denial_laws.proofs.BareTypes.{nsec_more}
+use Rattle.denial_laws.proofs.ChainBits.{nsec_shows, nsec_lacks, cut_test, asked_no_cname}
 use Rattle.denial_laws.proofs.ZoneCuts.{IsCut, ce_encloses, ce_lowered, delegation_owner, delegation_low, cut_is, cut_live}
 use Rattle.denial_laws.proofs.Found.{first_is, left_is, right_is}
 use Rattle.denial_laws.proofs.HashChain.{concerns_name, concerns_star}
@@ -56,11 +57,13 @@ module _ (z : Zone) (s : IsServable z) (q : Name) (t : ℕ) (l : t < 65536) (k :
 
   -- ---- a record of the name
 
-  at_owner_is : (o : Name) → o ≡ low q → at_owner z.name q t (link_of z o) ≡ at_name z.name q t (bitmap (nsec_types z true o))
-  at_owner_is o e = ap (λ b. elim b as (λ _. Option Verdict) [ true ↦ at_name z.name q t (bitmap (nsec_types z true o)) | false ↦ None ]) (names_same o q (ap low e ∙ low-low q))
+  at_owner_is : (o : Name) → In o (nsec_names z) → o ≡ low q → at_owner z.name q t (link_of z o) ≡ at_name z.name q t (bitmap (nsec_types z true o))
+  at_owner_is o i e =
+      let told : tells (link_of z o) ≡ true = or_left (has_more (bitmap (nsec_types z true o))) _ (nsec_more z s o i) in
+      ap (λ b. elim b as (λ _. Option Verdict) [ true ↦ at_name z.name q t (bitmap (nsec_types z true o)) | false ↦ None ]) (and_from (same o q) (tells (link_of z o)) (names_same o q (ap low e ∙ low-low q)) told)
 
-  matched : (o : Name) → o ≡ low q → LacksBoth z o t → Answers (at_owner z.name q t (link_of z o))
-  matched o e h = let w = lack_answers z.name q t (bitmap (nsec_types z true o)) (own_lacks o h) in (w.0, at_owner_is o e ∙ w.1)
+  matched : (o : Name) → In o (nsec_names z) → o ≡ low q → LacksBoth z o t → Answers (at_owner z.name q t (link_of z o))
+  matched o i e h = let w = lack_answers z.name q t (bitmap (nsec_types z true o)) (own_lacks o h) in (w.0, at_owner_is o i e ∙ w.1)
 
   -- ---- a record that covers a wildcard
 
@@ -81,8 +84,8 @@ module _ (z : Zone) (s : IsServable z) (q : Name) (t : ℕ) (l : t < 65536) (k :
       unlike = false_from_ne_true (same o (star_under n)) (λ e. before_unlike (low o) (low (star_under n)) reach.before (same-low o (star_under n) ∙ e))
 
       go : (d : Bool) → strictly_above (star_under n) (nsec_next z o) ≡ d → Answers (at_star z.name (star_under n) t (link_of z o))
-      go true e = (StarNoType, (λ i. star_case (unlike i) (star_lacks (bitmap (nsec_types z true o)) t && not (has_nxname (bitmap (nsec_types z true o)))) (c i) (e i)))
-      go false e = (NoName, (λ i. star_case (unlike i) (star_lacks (bitmap (nsec_types z true o)) t && not (has_nxname (bitmap (nsec_types z true o)))) (c i) (e i)))
+      go true e = (StarNoType, (λ i. star_case (unlike i) (star_lacks (bitmap (nsec_types z true o)) t && has_more (bitmap (nsec_types z true o))) (c i) (e i)))
+      go false e = (NoName, (λ i. star_case (unlike i) (star_lacks (bitmap (nsec_types z true o)) t && has_more (bitmap (nsec_types z true o))) (c i) (e i)))
 
   module _ (qs : List Name) where
     abbrev fs : List Link
@@ -145,7 +148,7 @@ module _ (z : Zone) (s : IsServable z) (q : Name) (t : ℕ) (l : t < 65536) (k :
         let p : Speaks z qs (low q) = speaker z s qs (low q) (low-low q) j a in
         let c : has z (low q) 5 ≡ false = there_no_cname z (low q) t s.aliases (low-low q) x (u.own refl) (asked_no_cname t k) in
         elim p.says [
-          | inl e ↦ by_owner (link_of z p.owner) p.listed (matched p.owner e (ap (λ n. has z n t) e ∙ h, ap (λ n. has z n 5) e ∙ c))
+          | inl e ↦ by_owner (link_of z p.owner) p.listed (matched p.owner p.inside e (ap (λ n. has z n t) e ∙ h, ap (λ n. has z n 5) e ∙ c))
           | inr c ↦ by_cover (link_of z p.owner) p.listed (covered_there p.owner p.inside c a x)
         ]
 
@@ -162,7 +165,7 @@ module _ (z : Zone) (s : IsServable z) (q : Name) (t : ℕ) (l : t < 65536) (k :
               let is : same p.owner (star_under n) ≡ true = names_same p.owner (star_under n) (ap low m ∙ le ∙ sym ls) in
               let none : LacksBoth z (star_under e) t = h (subst (λ n. In n (nsec_names z)) m p.inside) in
               let lacking : star_lacks (bitmap (nsec_types z true p.owner)) t ≡ true = star_lacking p.owner (ap is_star m) (ap (λ n. has z n t) m ∙ none.0, ap (λ n. has z n 5) m ∙ none.1) in
-              let plain = and_from (star_lacks (bitmap (nsec_types z true p.owner)) t) _ lacking (not_from_false (has_nxname (bitmap (nsec_types z true p.owner))) (nsec_named z s p.owner)) in
+              let plain = and_from (star_lacks (bitmap (nsec_types z true p.owner)) t) _ lacking (nsec_more z s p.owner p.inside) in
               (StarNoType, (λ i. star_case (is i) (plain i) (link_covers z.name g (star_under n)) (strictly_above (star_under n) g.next)))
           | inr c ↦
               let direct : is_redirected z (low (star_under n)) ≡ false = ap (is_redirected z) ls ∙ beside_unredirected z e (low q) (42 ∷ []) (low-low q) up u.unredirected in
@@ -204,7 +207,7 @@ module _ (z : Zone) (s : IsServable z) (q : Name) (t : ℕ) (l : t < 65536) (k :
               let at_cut : is_cut z.name q (bitmap (nsec_types z true c)) ≡ true =
               cut_test z q (bitmap (nsec_types z true c)) live (subst (λ n. ShowsTypes z n (bitmap (nsec_types z true c))) is (nsec_shows z s c)) ∙ ap (is_delegation z) (sym is) ∙ r.delegation in
               let told = cut_answers z.name q t (bitmap (nsec_types z true c)) (and_from _ _ at_cut (not_from_false (t == 43) ds)) in
-              by_owner (link_of z c) g (told.0, at_owner_is c is ∙ told.1)
+              by_owner (link_of z c) g (told.0, at_owner_is c i is ∙ told.1)
           | inr m ↦ by_cut (link_of z c) g (Delegated, tells_cut z s (link_of z c) (says c i) q (ap (is_delegation z) lc ∙ r.delegation) (ap (λ n. strictly_above n (low q)) lc ∙ m))
         ]
 

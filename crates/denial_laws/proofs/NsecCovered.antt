@@ -5,27 +5,27 @@ use Rattle.std.proofs.lemmas.Bool.{and_parts, and_from, and_left, or_right, not-
 use Rattle.definitions.specs.Name.{Name, low, same, labels_eq, at_or_above, strictly_above}
 use Rattle.definitions.specs.Covering.{covers}
 use Rattle.definitions.specs.Bitmap.{bitmap_has}
-use Rattle.definitions.specs.Zone.{Zone, Verdict, NoType, NoName, StarRecords, StarNoType, Delegated, apex_of, owners, has, is_delegation, cut, exists, data_at, star_under}
+use Rattle.definitions.specs.Zone.{Zone, Verdict, NoType, NoName, StarRecords, StarNoType, Delegated, apex_of, owners, has, is_delegation, cut, exists, ce, data_at, star_under}
 use Rattle.definitions.specs.Zone as zone
 use Rattle.definitions.specs.ZoneChain.{nsec_names}
 use Rattle.definitions.proofs.Members.{In}
 use Rattle.definitions.proofs.NameLaws.{labels_decide}
-use Rattle.definitions.proofs.ZoneNames.{kept-live, above_itself, above_lowered, low-low, same_lowered, owner_lowered, live_owner, owner_in_chain}
+use Rattle.definitions.proofs.ZoneNames.{kept-live, above_itself, above_lowered, low-low, same_lowered, owner_lowered, owner_in_chain}
 use Rattle.denial_laws.specs.Facts.{Link}
-use Rattle.denial_laws.specs.NsecRules.{first_some, has_nxname, is_cut, lacks, star_lacks, below_cut, link_covers, redirects, closest, at_star, covered}
+use Rattle.denial_laws.specs.NsecRules.{first_some, has_more, is_cut, lacks, star_lacks, below_cut, link_covers, redirects, shown_owner, closest, at_star, covered}
 use Rattle.denial_laws.specs.Aliases.{is_redirected}
-use Rattle.denial_laws.specs.Truth.{Concerns, IsServable, IsThere, SaysTruly, ShowsTypes, is_star}
+use Rattle.denial_laws.specs.Truth.{Concerns, IsServable, IsThere, IsStarred, SaysTruly, ShowsTypes, is_star}
 use Rattle.denial_laws.specs.Laws.{IsSaidBy}
-use Rattle.denial_laws.proofs.NameFacts.{above-low, strictly-low, strictly_lowered, same_names, names_same, above_cases, strictly_at, strictly_unlike, strictly_from, above_trans, at_strictly_above}
+use Rattle.denial_laws.proofs.NameFacts.{above-low, strictly-low, strictly_lowered, same_names, names_same, above_cases, strictly_at, strictly_unlike, strictly_from, above_trans}
 use Rattle.denial_laws.proofs.ChainBits.{cut_no_dname}
-use Rattle.denial_laws.proofs.ZoneCuts.{NoneAbove, NoneStrictlyAbove, IsCut, has_owner, delegation_owner, delegation_low, no_star_cut, uncut, cut_is, cut_live, cut_from, uncut_live, live_uncut}
+use Rattle.denial_laws.proofs.ZoneCuts.{NoneAbove, NoneStrictlyAbove, IsCut, has_owner, delegation_owner, delegation_low, no_star_cut, ce_encloses, uncut, cut_is, cut_live, cut_from, uncut_live, live_uncut}
 use Rattle.denial_laws.proofs.Unaliased.{unredirected, no_redirector, cut_unredirected, no_alias, cut_unaliased, there_unaliased, star_unaliased, unaliased}
 use Rattle.denial_laws.proofs.Found.{first_from, unlike_none}
 use Rattle.denial_laws.proofs.HashChain.{concerns_name, concerns_star}
 use Rattle.denial_laws.proofs.Adjacent.{Covered, apex_in, link_covered, no_owner, below_next, above_owner}
-use Rattle.denial_laws.proofs.NsecEncloser.{Encloser, encloser, exists_from, exists_is, owner_exists}
+use Rattle.denial_laws.proofs.NsecEncloser.{Encloser, encloser, exists_from}
 use Rattle.denial_laws.proofs.AtName.{on_true, not_there, lacks_cname}
-use Rattle.denial_laws.proofs.NsecOwner.{covering_there, cut_there, link_cut, named_there}
+use Rattle.denial_laws.proofs.NsecOwner.{cut_there, link_cut, more_there, redirector_there}
 use Rattle.denial_laws.proofs.Verdicts.{lacking, verdict_delegated, verdict_existing, verdict_by_star}
 
 lets : {A : Type 0} (b : Bool) (x : A) → b ≡ true → (elim b as (λ _. Option A) [ true ↦ Some x | false ↦ None ]) ≡ Some x
@@ -48,7 +48,7 @@ module _ (z : Zone) (s : IsServable z) {Q : Name} (f : Link) (g : SaysTruly z Q 
 
   -- it exists exactly where the next name is below it
   pub exists_covered : at_or_above (apex_of z) x ≡ true → (b : Bool) → strictly_above x n ≡ b → exists z x ≡ b
-  exists_covered a true e = g.shown q q asked c (above_itself q) (sym (above-low z.name q) ∙ a) (or_right (at_or_above q f.owner) (at_or_above q f.next) (strictly_at q f.next (sym (strictly-low q f.next) ∙ e)))
+  exists_covered a true e = g.shown q q asked c (above_itself q) (sym (above-low z.name q) ∙ a) (or_right (at_or_above q (shown_owner f)) (at_or_above q f.next) (strictly_at q f.next (sym (strictly-low q f.next) ∙ e)))
   exists_covered a false e = false_from_ne_true (exists z x) (λ there.
       let w = exists_from z s x there in
       false≢true (sym e ∙ below_next z s o n x k w.0 w.1.0 w.1.1))
@@ -75,7 +75,7 @@ module _ (z : Zone) (s : IsServable z) {Q : Name} (f : Link) (g : SaysTruly z Q 
               | inl m ↦
                   let is : c ≡ o = same_lowered c o (delegation_low z c r.delegation) (low-low f.owner) m in
                   inr (ap (is_delegation z) (sym is) ∙ r.delegation, ap (λ n. strictly_above n x) (sym is) ∙ h)
-              | inr m ↦ absurd (live_uncut z o (low-low f.owner) k.live c r.delegation m)
+              | inr m ↦ absurd (live_uncut z o (low-low f.owner) k.inside c r.delegation m)
             ]
           ]
 
@@ -91,7 +91,7 @@ module _ (z : Zone) (s : IsServable z) {Q : Name} (f : Link) (k : SaysTruly z Q 
       let above : strictly_above o (low q) ≡ true = strictly-low f.owner q ∙ both.1 in
       let unlike : labels_eq o (low q) ≡ false = false_from_ne_true (labels_eq o (low q)) (λ e. strictly_unlike o (low q) above (names_same o (low q) (ap low ((labels_decide o (low q)).0 e)))) in
       let d : is_delegation z o ≡ true = sym (link_cut z s f k) ∙ both.0 in
-      let live = k.live in
+      let live = k.inside in
       let up = strictly_at o (low q) above in (
         sym is ∙ sym (verdict_delegated z false q o t d (kept-live z o ∙ live) up (and_left (labels_eq o (low q)) (t == 43) unlike)),
         unaliased z false q t (cut_unredirected z s.aliases (low q) o d live up) (λ _. cut_unaliased z (low q) t o (cut_from z (low q) o (low-low q) d live up)),
@@ -118,7 +118,8 @@ module _ (z : Zone) (s : IsServable z) {Q : Name} (f : Link) (k : SaysTruly z Q 
       elim (above_cases d o (above_owner z s o (low f.next) (low q) (cover h) d (owner_in_chain z d owner r.live) r.above)) [
         | inl m ↦
             let is : d ≡ o = same_lowered d o (owner_lowered z d owner) (low-low f.owner) m in
-            let bit : bitmap_has f.bits 39 ≡ true = (covering_there z s f k q asked (covering h)).types.redirect ∙ ap (λ n. has z n 39) (sym is) ∙ r.redirects in
+            let here : has z o 39 ≡ true = ap (λ n. has z n 39) (sym is) ∙ r.redirects in
+            let bit : bitmap_has f.bits 39 ≡ true = (redirector_there z s f k here).types.redirect ∙ here in
             let above : strictly_above f.owner q ≡ true = sym (strictly-low f.owner q) ∙ ap (λ n. strictly_above n (low q)) (sym is) ∙ r.above in
             false≢true (sym (not-true (redirects q f) (and_parts (covers z.name f.owner f.next q) (not (redirects q f)) h).1) ∙ and_from _ _ above bit)
         | inr m ↦ no_redirector z o d (low-low f.owner) k.direct (record { redirects = r.redirects; live = r.live; above = m })
@@ -130,10 +131,18 @@ module _ (z : Zone) (s : IsServable z) {Q : Name} (f : Link) (k : SaysTruly z Q 
     | inr c ↦ absurd (unlike_none (below_cut z.name q f) Delegated (tells_cut z s f k q c.0 c.1) n)
   ]
 
+  -- a wildcard under a name that exists has no other wildcard that stands for it
+  no_other_star : (e : Name) → q ≡ star_under e → exists z (low e) ≡ true → same f.owner q ≡ true → IsStarred z Q f → ⊥
+  no_other_star e st x m w =
+      let at : low f.owner ≡ star_under (low e) = same_names f.owner q m ∙ ap low st in
+      let above : ce z (low f.owner) ≡ Some (low e) = ap (ce z) at ∙ ap (λ b. if b then Some (low e) else ce z (low e)) x in
+      let is : w.by.encloser ≡ low e = (let both : Some w.by.encloser ≡ Some (low e) = sym w.by.closest ∙ above in cc) in
+      false≢true (sym w.by.missing.gone ∙ ap (exists z) (at ∙ ap star_under (sym is) ∙ sym w.by.named) ∙ w.by.there)
+
   -- of a wildcard, below no delegation: it has no CNAME
-  star_truly : (e : Name) → q ≡ star_under e → at_or_above (apex_of z) (low q) ≡ true → NoneStrictlyAbove z (low q) → (t : ℕ) → t < 65536 → (v : Verdict) → at_star z.name q t f ≡ Some v
+  star_truly : (e : Name) → q ≡ star_under e → exists z (low e) ≡ true → at_or_above (apex_of z) (low q) ≡ true → NoneStrictlyAbove z (low q) → (t : ℕ) → t < 65536 → (v : Verdict) → at_star z.name q t f ≡ Some v
       → (zone.at_star z (low q) t ≡ v) × (has z (low q) 5 ≡ false)
-  star_truly e st a c t l v h = go (same f.owner q) refl h
+  star_truly e st under a c t l v h = go (same f.owner q) refl h
     where
       between : (b d : Bool) → link_covers z.name f q ≡ b → strictly_above q f.next ≡ d → (elim b as (λ _. Option Verdict) [ true ↦ elim d [ true ↦ Some StarNoType | false ↦ Some NoName ] | false ↦ None ]) ≡ Some v
           → (zone.at_star z (low q) t ≡ v) × (has z (low q) 5 ≡ false)
@@ -150,13 +159,13 @@ module _ (z : Zone) (s : IsServable z) {Q : Name} (f : Link) (k : SaysTruly z Q 
 
       go : (b : Bool) → same f.owner q ≡ b
           → (elim b as (λ _. Option Verdict) [
-            | true ↦ elim (star_lacks f.bits t && not (has_nxname f.bits)) [ true ↦ Some StarNoType | false ↦ None ]
+            | true ↦ elim (star_lacks f.bits t && has_more f.bits) [ true ↦ Some StarNoType | false ↦ None ]
             | false ↦ elim (link_covers z.name f q) [ true ↦ elim (strictly_above q f.next) [ true ↦ Some StarNoType | false ↦ Some NoName ] | false ↦ None ]
           ]) ≡ Some v → (zone.at_star z (low q) t ≡ v) × (has z (low q) 5 ≡ false)
       go true m h =
-          let r = on_true (star_lacks f.bits t && not (has_nxname f.bits)) (Some StarNoType) v h in
-          let passed = and_parts (star_lacks f.bits t) (not (has_nxname f.bits)) r.0 in
-          let there : IsThere z f = named_there z s f k (not-true (has_nxname f.bits) passed.1) in
+          let r = on_true (star_lacks f.bits t && has_more f.bits) (Some StarNoType) v h in
+          let passed = and_parts (star_lacks f.bits t) (has_more f.bits) r.0 in
+          let there : IsThere z f = more_there z s f k (no_other_star e st under m) passed.1 in
           let is : StarNoType ≡ v = cc in
           let same_name : low f.owner ≡ low q = same_names f.owner q m in
           let x : exists z (low q) ≡ true = subst (λ n. exists z n ≡ true) same_name there.exists_is in
@@ -202,7 +211,7 @@ module _ (z : Zone) (s : IsServable z) (q : Name) (t : ℕ) (l : t < 65536) (fs 
           let g = first_from (at_star z.name (star_under c.name) t) fs v found in
           let inside : at_or_above (apex_of z) (low c.name) ≡ true = above_lowered (apex_of z) c.name ∙ c.inside in
           let up : at_or_above (low c.name) (low q) ≡ true = above-low c.name q ∙ strictly_at c.name q c.above in
-          let star = star_truly z s g.0 (ks g.0 g.1.0) (star_under c.name) (concerns_star (apex_of z) c.name q c.inside c.above) c.name refl (strictly_at (apex_of z) (star_under (low c.name)) inside)
+          let star = star_truly z s g.0 (ks g.0 g.1.0) (star_under c.name) (concerns_star (apex_of z) c.name q c.inside c.above) c.name refl (ce_encloses z (low q) (low c.name) c.is).there (strictly_at (apex_of z) (star_under (low c.name)) inside)
           (λ d i b. none d i (above_trans d (low c.name) (low q) b up)) t l v g.1.1 in (
             sym (verdict_by_star z q (low c.name) t none x c.is ∙ star.0),
             unaliased z false q t (link_unredirected z s f (ks f i) q asked m) (λ _. star_unaliased z (low q) t (low c.name) x c.is (no_alias z (star_under (low c.name)) t star.1)),

@@ -11,13 +11,14 @@ use Rattle.denial_laws.specs.Facts.{Rrset, Link, is_expanded}
 use Rattle.denial_laws.specs.NsecRules.{link_covers, closest, encloses_at, expanded_by}
 use Rattle.denial_laws.specs.Truth.{Concerns, IsServable, SaysTruly, IsTrueRrset, is_signed}
 use Rattle.denial_laws.specs.Laws.{IsSaidBy}
-use Rattle.denial_laws.proofs.NameFacts.{above-low, strictly-low, strictly_lowered, strictly_at}
-use Rattle.denial_laws.proofs.ZoneCuts.{NoneAbove, has_owner, live_uncut}
+use Rattle.denial_laws.proofs.NameFacts.{strictly-low, strictly_lowered, strictly_at}
+use Rattle.denial_laws.proofs.ZoneCuts.{NoneAbove, ce_encloses, has_owner, live_uncut}
 use Rattle.denial_laws.proofs.NsecEncloser.{Encloser, encloser, owner_exists}
 use Rattle.denial_laws.proofs.AtName.{on_true}
 use Rattle.denial_laws.proofs.HashChain.{concerns_name}
 use Rattle.denial_laws.proofs.SignedNames.{star_owner}
 use Rattle.denial_laws.proofs.Verdicts.{verdict_by_star}
+use Rattle.denial_laws.proofs.NsecOwner.{cut_there}
 use Rattle.denial_laws.proofs.NsecCovered.{covering, link_unredirected, exists_covered, apex_above, cut_or_none}
 use Rattle.denial_laws.proofs.Unaliased.{typed_no_alias, star_unaliased, unaliased}
 
@@ -45,8 +46,8 @@ module _ (z : Zone) (s : IsServable z) (q : Name) (t : ℕ) (r : Rrset) (k : IsT
         let none : NoneAbove z (low q) = elim (cut_or_none z s f g q asked gap) [
           | inl u ↦ u
           | inr d ↦
-              let up : at_or_above f.owner w.name ≡ true = w.longest f.owner (sym (strictly-low f.owner q) ∙ d.1) (above_itself f.owner) in
-              absurd (live_uncut z star (ap star_under (low-low w.name)) live (low f.owner) d.0 (above-low f.owner w.name ∙ up))
+              let up : at_or_above (low f.owner) (low w.name) ≡ true = (ce_encloses z (low q) (low w.name) w.is).longest (low f.owner) (cut_there z s f g d.0).exists_is d.1 in
+              absurd (live_uncut z star (ap star_under (low-low w.name)) live (low f.owner) d.0 up)
         ] in
         let gone : exists z (low q) ≡ false = exists_covered z s f g q asked gap a false (strictly-low q f.next ∙ b) in
         let there : exists z star ≡ true = owner_exists z s star (owner_in_chain z star (has_owner z star t signed.1) live) in (

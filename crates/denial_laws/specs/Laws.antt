@@ -1,12 +1,14 @@
 -- Laws of denial.
-use Rattle.std.specs.Prelude.{◌≡◌, ◌↔◌, ℕ, ◌+◌, ◌<◌, ◌≤◌, Bool, true, false, not, ◌&&◌, ◌||◌, List, [], ◌∷◌, ◌++◌, map, length, Option, Some, None, nat_le, nat_eq, Contains}
+use Rattle.std.specs.Prelude.{◌≡◌, ◌↔◌, ◌⊎◌, ℕ, ◌+◌, ◌<◌, ◌≤◌, Bool, true, false, not, ◌&&◌, ◌||◌, List, [], ◌∷◌, ◌++◌, map, length, Option, Some, None, nat_eq, Contains}
 use Rattle.std.specs.List.{AllByRecursion, list_any}
 use Rattle.definitions.specs.Name.{Name, IsName, low, labels_eq, at_or_above}
 use Rattle.definitions.specs.Zone.{Zone, Verdict, verdict, apex_of, star_under}
 use Rattle.definitions.specs.ZoneChain.{Mode, Nsec, Nsec3, optout_of}
+use Rattle.definitions.specs.Bitmap.{bitmap}
 use Rattle.denial_laws.specs.Aliases.{is_aliased}
 use Rattle.denial_laws.specs.Facts.{Facts}
 use Rattle.denial_laws.specs.Deciding.{decided, hashed}
+use Rattle.denial_laws.specs.NsecRules.{is_bare}
 use Rattle.denial_laws.specs.Truth.{IsServable, AreChain, SayTruly, AreTrue, NoSharedHash, concerned, is_foreign_type, is_meta_type}
 use Rattle.denial_laws.specs.OwnFacts.{own_facts}
 use Rattle.denial_laws.specs.Saying.{IsVerdict}
@@ -33,6 +35,11 @@ abbrev pub ChainsSayTruly : Type 0
 ChainsSayTruly =
     (z : Zone) (hash : Name → List ℕ) (mode : Mode) (q : Name) (f : Facts)
     → IsServable z → NoSharedHash z hash mode q → AreChain z hash mode f → SayTruly z hash mode q f
+
+-- Of the spellings of sets of types those are bare that have no types but RRSIG and NSEC.
+abbrev pub BareIsOfTwoTypes : Type 0
+BareIsOfTwoTypes =
+    (ts : List ℕ) → (is_bare (bitmap ts) ≡ true) ↔ ((t : ℕ) → t < 65536 → list_any (nat_eq t) ts ≡ true → (t ≡ 46) ⊎ (t ≡ 47))
 
 -- what facts decide is what any zone says of which they are true
 abbrev pub DecidesTruly : Name → (Name → List ℕ) → Facts → Name → ℕ → Option Verdict → Type 0

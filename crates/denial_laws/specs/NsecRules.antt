@@ -1,5 +1,7 @@
 -- What NSEC records prove of a name and a type (RFC 4035, 5.4; RFC 4592; RFC 6840, 4.1 and 4.3).
-use Rattle.std.specs.Prelude.{ℕ, Bool, true, false, not, ◌&&◌, ◌||◌, ◌==◌, List, [], ◌∷◌, length, Option, Some, None}
+use Rattle.std.specs.Prelude.{ℕ, Bool, true, false, not, ◌&&◌, ◌||◌, ◌==◌, List, [], ◌∷◌, length, drop, Option, Some, None, if◌then◌else◌}
+use Rattle.std.specs.List.{list_any}
+use Rattle.std.specs.Str.{bytes_eq}
 use Rattle.definitions.specs.Name.{Name, same, at_or_above, strictly_above}
 use Rattle.definitions.specs.Covering.{covers}
 use Rattle.definitions.specs.Bitmap.{bitmap_has}
@@ -34,6 +36,28 @@ star_lacks bits t = lacks bits t && ((t == 43) || not (bitmap_has bits 2))
 abbrev pub has_nxname : List ℕ → Bool
 has_nxname bits = bitmap_has bits 128
 
+-- the octets of neither RRSIG nor NSEC, of NSEC, of RRSIG, and of both (RFC 4034, 4.1.2)
+abbrev pub bare_bitmaps : List (List ℕ)
+bare_bitmaps = [] ∷ (0 ∷ 6 ∷ 0 ∷ 0 ∷ 0 ∷ 0 ∷ 0 ∷ 1 ∷ []) ∷ (0 ∷ 6 ∷ 0 ∷ 0 ∷ 0 ∷ 0 ∷ 0 ∷ 2 ∷ []) ∷ (0 ∷ 6 ∷ 0 ∷ 0 ∷ 0 ∷ 0 ∷ 0 ∷ 3 ∷ []) ∷ []
+
+-- No types but RRSIG and NSEC. A signer that makes records for questions makes up owners, which need not exist, and gives them
+-- these (RFC 4470, 3); an owner of a chain has others (RFC 4035, 2.3).
+abbrev pub is_bare : List ℕ → Bool
+is_bare bits = list_any (bytes_eq bits) bare_bitmaps
+
+-- the types of a name that exists: more than RRSIG and NSEC, and not NXNAME
+abbrev pub has_more : List ℕ → Bool
+has_more bits = not (is_bare bits) && not (has_nxname bits)
+
+-- the first of the names below a name
+abbrev pub first_below : Name → Name
+first_below n = (0 ∷ []) ∷ n
+
+-- The record tells which types its owner has: they are more, or the next name is the first below, as an empty non-terminal has it
+-- (RFC 9824, 3.2). Another owner may be made up, and a wildcard may stand for it.
+abbrev pub tells : Link → Bool
+tells f = has_more f.bits || same f.next (first_below f.owner)
+
 -- A record of the name itself with NXNAME denies the name, whatever type is asked for. Without this look the name would pass for
 -- one that lacks the type (RFC 9824, 3).
 abbrev pub denies : Name → Link → Option Verdict
@@ -47,7 +71,7 @@ at_name apex q t bits = elim (is_cut apex q bits && not (t == 43)) [
 ]
 
 abbrev pub at_owner : Name → Name → ℕ → Link → Option Verdict
-at_owner apex q t f = elim (same f.owner q) [ true ↦ at_name apex q t f.bits | false ↦ None ]
+at_owner apex q t f = elim (same f.owner q && tells f) [ true ↦ at_name apex q t f.bits | false ↦ None ]
 
 -- A record above a name, with DNAME in its bits, proves nothing of the name: what is below it is redirected
 -- (RFC 6840, 4.1).
@@ -62,21 +86,26 @@ below_cut apex q f = elim (is_cut apex f.owner f.bits && strictly_above f.owner 
 abbrev pub link_covers : Name → Link → Name → Bool
 link_covers apex f q = covers apex f.owner f.next q && not (redirects q f)
 
--- a record shows that a name exists: its owner or its next name is at or below it
+-- the name that a record's owner shows to exist: the owner itself, or what it stands under, where it may be made up
+abbrev pub shown_owner : Link → Name
+shown_owner f = if has_more f.bits then f.owner else drop 1 f.owner
+
+-- a record shows that a name exists: what its owner shows, or its next name, is at or below it
 abbrev pub shows : Link → Name → Bool
-shows f p = at_or_above p f.owner || at_or_above p f.next
+shows f p = at_or_above p (shown_owner f) || at_or_above p f.next
 
 -- The closest encloser that a covering record shows: the longest ancestor that it shows to exist (RFC 4592, 3.3.1). An ancestor
--- further up would let another wildcard speak for the name.
+-- further up would let another wildcard speak for the name; one that is made up would hide the wildcard that does.
 abbrev pub closest : Link → Name → Option Name
 closest f [] = None
 closest f (l ∷ q) = elim (shows f q) [ true ↦ Some q | false ↦ closest f q ]
 
 -- the wildcard: there without the type, there with names below it alone, or not there; without this look a name that it stands
--- for would pass for one that does not exist; one whose own record has NXNAME is not there
+-- for would pass for one that does not exist; one whose own record has NXNAME is not there, and one whose own record has no more
+-- than RRSIG and NSEC may be made up
 abbrev pub at_star : Name → Name → ℕ → Link → Option Verdict
 at_star apex s t f = elim (same f.owner s) [
-  | true ↦ elim (star_lacks f.bits t && not (has_nxname f.bits)) [ true ↦ Some StarNoType | false ↦ None ]
+  | true ↦ elim (star_lacks f.bits t && has_more f.bits) [ true ↦ Some StarNoType | false ↦ None ]
   | false ↦ elim (link_covers apex f s) [
     | true ↦ elim (strictly_above s f.next) [ true ↦ Some StarNoType | false ↦ Some NoName ]
     | false ↦ None

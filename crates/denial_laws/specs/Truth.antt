@@ -2,7 +2,7 @@
 use Rattle.std.specs.Prelude.{◌≡◌, ◌⊎◌, ℕ, ◌<◌, ◌≤◌, Bool, true, false, not, ◌&&◌, ◌||◌, ◌==◌, List, [], ◌∷◌, ◌++◌, map, filter, length, IfSome, Contains, nat_eq, nat_le}
 use Rattle.std.specs.List.{AllByRecursion, list_any}
 use Rattle.std.specs.Str.{bytes_eq}
-use Rattle.definitions.specs.Name.{Name, low, at_or_above}
+use Rattle.definitions.specs.Name.{Name, low, same, at_or_above}
 use Rattle.definitions.specs.Signing.{signed_owner}
 use Rattle.definitions.specs.Bitmap.{bitmap, bitmap_has}
 use Rattle.definitions.specs.Covering.{covers, hash_covers}
@@ -11,8 +11,8 @@ use Rattle.definitions.specs.ZoneChain.{Mode, Nsec, Nsec3, with_parents, nsec_na
 use Rattle.definitions.specs.Laws.{NoneShare, SharesNone}
 use Rattle.denial_laws.specs.Aliases.{IsOrderly, is_alias_type, is_redirected}
 use Rattle.denial_laws.specs.Facts.{Rrset, Link, HashLink, Facts, is_expanded}
-use Rattle.denial_laws.specs.NsecRules.{has_nxname, shows}
-use Rattle.denial_laws.specs.Saying.{HasNoStar}
+use Rattle.denial_laws.specs.NsecRules.{has_nxname, is_bare, has_more, tells, shows}
+use Rattle.denial_laws.specs.Saying.{HasStar, HasNoStar}
 
 -- ---- the zone
 
@@ -37,10 +37,11 @@ delegates_star r = (r.rtype == 2) && is_star r.spelled
 abbrev pub is_meta_type : ℕ → Bool
 is_meta_type t = nat_eq t 0 || nat_eq t 41 || (nat_le 128 t && nat_le t 255)
 
--- A zone that can be served: records at the apex, none of a type that signing adds or that is no data, no NS at a wildcard, and
--- aliases in order. Records outside the zone change nothing.
+-- A zone that can be served: records at the apex, all of types of 16 bits (RFC 1035, 3.2.1), none of a type that signing adds or
+-- that is no data, no NS at a wildcard, and aliases in order. Records outside the zone change nothing.
 pub record IsServable (z : Zone) : Type 0 where
   pub apex : Contains (owners z) (apex_of z)
+  pub typed : AllByRecursion (λ r. r.rtype < 65536) z.records
   pub ordinary : AllByRecursion (λ r. is_added_type r.rtype ≡ false) z.records
   pub real : AllByRecursion (λ r. is_meta_type r.rtype ≡ false) z.records
   pub stars : AllByRecursion (λ r. delegates_star r ≡ false) z.records
@@ -113,21 +114,56 @@ pub record IsThere (z : Zone) (l : Link) : Type 0 where
   pub types : ShowsTypes z (low l.owner) l.bits
   pub named : has_nxname l.bits ≡ false
 
--- It does not exist, and no wildcard stands for it: its types are NXNAME and those that signing adds, at least not NS. The record
--- says nothing of other names that the question concerns (RFC 9824, 2).
-pub record IsDenied (z : Zone) (q : Name) (l : Link) : Type 0 where
+-- the record covers no name that the question concerns
+abbrev pub IsSilent : Zone → Name → Link → Type 0
+IsSilent z q l = (x : Name) → Concerns z q x → covers z.name l.owner l.next x ≡ false
+
+-- Of a name that exists without types a record may be made, which says nothing of other names that the question concerns
+-- (RFC 9824, 3.2).
+pub record IsBare (z : Zone) (q : Name) (l : Link) : Type 0 where
+  pub there : IsThere z l
+  pub silent : IsSilent z q l
+
+-- The owner is made up: it does not exist, its types are at most RRSIG and NSEC (RFC 4470, 3), and the record tells nothing of it
+-- to who asks for it.
+pub record IsMadeUp (z : Zone) (q : Name) (l : Link) : Type 0 where
+  pub gone : exists z (low l.owner) ≡ false
+  pub bare : is_bare l.bits ≡ true
+  pub untold : same l.owner q ≡ true → tells l ≡ false
+
+-- It does not exist, and no wildcard stands for it: its types are NXNAME and those that signing adds, at least not NS
+-- (RFC 9824, 2).
+pub record IsDenied (z : Zone) (l : Link) : Type 0 where
   pub nxname : has_nxname l.bits ≡ true
   pub plain : bitmap_has l.bits 2 ≡ false
   pub missing : HasNoStar z (low l.owner)
-  pub silent : (x : Name) → Concerns z q x → covers z.name l.owner l.next x ≡ false
 
--- An NSEC record says truly: of its owner, which lies below no delegation and no DNAME; that no live owner lies between it and its
--- next name; and that what it shows above a name in between exists, if the question concerns this. Its next name need not be one
--- of the zone (RFC 4470).
+-- It does not exist, and has the types of the wildcard that stands for it (RFC 9824, 3.3). It is not the name that is asked for:
+-- of that the zone says what it says of a wildcard. The record says nothing of other names that the question concerns.
+pub record IsStarred (z : Zone) (q : Name) (l : Link) : Type 0 where
+  pub star : Name
+  pub by : HasStar z (low l.owner) star
+  pub types : ShowsTypes z star l.bits
+  pub named : has_nxname l.bits ≡ false
+  pub other : same l.owner q ≡ false
+  pub silent : IsSilent z q l
+
+-- what an NSEC record says of its owner
+pub data SaysOfOwner (z : Zone) (q : Name) (l : Link) : Type 0 where
+  -- a name of the zone, as its chain has it
+  Own : IsThere z l → has_more l.bits ≡ true → SaysOfOwner z q l
+  Bare : IsBare z q l → SaysOfOwner z q l
+  MadeUp : IsMadeUp z q l → SaysOfOwner z q l
+  Denied : IsDenied z l → SaysOfOwner z q l
+  Starred : IsStarred z q l → SaysOfOwner z q l
+
+-- An NSEC record says truly: of its owner, which lies in the zone, below no delegation and no DNAME, and need not exist; that no
+-- live owner lies between it and its next name; and that what it shows above a name in between exists, if the question concerns
+-- this. Its next name need not be one of the zone (RFC 4470).
 pub record SaysTruly (z : Zone) (q : Name) (l : Link) : Type 0 where
-  pub live : is_live z (low l.owner) ≡ true
+  pub inside : is_live z (low l.owner) ≡ true
   pub direct : is_redirected z (low l.owner) ≡ false
-  pub owner : IsThere z l ⊎ IsDenied z q l
+  pub owner : SaysOfOwner z q l
   pub gap : (w : Name) → Contains (nsec_names z) w → covers z.name l.owner l.next w ≡ false
   pub shown : (p x : Name) → Concerns z q x → covers z.name l.owner l.next x ≡ true → at_or_above p x ≡ true → at_or_above z.name p ≡ true → shows l p ≡ true → exists z (low p) ≡ true
 

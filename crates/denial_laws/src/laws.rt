@@ -2,7 +2,7 @@
 ghost use Rattle.denial_laws.specs.Leading.{OnlyAliasesLead, AliasesLeadToOne};
 ghost use Rattle.denial_laws.specs.Laws.{TrueFactsDecideTruly, ChainsSayTruly, OwnAnswersDecide};
 ghost use Rattle.denial_laws.specs.Laws.{BothChainsSayTheSame, ConcernedAreNames, FewHashes};
-ghost use Rattle.denial_laws.specs.Laws.{OneVerdict};
+ghost use Rattle.denial_laws.specs.Laws.{OneVerdict, BareIsOfTwoTypes};
 
 /// Every question has exactly one verdict: the conditions under which a zone gives one or another
 /// shut each other out, and leave no question over (RFC 1034, 4.3.2; RFC 4592).
@@ -23,6 +23,12 @@ pub fn true_facts_decide_truly()
 /// hashes, and no name of the chain shares its hash with another name that the question concerns.
 pub fn chains_say_truly()
     ensures { ChainsSayTruly }
+{}
+
+/// A record's types are taken for those of an owner that may be made up exactly where they are RRSIG
+/// and NSEC at most (RFC 4470, 3).
+pub fn bare_is_of_two_types()
+    ensures { BareIsOfTwoTypes }
 {}
 
 /// A zone's own answer to a question about a name that is no alias decides its verdict: no CNAME

@@ -6,7 +6,7 @@ use Rattle.definitions.specs.Name.{Name, at_or_above, low, same, strictly_above}
 use Rattle.definitions.specs.Zone.{Verdict, NoType, NoName, StarNoType, Delegated, Open, star_under}
 use Rattle.denial_laws.specs.Deciding.{by_chain, decided}
 use Rattle.denial_laws.specs.Facts.{HashLink, Link}
-use Rattle.denial_laws.specs.NsecRules.{at_name, at_owner, at_star, below_cut, closest, covered, denied, denies, first_some, has_nxname, is_cut, link_covers, or_else, star_lacks}
+use Rattle.denial_laws.specs.NsecRules.{at_name, at_owner, at_star, below_cut, closest, covered, denied, denies, first_some, has_more, has_nxname, is_cut, link_covers, or_else, star_lacks, tells}
 use Rattle.denial_laws.specs.Nsec3Rules.{at_hash, beyond, by_closest_encloser, covers_hash, cut_above, enclosed, encloses, hash_denied, is_at, is_matched, star_at}
 use Rattle.denial_laws.proofs.AtName.{on_true}
 use Rattle.denial_laws.proofs.Found.{either_from, first_from, first_is, left_is, right_is}
@@ -43,7 +43,7 @@ module _ (apex q : Name) (below : strictly_above apex q ≡ true) where
   named bits is = named_by (bitmap_has bits 2) (bitmap_has bits 43) (bitmap_has bits 5) (same q apex) other is
 
   owned : (f : Link) → IsNoType (at_owner apex q 43 f) → SaysOf (at_owner apex q 2 f)
-  owned f is = go (same f.owner q) is
+  owned f is = go (same f.owner q && tells f) is
     where
       go : (b : Bool) → IsNoType (elim b as (λ _. Option Verdict) [ true ↦ at_name apex q 43 f.bits | false ↦ None ]) → SaysOf (elim b as (λ _. Option Verdict) [ true ↦ at_name apex q 2 f.bits | false ↦ None ])
       go true is = named f.bits is
@@ -60,7 +60,7 @@ module _ (apex q : Name) (below : strictly_above apex q ≡ true) where
 
   -- of a wildcard no type is denied but as a wildcard's
   star_unlike : (s : Name) (t : ℕ) (f : Link) → IsNoType (at_star apex s t f) → ⊥
-  star_unlike s t f is = go (same f.owner s) (star_lacks f.bits t && not (has_nxname f.bits)) (link_covers apex f s) (strictly_above s f.next) is
+  star_unlike s t f is = go (same f.owner s) (star_lacks f.bits t && has_more f.bits) (link_covers apex f s) (strictly_above s f.next) is
     where
       go : (a b c d : Bool) → IsNoType (elim a as (λ _. Option Verdict) [
         | true ↦ elim b [ true ↦ Some StarNoType | false ↦ None ]

@@ -21,9 +21,9 @@ pub record HandedRr : Type 0 where
 abbrev pub among : List ℕ → ℕ → Bool
 among ts t = list_any (nat_eq t) ts
 
--- types that no zone holds (RFC 6895, 3.1), and data of NS or SOA that are given as unknown ones
+-- types that no zone holds (RFC 6895, 3.1), numbers of more than 16 bits, and data of NS or SOA that are given as unknown ones
 abbrev pub is_meta : HandedRr → Bool
-is_meta r = (r.rtype == 0) || (r.rtype == 41) || (nat_le 128 r.rtype && nat_le r.rtype 255) || (r.is_unknown && among (2 ∷ 6 ∷ []) r.rtype)
+is_meta r = (r.rtype == 0) || (r.rtype == 41) || (nat_le 128 r.rtype && nat_le r.rtype 255) || nat_le 65536 r.rtype || (r.is_unknown && among (2 ∷ 6 ∷ []) r.rtype)
 
 -- a label is a star
 abbrev pub has_star : Name → Bool

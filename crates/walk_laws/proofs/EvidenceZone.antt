@@ -1,5 +1,5 @@
 -- The zone is in order, and has no delegation.
-use Rattle.std.proofs.Common.{◌≡◌, ℕ, true, false, Bool, cond, ◌&&◌, List, [], ◌∷◌, map, filter, length, get_or, nat_lt, refl, sym, ◌∙◌, inr}
+use Rattle.std.proofs.Common.{◌≡◌, ℕ, true, false, Bool, cond, ◌&&◌, List, [], ◌∷◌, map, filter, length, get_or, nat_lt, refl, sym, ◌∙◌, inr, arith}
 use Rattle.std.specs.Prelude.{◌==◌, Contains}
 use Rattle.std.specs.List.{AllByRecursion, list_any}
 use Rattle.std.proofs.lemmas.Bool.{and_parts, false≢true, leb-true, ltb-true}
@@ -72,6 +72,7 @@ pub orderly : IsOrderlyZone (zone_of zone)
 orderly = record {
   servable = record {
     apex = at_place (map owner_of own_zone.records) example 0 refl refl;
+    typed = (omega arith, (omega arith, tt));
     ordinary = (refl, (refl, tt));
     real = (refl, (refl, tt));
     stars = (refl, (refl, tt));

@@ -1,12 +1,13 @@
 //! What NSEC records prove (RFC 4035, 5.4; RFC 4592; RFC 6840, 4.1 and 4.3).
-ghost use Rattle.std.specs.Prelude.{◌≡◌, ◌&&◌, ◌||◌, not, IfOk};
+ghost use Rattle.std.specs.Prelude.{◌≡◌, ◌&&◌, ◌||◌, not, drop, IfOk};
 ghost use Rattle.std.specs.Option.{option_map};
 ghost use Rattle.definitions.specs.Bitmap.{bitmap_has};
-ghost use Rattle.definitions.specs.Name.{at_or_above, strictly_above};
+ghost use Rattle.definitions.specs.Name.{same, strictly_above};
 ghost use Rattle.definitions.specs.Zone.{star_under};
 ghost use Rattle.definitions.specs.Reference.{verdict_of};
 ghost use Rattle.denial_laws.specs.NsecRules.{first_some, is_cut, lacks, star_lacks, at_name};
-ghost use Rattle.denial_laws.specs.NsecRules.{has_nxname, denies};
+ghost use Rattle.denial_laws.specs.NsecRules.{has_nxname, is_bare, has_more, first_below};
+ghost use Rattle.denial_laws.specs.NsecRules.{tells, shown_owner, shows, denies};
 ghost use Rattle.denial_laws.specs.NsecRules.{at_owner, below_cut, redirects, link_covers, closest};
 ghost use Rattle.denial_laws.specs.NsecRules.{at_star, covered, denied, encloses_at, expanded_by};
 ghost use Rattle.denial_laws.specs.NsecRules.{expanded};
@@ -58,6 +59,35 @@ fn has_nxname(bits: &[u8]) -> bool
     bitmap_has(bits, NXNAME)
 }
 
+/// Whether a bitmap has no types but RRSIG and NSEC.
+fn is_bare(bits: &[u8]) -> bool
+    ensures { result ≡ is_bare bits.now }
+{
+    bits == [0u8; 0].as_slice()
+        || bits == [0u8, 6, 0, 0, 0, 0, 0, 1].as_slice()
+        || bits == [0u8, 6, 0, 0, 0, 0, 0, 2].as_slice()
+        || bits == [0u8, 6, 0, 0, 0, 0, 0, 3].as_slice()
+}
+
+/// Whether a bitmap has the types of a name that exists.
+fn has_more(bits: &[u8]) -> bool
+    ensures { result ≡ has_more bits.now }
+{
+    !is_bare(bits) && !has_nxname(bits)
+}
+
+/// Whether a name is the first of those below another.
+fn is_first_below(name: &[Octets], other: &[Octets]) -> bool
+    ensures { result ≡ same name.now (first_below other.now) }
+{
+    match name.split_first() {
+        None => false,
+        Some((label, parent)) => {
+            label.as_slice().eq_ignore_ascii_case([0u8].as_slice()) && same(parent, other)
+        },
+    }
+}
+
 /// Whether a bitmap has DNAME.
 pub(super) fn has_dname(bits: &[u8]) -> bool
     ensures { result ≡ bitmap_has bits.now 39 }
@@ -95,10 +125,17 @@ impl PlainLink {
         }
     }
 
+    /// Whether the record tells which types its owner has.
+    fn tells(&self) -> bool
+        ensures { result ≡ tells self.now }
+    {
+        has_more(self.bits.as_slice()) || is_first_below(&self.next, &self.owner)
+    }
+
     fn at_owner(&self, apex: &[Octets], name: &[Octets], rtype: u16) -> Option<PlainVerdict>
         ensures { option_map verdict_of result ≡ at_owner apex.now name.now rtype self.now }
     {
-        if same(&self.owner, name) {
+        if same(&self.owner, name) && self.tells() {
             at_name(apex, name, rtype, self.bits.as_slice())
         } else {
             None
@@ -132,12 +169,24 @@ impl PlainLink {
         covers(apex, &self.owner, &self.next, name) && !self.redirects(name)
     }
 
+    /// The name that the owner shows to exist: itself, or where it may be made up, its parent.
+    fn shown_owner(&self) -> &[Octets]
+        ensures { result.now ≡ shown_owner self.now }
+    {
+        if has_more(self.bits.as_slice()) {
+            return &self.owner;
+        }
+        match self.owner.split_first() {
+            None => &self.owner,
+            Some((_, parent)) => parent,
+        }
+    }
+
     /// Whether the owner or the next name shows that an ancestor exists.
     fn shows(&self, ancestor: &[Octets]) -> bool
-        ensures { result ≡ (at_or_above ancestor.now self.now.owner
-            || at_or_above ancestor.now self.now.next) }
+        ensures { result ≡ shows self.now ancestor.now }
     {
-        at_or_above(ancestor, &self.owner) || at_or_above(ancestor, &self.next)
+        at_or_above(ancestor, self.shown_owner()) || at_or_above(ancestor, &self.next)
     }
 
     /// The closest encloser that the record shows.
@@ -157,7 +206,7 @@ impl PlainLink {
     {
         if same(&self.owner, star) {
             let bits = self.bits.as_slice();
-            return if star_lacks(bits, rtype) && !has_nxname(bits) {
+            return if star_lacks(bits, rtype) && has_more(bits) {
                 Some(PlainVerdict::StarNoType)
             } else {
                 None

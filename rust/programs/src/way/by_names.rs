@@ -11,10 +11,27 @@ fn covers(facts: &Facts<'_>, link: &Link, name: &Name) -> bool {
     link.owner < *name && (link.next == *facts.apex || *name < link.next) && !is_redirected
 }
 
-/// The closest encloser of a name that a record covers: the deepest name above it that is at or above the owner or the next name.
+/// Whether a record has no types but RRSIG and NSEC: its owner may be made up (RFC 4470, 3).
+fn is_bare(link: &Link) -> bool {
+    link.types.iter().all(|it| matches!(*it, Rtype::RRSIG | Rtype::NSEC))
+}
+
+/// Whether its types are those of a name that exists.
+fn has_more(link: &Link) -> bool {
+    !is_bare(link) && !link.types.contains(&Rtype::NXNAME)
+}
+
+/// Whether the next name is the first below the owner, as an empty non-terminal's is (RFC 9824, 3.2).
+fn leads_first(link: &Link) -> bool {
+    link.next.labels().next() == Some(&b"\0"[..]) && link.next.parent().as_ref() == Some(&link.owner)
+}
+
+/// The closest encloser of a name that a record covers: the deepest name above it that is at or above the owner or the next name;
+/// or above the owner, where this may be made up.
 fn encloser_of(link: &Link, name: &Name) -> Name {
     let mut above = name.parent().unwrap_or_else(Name::root);
-    while !link.owner.is_at_or_below(&above) && !link.next.is_at_or_below(&above) {
+    let owner = link.owner.parent().filter(|_| !has_more(link)).unwrap_or_else(|| link.owner.clone());
+    while !owner.is_at_or_below(&above) && !link.next.is_at_or_below(&above) {
         match above.parent() {
             Some(it) => above = it,
             None => break,
@@ -35,13 +52,19 @@ fn enclosed(encloser: &Name) -> String {
     format!("its closest encloser is {encloser}")
 }
 
+/// Of a record at the name itself, where this may be made up.
+fn made_up(facts: &Facts<'_>, link: &Link) -> Option<Vec<String>> {
+    (link.owner == *facts.name).then(|| vec![format!("the NSEC record of {} has no types but RRSIG and NSEC: the name may be made up", link.owner)])
+}
+
 fn types_of(link: &Link) -> String {
     format!("the types of its NSEC record are {}", text::joined(&link.types, ", "))
 }
 
-/// Of a record at the name itself.
+/// Of a record at the name itself, unless this may be made up.
 fn at_owner(facts: &Facts<'_>, link: &Link) -> Option<Vec<String>> {
-    (link.owner == *facts.name).then(|| {
+    let tells = has_more(link) || leads_first(link) || link.types.contains(&Rtype::NXNAME);
+    (link.owner == *facts.name && tells).then(|| {
         vec![if link.types.contains(&Rtype::NXNAME) {
             format!("{} does not exist: its NSEC record lists NXNAME", facts.name)
         } else if facts.is_cut(&link.types, facts.name) && facts.rtype != Rtype::DS {
@@ -61,7 +84,7 @@ fn below_cut(facts: &Facts<'_>, link: &Link) -> Option<Vec<String>> {
 /// Of the wildcard that would stand for the name.
 fn at_wildcard(facts: &Facts<'_>, wildcard: &Name) -> Option<String> {
     facts.links.iter().find_map(|link| {
-        if link.owner == *wildcard && !link.types.contains(&Rtype::NXNAME) {
+        if link.owner == *wildcard && has_more(link) {
             Some(facts.types_told("NSEC", wildcard, &link.types))
         } else if covers(facts, link, wildcard) {
             Some(if link.next.is_below(wildcard) { led_below(link, wildcard) } else { covered(link, wildcard) })
@@ -90,7 +113,7 @@ type Telling = fn(&Facts<'_>, &Link) -> Option<Vec<String>>;
 
 /// Tells what NSEC records say of the question.
 pub fn tell(facts: &Facts<'_>, because: &mut Vec<String>) {
-    let ways: [Telling; 3] = [at_owner, below_cut, at_gap];
+    let ways: [Telling; 4] = [at_owner, below_cut, at_gap, made_up];
     let told = ways.iter().find_map(|tell| facts.links.iter().find_map(|link| tell(facts, link)));
     because.extend(told.into_iter().flatten());
 }

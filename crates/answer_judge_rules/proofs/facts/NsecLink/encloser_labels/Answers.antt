@@ -6,7 +6,7 @@ use Rattle.answer_judge_rules.proofs.facts.NsecLink.encloser_labels.Goals as goa
 pub returns : goal.returns
 returns c =
     let p = c.in_ok-parent.parent in
-    parent_labels c.args.self.now c.args.name.now p c.shared_labels-labels.result c.shared_labels.result c.max.result c.in_ok-parent.ensures.root c.in_ok-parent.ensures.value
-    (c.shared_labels-labels.ensures ∙ ap (λ f. shared p f.owner) c.self.view_is)
+    parent_labels c.args.self.now c.args.name.now p c.owner_labels-labels.result c.shared_labels.result c.max.result c.in_ok-parent.ensures.root c.in_ok-parent.ensures.value
+    c.owner_labels-labels.ensures
     (c.shared_labels.ensures ∙ ap (shared p) c.next.ensures)
     (search rules)
