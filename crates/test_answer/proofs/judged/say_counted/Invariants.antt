@@ -1,4 +1,4 @@
-use Rattle.test_answer.proofs.judged.counted.Given as goal
+use Rattle.test_answer.proofs.judged.say_counted.Given as goal
 
 abbrev pub ghosts-by_checks-L-Ledger : goal.ghosts-by_checks-L-Ledger
 ghosts-by_checks-L-Ledger a = record { name = a.first.name; parts = a.first.parts }
