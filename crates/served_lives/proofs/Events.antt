@@ -135,8 +135,7 @@ taken w st t s u m gathered (line.Replacement at) applied.Replaced h =
     let f = h.2 in
     let accepted : IsAccepted w.answers.hash st.zone.apex st.zone.mode st.zone.limit st.gathered =
     plain_lists_accepted w.answers.hash st.zone.apex st.zone.mode st.zone.limit st.gathered f.2 h.1.1 in
-    let r = by_replacement w st t s u m h.3 at gathered h.0 f.1 accepted f.3 in
-    (
+    let r = by_replacement w st t s u m h.3 at gathered h.0 f.1 accepted f.3 in (
       outcome.Replaced (Ok tt) ∷ [],
       (u, (h.1.0, r.0, r.1, r.2), refl),
       r.3,
@@ -232,7 +231,7 @@ elsewhere w st t s u m e o h =
         keys_are = ap (λ (x : State). x.keys) h.2 ∙ m.keys_are ∙ sym kept.1;
       },
       λ p f k b. let same = elsewhere_parts p e.at e.act o h.0 in
-      (k, (ap (λ (x : Parting). x.since) same ∙ f ∙ sym (ap (λ (x : State). x.closed) h.2), ap (λ (x : Parting). x.kept) same ∙ k)),
+          (k, (ap (λ (x : Parting). x.since) same ∙ f ∙ sym (ap (λ (x : State). x.closed) h.2), ap (λ (x : Parting). x.kept) same ∙ k)),
     )
 
 pub happening_is_events : (w : World) (st t : State) (s u : Sofar) (h : Happening) → Mirrors w st s → Happens w st s h t u → IsEvents w st s h t u

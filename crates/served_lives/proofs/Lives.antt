@@ -28,11 +28,11 @@ life_simulates : (w : World) (st t : State) (s u : Sofar) (hs : List Happening) 
     → (os : List Outcome) × Simulates w s (flat_map events_of hs) os u × Mirrors w t u
     × (AnswersLieBehind w st s hs t u l → (p : Parting) → p.since ≡ st.closed → p.kept ≡ true → PartsInto p (flat_map events_of hs) os t.closed)
 life_simulates w st t s u [] m l = (
-      [],
-      l.1,
-      subst (λ (x : Sofar). Mirrors w t x) (sym l.1) (subst (λ (x : State). Mirrors w x s) (sym l.0) m),
-      λ b p e k. (e ∙ sym (ap (λ (x : State). x.closed) l.0), k),
-    )
+  [],
+  l.1,
+  subst (λ (x : Sofar). Mirrors w t x) (sym l.1) (subst (λ (x : State). Mirrors w x s) (sym l.0) m),
+  λ b p e k. (e ∙ sym (ap (λ (x : State). x.closed) l.0), k),
+)
 life_simulates w st t s u (h ∷ hs) m l =
     let first = happening_is_events w st l.0 s l.1 h m l.2 in
     let rest = life_simulates w l.0 t l.1 u hs first.2 l.3 in (
