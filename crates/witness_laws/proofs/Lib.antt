@@ -8,3 +8,6 @@ pub mod Lookup
 pub mod Apart
 pub mod OfTree
 pub mod Tree
+pub mod Judging
+pub mod Judged
+pub mod Told

@@ -3,6 +3,7 @@ use Rattle.std.specs.Prelude.{ℕ, true, List, [], ◌∷◌}
 use Rattle.definitions.specs.Dnskey.{dnskey_data}
 use Rattle.definitions.specs.Name.{Name, wire}
 use Rattle.messages.specs.Message.{Asked}
+use Rattle.answer_judge_facts.specs.declared.validity.Validity.{Validity}
 use Rattle.answer_judge_table.specs.Table.{Checked}
 use Rattle.evidence_laws.specs.Given.{Given, Message}
 use Rattle.witness_laws.specs.Signed.{alias, child_ds_set, child_keys, early, hashed_p, hashed_s, last_link, late, parent_keys, passing, redirect, response, rr, rrsig, wildcard}
@@ -90,3 +91,7 @@ evidence = record {
   limit = 0;
   one_moment = true;
 }
+
+-- How long what it tells lasts: the TTL, and the seconds up to the last one of the signatures that end first.
+abbrev pub validity : Validity
+validity = record { ttl = 3600; seconds = 500 }
