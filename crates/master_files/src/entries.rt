@@ -2,14 +2,8 @@
 //! 5.1).
 
 use crate::fault::{EntryFault, ZoneFileError};
+use master_file_data::field::Field;
 use std::alloc::{AllocError, Global};
-
-/// A field, with its escapes as they are written.
-#[derive(Debug, Drop)]
-pub(crate) struct Field {
-    pub(crate) text: String,
-    pub(crate) is_quoted: bool,
-}
 
 /// The fields of an entry.
 #[derive(Debug, Drop)]
@@ -41,6 +35,8 @@ struct Reader {
     /// The octet behind a backslash.
     is_escaped: bool,
     is_open: bool,
+    /// Whether the field began behind another without a blank.
+    is_joined: bool,
     field: Vec<u8>,
     entry: Entry,
     entries: Vec<Entry>,
@@ -70,12 +66,13 @@ impl Reader {
         let Ok(text) = str::from_utf8(&octets) else {
             return self.fault(EntryFault::NotText);
         };
-        let text = String::from_str(self.alloc, text)?;
-        self.entry
-            .fields
-            .push(Field { text, is_quoted })
-            .map_err(AllocError::from)?;
-        self.place = Place::Between;
+        let field = Field {
+            text: String::from_str(self.alloc, text)?,
+            is_quoted,
+            is_joined: self.is_joined,
+        };
+        self.entry.fields.push(field).map_err(AllocError::from)?;
+        (self.place, self.is_joined) = (Place::Between, false);
         Ok(())
     }
 
@@ -148,8 +145,9 @@ impl Reader {
                 Ok(())
             }
             b'"' => {
+                let is_joined = self.place == Place::InField;
                 self.end_field(false)?;
-                self.place = Place::Quoted;
+                (self.place, self.is_joined) = (Place::Quoted, is_joined);
                 Ok(())
             }
             _ => self.read_plain(octet),
@@ -179,6 +177,7 @@ pub(crate) fn read_entries(alloc: Global, text: &[u8]) -> Result<Vec<Entry>, Zon
         place: Place::Start,
         is_escaped: false,
         is_open: false,
+        is_joined: false,
         field: Vec::new(alloc),
         entry,
         entries: Vec::new(alloc),

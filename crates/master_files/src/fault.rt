@@ -1,5 +1,7 @@
 //! Why a master file is not read.
 
+use master_file_data::fault::DataFault;
+use master_file_data::type_text::TypeText;
 use std::alloc::AllocError;
 use thiserror::Error;
 
@@ -31,40 +33,44 @@ pub enum EntryFault {
     Directive,
     #[error("no owner to repeat: `www 3600 IN A 192.0.2.1`")]
     NoOwner,
-    #[error("not a name: labels with dots between, at most 63 octets each and 255 in all: `www.example.`")]
-    Name,
-    #[error("a relative name or @ without an origin: `$ORIGIN example.`")]
-    NoOrigin,
+    #[error("{0}")]
+    Name(DataFault),
     #[error("no TTL, neither here nor by $TTL nor of a record before: `$TTL 3600`")]
     NoTtl,
     #[error("only class IN is read: `www 3600 IN A 192.0.2.1`")]
     Class,
-    #[error("no type that is read: A, NS, CNAME, SOA, PTR, MX, TXT, AAAA, SRV, DNAME, DS, CAA, or any with \\#: `a TYPE65280 \\# 1 00`")]
+    #[error("no type: `www 3600 IN A 192.0.2.1`, or `a TYPE65280 \\# 1 00`")]
     Type,
-    #[error("not the data of an A record: `192.0.2.1`")]
-    A,
-    #[error("not the data of an AAAA record: `2001:db8::1`")]
-    Aaaa,
-    #[error("not the data of an NS record: `ns.example.`")]
-    Ns,
-    #[error("not the data of a CNAME, DNAME or PTR record: `www.example.`")]
-    Alias,
-    #[error("not the data of an SOA record: `ns.example. host.example. 1 3600 900 86400 3600`")]
-    Soa,
+    #[error("data of {rtype}: {fault}")]
+    Data { rtype: TypeText, fault: DataFault },
     #[error("an SOA record of another zone than the one whose records these are to be")]
     OtherZone,
-    #[error("not the data of an MX record: `10 mail.example.`")]
-    Mx,
-    #[error("not the data of a TXT record, texts of at most 255 octets: `\"v=spf1 -all\"`")]
-    Txt,
-    #[error("not the data of an SRV record: `0 5 5060 sip.example.`")]
-    Srv,
-    #[error("not the data of a DS record: `1054 13 2 02e7960879619c62b84e1052a129f30d`")]
-    Ds,
-    #[error("not the data of a CAA record: `0 issue \"ca.example\"`")]
-    Caa,
-    #[error("not octets: their number and as many pairs of hexadecimal digits: `\\# 4 c0000201`")]
-    Octets,
+    #[error("an owner that is not the zone's name, nor below it")]
+    Outside,
+    #[error("signing adds records of this type: leave RRSIG, NSEC, DNSKEY, NSEC3 and NSEC3PARAM out")]
+    SignedType,
+    #[error("no zone holds records of this type")]
+    MetaType,
+    #[error("an SOA record below the zone's name")]
+    SoaBelowApex,
+    #[error("two SOA records")]
+    TwoSoa,
+    #[error("a DS record at the zone's name: it belongs in the zone above")]
+    DsAtApex,
+    #[error("no NS record at the zone's name: `@ 3600 IN NS ns`")]
+    NoServer,
+    #[error("an NS or DNAME record at a wildcard name")]
+    Star,
+    #[error("another record beside a CNAME record")]
+    BesideCname,
+    #[error("two DNAME records at one name")]
+    TwoDname,
+    #[error("a DNAME record at a delegation")]
+    DnameAtCut,
+    #[error("a record below a DNAME record")]
+    BelowDname,
+    #[error("records of one name and type with two TTLs")]
+    TwoTtls,
     #[error("out of memory")]
     Memory,
 }

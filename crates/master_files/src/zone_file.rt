@@ -6,15 +6,18 @@ ghost use Rattle.definitions.specs.Text.{is_printable};
 ghost use Rattle.master_files.specs.Reading.{AreZoneLines, HasRead, IsWanted, NotesApex, ReadsOn};
 ghost use Rattle.master_files.specs.Reading.{given_name, read_of};
 
-use crate::data::octets_of;
-use crate::entries::{Entry, Field, read_entries};
+use crate::checks::{Noted, first_fault};
+use crate::entries::{Entry, read_entries};
 pub use crate::fault::{EntryFault, ZoneFileError};
-use crate::fields::{name_from, name_of, seconds_of};
 use crate::lines::{push_head, push_record};
-use crate::type_text::type_of;
+use master_file_data::data::octets_of;
+use master_file_data::fault::DataFault;
+use master_file_data::field::{Field, name_from, name_of};
+use master_file_data::decimals::seconds_of;
+use master_file_data::type_text::{TypeText, type_of};
 use messages::names::{Name, ToName};
 use names_rdata::rtype::Rtype;
-use std::alloc::Global;
+use std::alloc::{AllocError, Global};
 
 /// What a master file is read for: texts, each of which may be empty.
 #[derive(Clone, Copy, Debug, Drop)]
@@ -45,16 +48,21 @@ struct Zone {
     apex: Option<Name<Vec<u8>>>,
     /// The lines of the records.
     lines: String,
+    /// The line that is read.
+    line: usize,
+    /// The records.
+    noted: Vec<Noted>,
 }
 
 /// The lines of a zone for a master file: those of its records, behind that of the zone if a chain
 /// is given.
 ///
-/// What is read of the files of RFC 1035, 5 and RFC 2308, 4: owners, TTLs, class IN, the types A,
-/// NS, CNAME, SOA, PTR, MX, TXT, AAAA, SRV, DNAME, DS and CAA, others with data as octets (RFC
-/// 3597, 5), `$ORIGIN`, `$TTL`, `@`, relative names, parentheses, quotes and comments. TTLs and
-/// times of SOA records may have units. Names in data, but for NS and SOA records, are written in
-/// lower case, in which they are signed (RFC 4034, 6.2). All else is refused with its line.
+/// What is read of the files of RFC 1035, 5 and RFC 2308, 4: owners, TTLs, class IN, data in the
+/// text forms of their types (`master_file_data`) or as octets (RFC 3597, 5), `$ORIGIN`, `$TTL`,
+/// `@`, relative names, parentheses, quotes and comments. TTLs and times of SOA records may have
+/// units. Names in data, but for NS and SOA records and the types that came later, are written in
+/// lower case, in which they are signed (RFC 4034, 6.2). All else is refused with its line, as are
+/// records that no zone holds together.
 pub fn session_lines(alloc: Global, text: &[u8], reading: &Reading) -> Result<String, ZoneFileError>
     ensures { let are = AreZoneLines reading.now.chain.now reading.now.apex.now in
         IfOk result (λ lines. are (string_bytes lines)) }
@@ -70,10 +78,19 @@ pub fn session_lines(alloc: Global, text: &[u8], reading: &Reading) -> Result<St
     let Some(apex) = &zone.apex else {
         return Err(ZoneFileError::NoSoa);
     };
+    check(alloc, apex, &zone.noted)?;
     let mut lines = String::new(alloc);
     push_head(&mut lines, apex, chain)?;
     lines.push_str(&zone.lines)?;
     Ok(lines)
+}
+
+/// Whether the records are a zone's, as far as that is seen here.
+fn check(alloc: Global, apex: &Name<Vec<u8>>, records: &[Noted]) -> Result<(), ZoneFileError> {
+    match first_fault(alloc, apex, records)? {
+        Some(found) => Err(of_line(found.line, found.fault)),
+        None => Ok(()),
+    }
 }
 
 /// The words of a chain: they are a part of a line.
@@ -120,7 +137,7 @@ fn given_name(
     };
     match name_from(alloc, text) {
         Ok(name) => Ok(Some(name)),
-        Err(EntryFault::Memory) => Err(ZoneFileError::Memory),
+        Err(DataFault::Memory) => Err(ZoneFileError::Memory),
         Err(_) => Err(fault),
     }
 }
@@ -146,7 +163,30 @@ impl Zone {
             last_ttl: None,
             apex: None,
             lines: String::new(alloc),
+            line: 0,
+            noted: Vec::new(alloc),
         })
+    }
+
+    /// The name of an owner or an origin.
+    fn name_of(&self, field: &Field) -> Result<Name<Vec<u8>>, EntryFault> {
+        match name_of(self.alloc, field, self.origin.as_ref()) {
+            Ok(name) => Ok(name),
+            Err(DataFault::Memory) => Err(EntryFault::Memory),
+            Err(fault) => Err(EntryFault::Name(fault)),
+        }
+    }
+
+    /// The octets of data.
+    fn octets_of(&self, rtype: Rtype, fields: &[Field]) -> Result<Vec<u8>, EntryFault> {
+        match octets_of(self.alloc, rtype, fields, self.origin.as_ref()) {
+            Ok(octets) => Ok(octets),
+            Err(DataFault::Memory) => Err(EntryFault::Memory),
+            Err(fault) => {
+                let rtype = TypeText(rtype);
+                Err(EntryFault::Data { rtype, fault })
+            }
+        }
     }
 
     /// Reads a directive or a record.
@@ -157,13 +197,14 @@ impl Zone {
         let [first, others @ ..] = fields else {
             return Ok(());
         };
+        self.line = entry.line;
         if entry.is_indented {
             return self.read_record(fields);
         }
         if first.text.starts_with("$") && !first.is_quoted {
             return self.read_directive(first, others);
         }
-        self.owner = Some(name_of(self.alloc, first, self.origin.as_ref())?);
+        self.owner = Some(self.name_of(first)?);
         self.read_record(others)
     }
 
@@ -175,7 +216,7 @@ impl Zone {
             return Err(EntryFault::Directive);
         };
         if word.text.eq_ignore_ascii_case("$ORIGIN") {
-            self.origin = Some(name_of(self.alloc, value, self.origin.as_ref())?);
+            self.origin = Some(self.name_of(value)?);
             return Ok(());
         }
         if !word.text.eq_ignore_ascii_case("$TTL") {
@@ -205,8 +246,9 @@ impl Zone {
             return Err(EntryFault::Type);
         };
         let rtype = type_of(&word.text).ok_or(EntryFault::Type)?;
-        let octets = octets_of(self.alloc, rtype, data, self.origin.as_ref())?;
+        let octets = self.octets_of(rtype, data)?;
         let ttl = self.ttl_of(ttl)?;
+        self.note(rtype, ttl, &octets)?;
         self.add(rtype, ttl, &octets)
     }
 
@@ -221,6 +263,24 @@ impl Zone {
         said.or(self.default_ttl)
             .or(self.last_ttl)
             .ok_or(EntryFault::NoTtl)
+    }
+
+    /// Notes a record for the checks behind the last.
+    fn note(&mut self, rtype: Rtype, ttl: u32, octets: &[u8]) -> Result<(), EntryFault>
+        ensures { read_of self.new ≡ read_of self.old }
+    {
+        let Some(owner) = &self.owner else {
+            return Err(EntryFault::NoOwner);
+        };
+        let noted = Noted {
+            line: self.line,
+            owner: owner.to_vec(self.alloc).map_err(|_| EntryFault::Memory)?,
+            ttl,
+            rtype,
+            octets: Vec::from_slice(self.alloc, octets)?,
+        };
+        self.noted.push(noted).map_err(AllocError::from)?;
+        Ok(())
     }
 
     /// Adds the line of a record.

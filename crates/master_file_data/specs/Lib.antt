@@ -1,0 +1,5 @@
+pub mod Decimals
+pub mod Fields
+pub mod Layouts
+pub mod Parts
+pub mod Text
