@@ -122,11 +122,7 @@ fn is_cut(apex: &Name<Vec<u8>>, record: &Noted) -> bool {
 }
 
 /// Why a record may not stand behind the one before it in order, where the last cut is.
-fn fault_behind(
-    before: Option<&Noted>,
-    record: &Noted,
-    cut: Option<&Noted>,
-) -> Option<EntryFault> {
+fn fault_behind(before: Option<&Noted>, record: &Noted, cut: Option<&Noted>) -> Option<EntryFault> {
     if let Some(cut) = cut {
         let is_dname = cut.rtype == Rtype::DNAME;
         if is_dname && is_above(&cut.owner, &record.owner) {
