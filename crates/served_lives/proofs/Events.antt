@@ -1,7 +1,7 @@
 -- Each thing that happens to a served zone is an event of a simulation, or none.
-use Rattle.std.proofs.Common.{◌≡◌, ℕ, true, false, ◌&&◌, List, [], ◌∷◌, ◌++◌, map, length, Option, Some, None, refl, sym, ap, subst, ◌∙◌, arith}
+use Rattle.std.proofs.Common.{◌≡◌, ℕ, true, false, ◌&&◌, List, [], ◌∷◌, map, length, Option, Some, None, refl, sym, ap, subst, ◌∙◌, arith}
 use Rattle.std.proofs.lemmas.Bool.{leb-false, le-leb}
-use Rattle.std.specs.Prelude.{Ok, Err}
+use Rattle.std.specs.Prelude.{Ok}
 use Rattle.std.specs.Global.{Vec}
 use Rattle.std.specs.List.{AllByRecursion}
 use Rattle.definitions.specs.Name.{Name}
@@ -29,8 +29,7 @@ use Rattle.answer_laws.specs.Versions.{Parting, is_behind, parting_with}
 use Rattle.keyset_rolls.specs.declared.rolls.Action.{Action}
 use Rattle.server_signatures.specs.Outcomes.{signed_by}
 use Rattle.server_answers.specs.Responding.{Serving}
-use Rattle.server_zone.specs.StateLines.{line_view}
-use Rattle.server_zone.specs.States.{Follows, State, called, replaced}
+use Rattle.server_zone.specs.States.{State, called, replaced}
 use Rattle.server_zone.specs.declared.line.Line.{Line}
 use Rattle.server_zone.specs.declared.line.Line.TheVariants as line
 use Rattle.server_zone.specs.declared.open_zone.Applied.{Applied}

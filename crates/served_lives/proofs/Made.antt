@@ -1,5 +1,5 @@
 -- What a server's contracts say, as what happens in a life.
-use Rattle.std.proofs.Common.{◌≡◌, ℕ, Bool, true, false, ◌&&◌, ◌||◌, List, [], ◌∷◌, Option, None, refl, sym, ap, subst, ◌∙◌, inl, inr}
+use Rattle.std.proofs.Common.{◌≡◌, ℕ, Bool, true, false, ◌&&◌, ◌||◌, List, [], ◌∷◌, refl, sym, ap, subst, ◌∙◌, inl, inr}
 use Rattle.std.specs.Prelude.{MatchBool, ◌==◌}
 use Rattle.std.proofs.lemmas.Bool.{or_cases, false≢true}
 use Rattle.definitions.specs.Name.{Name, at_or_above}
@@ -7,7 +7,6 @@ use Rattle.messages.specs.HandedRr.{among}
 use Rattle.messages.specs.Message.{Asked}
 use Rattle.answer_terms.specs.Asking.{asks_alias, is_allowed}
 use Rattle.answer_publisher_keys.specs.Bindings.{ZoneKeys}
-use Rattle.server_queries.specs.Queries.{Queried}
 use Rattle.server_responses.specs.Responses.{is_dnssec_ok}
 use Rattle.server_signatures.specs.Outcomes.{AnswersEach}
 use Rattle.server_answers.specs.Aliases.{for_type, is_answered}

@@ -1,5 +1,5 @@
 -- The life of a served zone, as events of a simulation.
-use Rattle.std.specs.Prelude.{◌≡◌, ℕ, true, false, List, [], ◌∷◌, ◌++◌, map, Option, None, Ok}
+use Rattle.std.specs.Prelude.{◌≡◌, ℕ, true, false, List, [], ◌∷◌, ◌++◌, map, Option, None}
 use Rattle.std.specs.List.{flat_map, list_any}
 use Rattle.std.specs.Global.{Vec}
 use Rattle.definitions.specs.Name.{Name}
@@ -18,7 +18,6 @@ use Rattle.answer_publisher_keys.specs.Bindings.{no_keys}
 use Rattle.answer_publisher.specs.Replacing.{is_too_soon, noted}
 use Rattle.answer_publisher.specs.World.{World}
 use Rattle.answer_outcomes.specs.declared.outcome.Outcome.{Outcome}
-use Rattle.answer_outcomes.specs.declared.outcome.Outcome.TheVariants as outcome
 use Rattle.answer_laws.specs.Simulating.{OfKeys, OfZone, Simulates, Sofar, StepOf, begin, now_in}
 use Rattle.answer_laws.specs.Simulations.{IsSimulation, IsZoneOf}
 use Rattle.answer_laws.specs.Versions.{Parting, no_parting, parting_with}
@@ -30,7 +29,6 @@ use Rattle.server_zone.specs.States.{Follows, State}
 use Rattle.server_zone.specs.declared.line.Line.{Line}
 use Rattle.server_zone.specs.declared.line.Line.TheVariants as line
 use Rattle.server_zone.specs.declared.open_zone.Applied.{Applied}
-use Rattle.server_zone.specs.declared.open_zone.Applied.TheVariants as applied
 
 -- records as they are handed in
 abbrev pub Records : Type 0

@@ -1,5 +1,5 @@
 -- What a server's contracts say, as what happens in a life.
-use Rattle.std.specs.Prelude.{◌≡◌, ℕ, Bool, true, false, List, [], ◌∷◌, Option, None}
+use Rattle.std.specs.Prelude.{◌≡◌, ℕ, true, false, List, [], ◌∷◌, Option, None}
 use Rattle.std.specs.List.{list_any}
 use Rattle.definitions.specs.Name.{Name}
 use Rattle.definitions.specs.ZoneChain.{Mode}
