@@ -18,5 +18,6 @@ pub mod GivenAliases
 pub mod Ahead
 pub mod OwnLow
 pub mod GivenAliased
+pub mod ShownCase
 pub mod HeldRecords
 pub mod Held

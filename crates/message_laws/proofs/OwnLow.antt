@@ -30,7 +30,7 @@ module _ (z : Zone) (p q : Name) (e : low p ≡ low q) where
   star_low Open = refl
   star_low Unsigned = refl
 
-  rrset_low : (t : ℕ) (v : Verdict) → own_rrset z p t v ≡ own_rrset z q t v
+  pub rrset_low : (t : ℕ) (v : Verdict) → own_rrset z p t v ≡ own_rrset z q t v
   rrset_low t (Records ds) = ap (λ (n : ℕ). Some (record { datas = ds; labels = n })) (label_count-owner p q e)
   rrset_low t (StarRecords ds) = star_low (StarRecords ds)
   rrset_low t NoType = refl

@@ -1,5 +1,6 @@
 -- What a judge says of messages that show a zone's answer.
 use Rattle.std.specs.Prelude.{◌≡◌, ◌⊎◌, ℕ, ◌<◌, true, false, ◌==◌, List, Some, Ok}
+use Rattle.definitions.specs.Name.{IsName, Name, low}
 use Rattle.definitions.specs.Zone.{verdict}
 use Rattle.definitions.specs.ZoneChain.{Mode, optout_of}
 use Rattle.denial_laws.specs.Aliases.{is_aliased}
@@ -47,3 +48,13 @@ AlikeShowsAlike =
     → (in_place (zone_of h.apex rs) h.asked ≡ h.asked)
     ⊎ ((q : Asked) → alias_hint k (record h { dnskey_bytes = other_keys; answer_bytes = other }) ≡ Some q → alias_hint k (record h { dnskey_bytes = key_octets; answer_bytes = octets }) ≡ Some q)
     → IsShown a k (record h { dnskey_bytes = other_keys; answer_bytes = other }) mode rs → IsShown a k (record h { dnskey_bytes = key_octets; answer_bytes = octets }) mode rs
+
+-- the same, asked for a name as it is spelled
+abbrev pub named : JudgeInput → Name → JudgeInput
+named h name = record h { asked = record h.asked { name = name } }
+
+-- In which case the question's name is spelled means nothing to what is shown.
+abbrev pub ShownInAnyCase : Type 0
+ShownInAnyCase =
+    (a : Answers) (k : ℕ) (h : JudgeInput) (mode : Mode) (rs : List HandedRr) (name : Name) → low h.asked.name ≡ low name → IsName name
+    → IsShown a k h mode rs → IsShown a k (named h name) mode rs

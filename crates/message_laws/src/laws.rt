@@ -1,7 +1,7 @@
 //! Laws of messages that show what a zone answers.
 ghost use Rattle.message_laws.specs.Held.{HeldIsIncluded};
 ghost use Rattle.message_laws.specs.Laws.{AlikeShowsAlike, GivenIsShown};
-ghost use Rattle.message_laws.specs.Laws.{GivenWithAliasesIsShown, ShownIsSaid};
+ghost use Rattle.message_laws.specs.Laws.{GivenWithAliasesIsShown, ShownInAnyCase, ShownIsSaid};
 
 /// A judge says a zone's verdict of messages that show its keys and its answer, of a name that is
 /// no alias for the type, whatever else the messages hold.
@@ -38,4 +38,9 @@ pub fn what_is_given_is_shown()
 /// messages of a zone's publisher, in any place, and other questions.
 pub fn alike_shows_alike()
     ensures { AlikeShowsAlike }
+{}
+
+/// A message shows the same of a question whose name is spelled in another case (RFC 4343, 3).
+pub fn case_means_nothing()
+    ensures { ShownInAnyCase }
 {}
