@@ -162,6 +162,18 @@ impl End {
         matches!(self.outcome, Outcome::Insecure { .. } | Outcome::OptOut { .. })
     }
 
+    /// After a refusal the message to ask another server for, and to hand in by [`Walk::replace`].
+    #[must_use]
+    pub fn to_replace(&self) -> Option<Wanted> {
+        match &self.outcome {
+            Outcome::NothingTold { answer } => Some(answer.clone()),
+            Outcome::Refused { refusal: Refusal::QuestionNotAllowed, .. } => None,
+            Outcome::Refused { refusal, answer: Some(answer) } if refusal.is_of_keys() => Some(Wanted::keys_of(answer.zone.clone())),
+            Outcome::Refused { answer, .. } => answer.clone(),
+            _ => None,
+        }
+    }
+
     fn read(replied: &Replied) -> Option<Self> {
         let mut rest = replied.octets();
         let aliases = if rest.is_empty() { Vec::new() } else { aliases(&mut rest)? };

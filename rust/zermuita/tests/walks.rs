@@ -159,9 +159,12 @@ fn a_message_is_replaced() {
     let end = loop {
         match walk.advance(&Ecdsa).unwrap() {
             Progress::Wants(wanted) => wanted.iter().for_each(|it| walk.put(it, &tree.messages[it])),
-            Progress::Ended(end) => match end.outcome {
-                Outcome::Refused { refusal: Refusal::BadDnskeyMessage, .. } => walk.replace(&keys, &tree.messages[&keys]),
-                _ => break end,
+            Progress::Ended(end) => match end.to_replace() {
+                Some(refused) => {
+                    assert_eq!((refused, end.reply), (keys.clone(), Refusal::BadDnskeyMessage.reply()));
+                    walk.replace(&keys, &tree.messages[&keys]);
+                }
+                None => break end,
             },
         }
     };

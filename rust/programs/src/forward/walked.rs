@@ -4,7 +4,7 @@ use std::collections::HashMap;
 use std::net::SocketAddr;
 use std::sync::Arc;
 
-use zermuita::{End, Limits, Outcome, Progress, Question, Refusal, Walk, WalkError, Wanted};
+use zermuita::{End, Limits, Progress, Question, Walk, WalkError, Wanted};
 
 use super::fetch::Fetched;
 use super::metrics::Count;
@@ -37,17 +37,6 @@ pub enum NotWalked {
     TooMany,
     #[error(transparent)]
     Walk(#[from] WalkError),
-}
-
-/// The message to ask another server for, after a refusal (docs/use/RESOLVING.md).
-pub fn to_replace(end: &End) -> Option<Wanted> {
-    match &end.outcome {
-        Outcome::NothingTold { answer } => Some(answer.clone()),
-        Outcome::Refused { refusal: Refusal::QuestionNotAllowed, .. } => None,
-        Outcome::Refused { refusal, answer: Some(answer) } if refusal.is_of_keys() => Some(Wanted::keys_of(answer.zone.clone())),
-        Outcome::Refused { answer, .. } => answer.clone(),
-        _ => None,
-    }
 }
 
 impl Walked {
@@ -95,7 +84,7 @@ impl Resolver {
         tried: &mut HashMap<Wanted, Tried>,
         budget: &mut Budget,
     ) -> Option<(Wanted, Arc<Fetched>)> {
-        let wanted = to_replace(end)?;
+        let wanted = end.to_replace()?;
         let old = sources.get(&wanted)?;
         let tried = tried.entry(wanted.clone()).or_default();
         tried.times += 1;

@@ -12,7 +12,7 @@ mod text;
 use std::collections::HashMap;
 
 use zermuita::crypto::OpenSsl;
-use zermuita::{End, Outcome, Progress, Refusal, Walk, WalkError, Wanted};
+use zermuita::{End, Progress, Walk, WalkError, Wanted};
 
 pub use course::Source;
 pub use said::Said;
@@ -36,17 +36,6 @@ pub struct Traced {
     pub end: Option<End>,
 }
 
-/// The message to ask another server for, after a refusal (docs/use/RESOLVING.md).
-fn to_replace(end: &End) -> Option<Wanted> {
-    match &end.outcome {
-        Outcome::NothingTold { answer } => Some(answer.clone()),
-        Outcome::Refused { refusal: Refusal::QuestionNotAllowed, .. } => None,
-        Outcome::Refused { refusal, answer: Some(answer) } if refusal.is_of_keys() => Some(Wanted::keys_of(answer.zone.clone())),
-        Outcome::Refused { answer, .. } => answer.clone(),
-        _ => None,
-    }
-}
-
 impl Traced {
     fn put(&mut self, wanted: &Wanted, message: &[u8], source: Source) {
         self.walk.replace(wanted, message);
@@ -55,7 +44,7 @@ impl Traced {
 
     /// Asks another server of the zone for what is refused. False where there is none.
     async fn asked_elsewhere(&mut self, servers: &Servers, end: End) -> bool {
-        let wanted = match to_replace(&end).filter(|it| self.sources.contains_key(it)) {
+        let wanted = match end.to_replace().filter(|it| self.sources.contains_key(it)) {
             Some(wanted) => wanted,
             None => return false,
         };
