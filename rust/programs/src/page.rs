@@ -5,8 +5,18 @@ use std::net::SocketAddr;
 use std::sync::Arc;
 use std::time::Duration;
 
+use serde::{Deserialize, Serialize};
 use tokio::io::{AsyncReadExt, AsyncWriteExt};
 use tokio::net::{TcpListener, TcpStream};
+
+use crate::out::Failure;
+
+/// The page, as a configuration has it: where it is served, if it is.
+#[derive(Clone, Debug, Default, PartialEq, Eq, Serialize, Deserialize)]
+#[serde(default, deny_unknown_fields, rename_all = "kebab-case")]
+pub struct MetricsPage {
+    pub listen: Option<SocketAddr>,
+}
 
 /// Whether a number only grows.
 #[derive(Clone, Copy, Debug, PartialEq, Eq)]
@@ -22,6 +32,13 @@ pub struct Sample<'a> {
     pub label: &'a str,
     pub kind: Kind,
     pub value: u64,
+}
+
+impl<'a> Sample<'a> {
+    /// A number that only grows.
+    pub fn counter(name: &'a str, label: &'a str, value: u64) -> Self {
+        Sample { name, label, kind: Kind::Counter, value }
+    }
 }
 
 /// The page: numbers of one name stand together.
@@ -52,21 +69,29 @@ async fn answer(mut stream: TcpStream, page: String) -> std::io::Result<()> {
     stream.shutdown().await
 }
 
-/// Serves the page, which is made anew for each request.
-pub async fn serve(address: SocketAddr, page: impl Fn() -> String + Send + Sync + 'static) -> std::io::Result<()> {
-    let (listener, page) = (TcpListener::bind(address).await?, Arc::new(page));
-    tokio::spawn(async move {
-        loop {
-            match listener.accept().await {
-                Ok((stream, _)) => {
-                    let page = page.clone();
-                    tokio::spawn(async move {
-                        let _ = tokio::time::timeout(Duration::from_secs(5), answer(stream, page())).await;
-                    });
-                }
-                Err(_) => tokio::time::sleep(Duration::from_millis(100)).await,
+/// Answers requests, for ever.
+async fn answer_all(listener: TcpListener, page: Arc<impl Fn() -> String + Send + Sync + 'static>) {
+    loop {
+        match listener.accept().await {
+            Ok((stream, _)) => {
+                let page = page.clone();
+                tokio::spawn(async move {
+                    let _ = tokio::time::timeout(Duration::from_secs(5), answer(stream, page())).await;
+                });
             }
+            Err(_) => tokio::time::sleep(Duration::from_millis(100)).await,
         }
-    });
-    Ok(())
+    }
+}
+
+impl MetricsPage {
+    /// Serves the page, which is made anew for each request.
+    pub async fn serve(&self, page: impl Fn() -> String + Send + Sync + 'static) -> Result<(), Failure> {
+        if let Some(address) = self.listen {
+            let unopened = |error| Failure::Socket { place: address.to_string(), error, advice: "change `listen` of `metrics`" };
+            let listener = TcpListener::bind(address).await.map_err(unopened)?;
+            tokio::spawn(answer_all(listener, Arc::new(page)));
+        }
+        Ok(())
+    }
 }

@@ -9,6 +9,7 @@ use zermuita::{Name, TrustAnchor};
 use crate::log::{Format, Level};
 use crate::net::Server;
 use crate::out::{self, Failure};
+use crate::page::MetricsPage;
 use crate::{anchor, root};
 
 /// Every setting, as the file has it.
@@ -27,7 +28,7 @@ pub struct Config {
     pub max_connections: usize,
     pub cache: Cache,
     pub log: Log,
-    pub metrics: Metrics,
+    pub metrics: MetricsPage,
     pub tls: Tls,
 }
 
@@ -48,12 +49,6 @@ pub struct Log {
     pub format: Format,
     pub level: Level,
     pub queries: bool,
-}
-
-#[derive(Clone, Debug, Default, Serialize, Deserialize)]
-#[serde(default, deny_unknown_fields, rename_all = "kebab-case")]
-pub struct Metrics {
-    pub listen: Option<SocketAddr>,
 }
 
 #[derive(Clone, Debug, Default, Serialize, Deserialize)]
@@ -80,7 +75,7 @@ impl Default for Config {
             max_connections: 256,
             cache: Cache::default(),
             log: Log::default(),
-            metrics: Metrics::default(),
+            metrics: MetricsPage::default(),
             tls: Tls::default(),
         }
     }

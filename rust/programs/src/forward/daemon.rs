@@ -16,8 +16,8 @@ use super::config::{self, Ready, Tls};
 use super::metrics::{Count, Metrics};
 use super::resolver::Resolver;
 use super::serve::{connections, datagrams, stream, Shared, Transport};
+use crate::log;
 use crate::out::Failure;
-use crate::{log, page};
 
 /// How long a handshake of TLS may take.
 const HANDSHAKE: Duration = Duration::from_secs(5);
@@ -125,11 +125,8 @@ async fn open(shared: &Arc<Shared>, ready: &Ready) -> Result<(), Failure> {
             }));
         }
     }
-    if let Some(address) = ready.config.metrics.listen {
-        let metrics = shared.metrics.clone();
-        page::serve(address, move || metrics.page()).await.map_err(|error| unopened(address, "TCP", error))?;
-    }
-    Ok(())
+    let metrics = shared.metrics.clone();
+    ready.config.metrics.serve(move || metrics.page()).await
 }
 
 /// Reads the configuration again. What is wrong is logged, and the old one stays.

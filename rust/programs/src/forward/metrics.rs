@@ -2,7 +2,7 @@
 
 use std::sync::atomic::{AtomicU64, Ordering};
 
-use crate::page::{self, Kind, Sample};
+use crate::page::{self, Sample};
 
 macro_rules! counts {
     ($($name:ident $metric:literal $label:literal),* $(,)?) => {
@@ -54,8 +54,6 @@ impl Metrics {
     /// The page for Prometheus.
     pub fn page(&self) -> String {
         let counts = METRICS.iter().zip(&self.0);
-        page::text("zermuita_forward", counts.map(|((name, label), count)| {
-            Sample { name, label, kind: Kind::Counter, value: count.load(Ordering::Relaxed) }
-        }))
+        page::text("zermuita_forward", counts.map(|((name, label), count)| Sample::counter(name, label, count.load(Ordering::Relaxed))))
     }
 }

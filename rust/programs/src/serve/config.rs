@@ -7,6 +7,7 @@ use serde::{Deserialize, Serialize};
 
 use crate::cli::ServeRun;
 use crate::out::{self, Failure};
+use crate::page::MetricsPage;
 
 const DAY: u32 = 86_400;
 /// How many servers of the zone, and of its parent, are watched at most.
@@ -36,7 +37,7 @@ pub struct Config {
     pub cookie_secret: Option<PathBuf>,
     pub tcp: Tcp,
     pub log: Log,
-    pub metrics: Metrics,
+    pub metrics: MetricsPage,
 }
 
 #[derive(Clone, Debug, PartialEq, Eq, Serialize, Deserialize)]
@@ -52,12 +53,6 @@ pub struct Tcp {
 pub struct Log {
     pub file: Option<PathBuf>,
     pub every: u32,
-}
-
-#[derive(Clone, Debug, Default, PartialEq, Eq, Serialize, Deserialize)]
-#[serde(default, deny_unknown_fields, rename_all = "kebab-case")]
-pub struct Metrics {
-    pub listen: Option<SocketAddr>,
 }
 
 impl Default for Config {
@@ -83,7 +78,7 @@ impl Default for Config {
             cookie_secret: None,
             tcp: Tcp::default(),
             log: Log::default(),
-            metrics: Metrics::default(),
+            metrics: MetricsPage::default(),
         }
     }
 }

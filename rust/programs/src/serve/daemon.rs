@@ -32,7 +32,7 @@ fn take_descriptors(config: &Config) -> std::io::Result<()> {
 }
 
 /// Serves connections and metrics.
-async fn open(begun: Begun) -> Result<(), std::io::Error> {
+async fn open(begun: Begun) -> Result<(), Failure> {
     let Begun { shared, listeners } = begun;
     let tcp = &shared.config.tcp;
     let connections = Arc::new(Connections::new(tcp.connections, tcp.of_network));
@@ -41,10 +41,8 @@ async fn open(begun: Begun) -> Result<(), std::io::Error> {
     for listener in listeners {
         tokio::spawn(streams.clone().listen(listener));
     }
-    if let Some(address) = shared.config.metrics.listen {
-        tokio::spawn(metrics::serve(tokio::net::TcpListener::bind(address).await?, shared));
-    }
-    Ok(())
+    let shown = shared.clone();
+    shared.config.metrics.serve(move || metrics::page(&shown)).await
 }
 
 /// Hears signals and commands to stop, until the threads have ended.

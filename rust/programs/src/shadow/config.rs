@@ -10,6 +10,7 @@ use zermuita::TrustAnchor;
 use crate::log::{Format, Level};
 use crate::net::Server;
 use crate::out::{self, Failure};
+use crate::page::MetricsPage;
 
 /// Every setting, as the file has it.
 #[derive(Clone, Debug, Serialize, Deserialize)]
@@ -25,7 +26,7 @@ pub struct Config {
     pub disagreements: Disagreements,
     pub explain: Explain,
     pub log: Log,
-    pub metrics: Metrics,
+    pub metrics: MetricsPage,
 }
 
 #[derive(Clone, Debug, Default, Serialize, Deserialize)]
@@ -49,12 +50,6 @@ pub struct Log {
     pub level: Level,
 }
 
-#[derive(Clone, Debug, Default, Serialize, Deserialize)]
-#[serde(default, deny_unknown_fields, rename_all = "kebab-case")]
-pub struct Metrics {
-    pub listen: Option<SocketAddr>,
-}
-
 impl Default for Config {
     fn default() -> Self {
         Config {
@@ -68,7 +63,7 @@ impl Default for Config {
             disagreements: Disagreements::default(),
             explain: Explain::default(),
             log: Log::default(),
-            metrics: Metrics::default(),
+            metrics: MetricsPage::default(),
         }
     }
 }

@@ -145,12 +145,11 @@ impl Totals {
             ("not_explained_total", self.explained.map_or(0, |it| it.1)),
         ];
         let reasons: Vec<_> = REASONS.iter().map(|it| format!("reason=\"{it}\"")).collect();
-        let counter = |name, label, value| Sample { name, label, kind: Kind::Counter, value };
         let samples = plain
             .iter()
-            .map(|(name, value)| counter(name, "", *value))
-            .chain(CLAIMS.iter().zip(it.agree).map(|(claim, value)| counter("agree_total", claim.1, value)))
-            .chain(reasons.iter().zip(it.not_judged).map(|(reason, value)| counter("not_judged_total", reason, value)))
+            .map(|(name, value)| Sample::counter(name, "", *value))
+            .chain(CLAIMS.iter().zip(it.agree).map(|(claim, value)| Sample::counter("agree_total", claim.1, value)))
+            .chain(reasons.iter().zip(it.not_judged).map(|(reason, value)| Sample::counter("not_judged_total", reason, value)))
             .chain([Sample { name: "waiting", label: "", kind: Kind::Gauge, value: it.waiting }]);
         crate::page::text("zermuita_shadow", samples)
     }

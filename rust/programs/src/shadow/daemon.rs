@@ -17,8 +17,8 @@ use super::explain::Explainer;
 use super::judge::Judge;
 use super::report::{Lines, Report};
 use super::stream::Streams;
+use crate::log;
 use crate::out::{self, Failure};
-use crate::{log, page};
 
 /// How long an event is waited for.
 const PAUSE: Duration = Duration::from_millis(250);
@@ -179,11 +179,8 @@ fn unopened(place: String, error: std::io::Error, advice: &'static str) -> Failu
 /// Begins the thread that heeds signals; they are heeded from then on.
 fn begin_heeding(ready: &Ready, wishes: &Arc<Wishes>, lines: &Lines) -> Result<(), Failure> {
     let runtime = tokio::runtime::Builder::new_multi_thread().worker_threads(1).enable_all().build()?;
-    if let Some(address) = ready.config.metrics.listen {
-        let wishes = wishes.clone();
-        let served = runtime.block_on(page::serve(address, move || wishes.page()));
-        served.map_err(|error| unopened(address.to_string(), error, "change `listen` of `metrics`"))?;
-    }
+    let shown = wishes.clone();
+    runtime.block_on(ready.config.metrics.serve(move || shown.page()))?;
     let heeded = heed(wishes.clone(), lines.clone());
     let begun = runtime.spawn(heeded);
     std::thread::Builder::new().name("signals".to_owned()).spawn(move || drop(runtime.block_on(begun)))?;
