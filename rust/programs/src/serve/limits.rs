@@ -76,7 +76,7 @@ impl Limits {
     fn count(&self, hash: u64, second: u64) -> u32 {
         let place = &self.places[hash as usize % PLACES];
         let head = hash >> 48 << 48 | (second & 0xffff) << 32;
-        let next = |held: u64| if held >> 32 << 32 == head { head | (held & 0xffff_ffff) + 1 } else { head | 1 };
+        let next = |held: u64| if held >> 32 << 32 == head { head | ((held & 0xffff_ffff) + 1) } else { head | 1 };
         let held = place.fetch_update(Ordering::Relaxed, Ordering::Relaxed, |held| Some(next(held)));
         next(held.unwrap_or(0)) as u32
     }
