@@ -1,4 +1,5 @@
-"""What zermuita serve does besides: idle connections give way, cookies, answers while a zone is loaded, a file that is read again."""
+"""What zermuita serve does besides: idle connections give way, cookies, answers while a zone is loaded, files that are included or read
+again."""
 
 import contextlib
 import random
@@ -10,7 +11,7 @@ import time
 import urllib.request
 
 from octets import connected, is_message, queries
-from served import PORT, Server, dig, fail, first_key, free_port, run, serial_of, zone_of
+from served import PORT, SECURE, Server, delv, dig, fail, first_key, free_port, records_of, run, serial_of, zone_of
 
 COOKIE = 10
 
@@ -123,6 +124,66 @@ def check_beside(program, room):
     print(f"three times 20,000 records, {len(seen)} answers meanwhile: none late, none of an older version")
 
 
+def check_parsed(program, room):
+    """Where several servers share a folder, a long file is read while requests are answered."""
+    server, file = Server(program, room / "parsed", "--step=1", "--rate=0", "--share"), room / "parsed.zone"
+    server.start()
+    first_key(server)
+    file.write_text(zone_of(2, 2) + f";{'x' * 98}\n" * 1_000_000)
+    is_over, seen = threading.Event(), []
+    asker = threading.Thread(target=ask_serials, args=(server.port, is_over, seen), daemon=True)
+    asker.start()
+    begun = time.monotonic()
+    server.done(f"reload {file}")
+    ended = time.monotonic()
+    is_over.set()
+    asker.join()
+    times = [begun, *(it[0] for it in seen if begun < it[0] < ended), ended]
+    longest = max(after - before for before, after in zip(times, times[1:]))
+    if len(times) < 20 or longest > (ended - begun) / 2:
+        fail("while a file is read", len(times) - 2, "answers come in", ended - begun, "seconds, at most", longest, "apart")
+    server.stop()
+    print(f"a long file is read in {ended - begun:.1f} seconds, {len(times) - 2} answers meanwhile")
+
+
+def check_included(program, room):
+    """A master file has others ($INCLUDE), below their own origin: by paths from the file that names them. What is wrong in one is told
+    with its line, and SIGHUP reads all again if one has changed."""
+    server, folder = Server(program, room / "including", "--step=1"), room / "zones"
+    (folder / "sub").mkdir(parents=True)
+    server.zone, hosts = folder / "example.zone", folder / "sub" / "hosts"
+    server.zone.write_text(zone_of(1, 0) + "www A 192.0.2.80\n$INCLUDE sub/hosts below\n TXT behind\n")
+    hosts.write_text("$INCLUDE more\n")
+    (folder / "sub" / "more").write_text("@ TXT one\nx A 192.0.2.9\n")
+    server.start()
+    first_key(server)
+
+    def data_of(name, rtype):
+        said = dig(name, rtype)
+        if SECURE not in delv(server, name, rtype):
+            fail(name, rtype, "of an included file is not validated")
+        return [it[4] for it in records_of(said) if it[3] == rtype]
+
+    for name, rtype, data in (("below.example.", "TXT", '"one"'), ("x.below.example.", "A", "192.0.2.9"), ("www.example.", "TXT", '"behind"')):
+        if data_of(name, rtype) != [data]:
+            fail("an included file is read otherwise:", name, rtype, dig(name, rtype))
+    (folder / "sub" / "more").write_text("\n\nx A 192.0.2.256\n")
+    if not (said := server.tell(f"reload {server.zone}")).startswith(f"{folder}/sub/more: line 3: not the data of an A record"):
+        fail("a line of an included file is told otherwise:", said)
+    (folder / "sub" / "more").unlink()
+    if (said := server.tell(f"reload {server.zone}")) != f"{hosts}: line 1: {folder}/sub/more: No such file or directory\n":
+        fail("a file that is not there is told otherwise:", said)
+    hosts.write_text("@ TXT two\n")
+    server.process.send_signal(signal.SIGHUP)
+    end = time.monotonic() + 20
+    while data_of("below.example.", "TXT") != ['"two"']:
+        if time.monotonic() > end or not server.is_up():
+            fail("an included file that has changed is not read again")
+        time.sleep(0.2)
+    server.stop()
+    print("files that master files include")
+
+
 def check_file_again(program, room):
     """SIGHUP: a zone's file that has changed is read again, one that has not is not; what is wrong changes nothing."""
     server, file = Server(program, room / "again-read", "--step=1"), room / "again-read.zone"
@@ -172,5 +233,7 @@ def check(server, program, room):
     check_cookies(server)
     check_idle_streams()
     check_beside(program, room)
+    check_parsed(program, room)
+    check_included(program, room)
     check_file_again(program, room)
     check_configuration(program, room)

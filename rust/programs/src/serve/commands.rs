@@ -1,7 +1,6 @@
 //! Commands, a line each.
 
 use std::fmt::Write as _;
-use std::path::PathBuf;
 use std::sync::atomic::Ordering;
 
 use zermuita::{SetType, Zone};
@@ -11,7 +10,7 @@ use super::log;
 use super::shared::Shared;
 use super::turns::Changing;
 use super::worker::Worker;
-use super::{lines, reload, waits};
+use super::{lines, waits};
 use crate::text;
 
 /// The calls of keys that a line brings, besides waits.
@@ -92,7 +91,6 @@ pub fn done(keeper: &mut Keeper, worker: &mut Worker, turn: &mut Changing<'_>, l
         ["cds", ..] => say_records(zone, SetType::Cds, "CDS"),
         ["dnskey", ..] => say_records(zone, SetType::Dnskey, "DNSKEY"),
         ["key", kind, name, ..] => lines::add_key(keeper, worker, turn, kind, name),
-        ["reload", ..] if words.len() > 1 => reload::in_turn(keeper, worker, turn, &PathBuf::from(&text["reload ".len()..])),
         ["wait1" | "wait2", ..] => waits::accept(keeper, worker, turn, line),
         [word, ..] if CALLS.contains(&word) => lines::accept(keeper, worker, turn, line),
         _ => Err(HELP.to_owned()),

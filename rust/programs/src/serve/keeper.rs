@@ -1,9 +1,10 @@
 //! Who keeps the journal: lines that are accepted are on disk before anybody hears of it. The keeper is with the thread whose zone answers
 //! nothing, which applies a replacement while the others go on; then that thread answers, and the keeper goes to another one.
 
+use std::ffi::OsStr;
 use std::os::unix::ffi::OsStrExt;
 use std::os::unix::net::UnixListener;
-use std::path::{Path, PathBuf};
+use std::path::Path;
 use std::sync::mpsc::Sender;
 use std::sync::Arc;
 use std::time::{Duration, Instant};
@@ -82,7 +83,7 @@ impl Keeper {
     pub fn new(begin: Begin) -> Self {
         let Begin { shared, options, journal, orders, threads, listeners, ended } = begin;
         let config = shared.config.clone();
-        let seen = config.zone_file.as_ref().and_then(|it| Seen::of(it).ok());
+        let seen = config.zone_file.as_ref().map(|it| Seen::of(it, &shared.apex));
         Keeper {
             watcher: Watcher::new(&config),
             config,
@@ -147,7 +148,7 @@ impl Keeper {
             Err(error) => log::failure("configuration", error).write(),
         }
         if let Some(path) = self.config.zone_file.clone() {
-            let seen = Seen::of(&path).ok();
+            let seen = Some(Seen::of(&path, &self.shared.apex));
             if seen != self.seen {
                 self.seen = seen;
                 self.read_file(worker, &path);
@@ -157,17 +158,25 @@ impl Keeper {
 
     /// Replaces the zone's records by those of its file, if they are others.
     fn read_file(&mut self, worker: &mut Worker, path: &Path) {
-        if reload::is_same(self, path) {
-            return;
-        }
-        let done = if self.shared.turns.is_shared {
-            let shared = self.shared.clone();
-            let mut turn = self.begin_turn(&shared, worker);
-            reload::in_turn(self, worker, &mut turn, path)
-        } else {
-            reload::beside(self, worker, path)
+        // Another server of the folder may have done it.
+        let shared = self.shared.clone();
+        drop(self.begin_turn(&shared, worker));
+        let done = match reload::replacement(self, path) {
+            Ok(lines) if reload::is_same(self, &lines) => return,
+            lines => lines.and_then(|lines| self.replace(worker, lines)),
         };
         self.log_said("reload", format!("reload {}", path.display()).as_bytes(), &done);
+    }
+
+    /// Replaces the zone's records: while the other threads answer, or where others share the folder while nobody does.
+    fn replace(&mut self, worker: &mut Worker, lines: Vec<u8>) -> Done {
+        if self.shared.turns.is_shared {
+            let shared = self.shared.clone();
+            let mut turn = self.begin_turn(&shared, worker);
+            reload::in_turn(self, worker, &mut turn, lines)
+        } else {
+            reload::beside(self, worker, lines)
+        }
     }
 
     /// Takes what of a configuration can be changed while the server runs.
@@ -272,12 +281,16 @@ impl Keeper {
     /// Takes a command, a line, and says what came of it: `+`, or `-` where it was not done, and text.
     fn command(&mut self, worker: &mut Worker, line: &[u8], reply: oneshot::Sender<Said>) {
         let text = log::latin(line);
-        let done = if line.starts_with(b"reload ") && !self.shared.turns.is_shared {
-            reload::beside(self, worker, &PathBuf::from(std::ffi::OsStr::from_bytes(&line[7..])))
-        } else {
-            let shared = self.shared.clone();
-            let mut turn = self.begin_turn(&shared, worker);
-            commands::done(self, worker, &mut turn, line)
+        let done = match line.strip_prefix(b"reload ") {
+            Some(path) => {
+                let lines = reload::replacement(self, Path::new(OsStr::from_bytes(path)));
+                lines.and_then(|lines| self.replace(worker, lines))
+            }
+            None => {
+                let shared = self.shared.clone();
+                let mut turn = self.begin_turn(&shared, worker);
+                commands::done(self, worker, &mut turn, line)
+            }
         };
         let (sign, said) = match &done {
             Ok(said) => ('+', said),

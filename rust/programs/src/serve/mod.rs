@@ -15,6 +15,7 @@ mod keys;
 mod limits;
 mod lines;
 mod log;
+mod master;
 mod metrics;
 mod moments;
 #[cfg(test)]

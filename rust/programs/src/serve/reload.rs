@@ -1,7 +1,5 @@
 //! Master files: the begin of a journal, and replacements.
 
-use std::io::{self, Read};
-use std::os::unix::fs::{MetadataExt, OpenOptionsExt};
 use std::path::Path;
 use std::sync::atomic::Ordering;
 
@@ -10,37 +8,18 @@ use zermuita::Zone;
 use super::journal;
 use super::keeper::{Done, Keeper};
 use super::lines;
+use super::master::Master;
 use super::turns::Changing;
 use super::worker::Worker;
 
-/// By what a file is another one than it was: device, inode, size and time of change.
+/// What a master file said when it was read, with those that it includes: a digest of their text, or why there is none.
 #[derive(Clone, Debug, PartialEq, Eq)]
-pub struct Seen(u64, u64, u64, i64, i64);
+pub struct Seen(Result<[u8; 32], String>);
 
 impl Seen {
-    pub fn of(path: &Path) -> io::Result<Self> {
-        let it = std::fs::metadata(path)?;
-        Ok(Seen(it.dev(), it.ino(), it.size(), it.mtime(), it.mtime_nsec()))
+    pub fn of(path: &Path, origin: &str) -> Self {
+        Seen(Master::read(path, origin).map(|it| openssl::sha::sha256(&it.text)))
     }
-}
-
-/// The octets of a regular file. What is none, as a pipe, is refused: opening or reading it might never end.
-fn read_file(path: &Path) -> io::Result<Vec<u8>> {
-    let mut file = std::fs::OpenOptions::new().read(true).custom_flags(nix::libc::O_NONBLOCK).open(path)?;
-    let kind = file.metadata()?.file_type();
-    if !kind.is_file() {
-        let why = if kind.is_dir() { nix::libc::EISDIR } else { nix::libc::EINVAL };
-        return Err(io::Error::from_raw_os_error(why));
-    }
-    let mut octets = Vec::new();
-    file.read_to_end(&mut octets)?;
-    Ok(octets)
-}
-
-/// An error of the system as it has it, without its number.
-fn why(error: &io::Error) -> String {
-    let text = error.to_string();
-    text.split(" (os error").next().unwrap_or("").to_owned()
 }
 
 /// What is wanted of a master file.
@@ -52,23 +31,20 @@ pub struct Wanted<'a> {
 
 /// The lines of a journal for a master file.
 pub fn lines_of(path: &Path, wanted: &Wanted<'_>) -> Result<Vec<u8>, String> {
-    let at = path.display();
-    let text = read_file(path).map_err(|error| format!("{at}: {}\n", why(&error)))?;
-    Zone::lines_of(&text, wanted.origin, wanted.chain, wanted.apex).map_err(|error| match error.line {
-        0 => format!("{at}: {}\n", error.reason),
-        _ => format!("{at}: {error}\n"),
-    })
+    let master = Master::read(path, wanted.origin)?;
+    Zone::lines_of(&master.text, wanted.origin, wanted.chain, wanted.apex).map_err(|error| master.fault(&error))
 }
 
-fn replacement(keeper: &Keeper, path: &Path) -> Result<Vec<u8>, String> {
+/// The lines of the records of a master file that replace the zone's. It is read while requests are answered.
+pub fn replacement(keeper: &Keeper, path: &Path) -> Result<Vec<u8>, String> {
     let apex = keeper.shared.apex.as_str();
     lines_of(path, &Wanted { origin: apex, chain: "", apex })
 }
 
-/// Whether the zone has the records of a master file already.
-pub fn is_same(keeper: &Keeper, path: &Path) -> bool {
+/// Whether the zone has the records of these lines already.
+pub fn is_same(keeper: &Keeper, lines: &[u8]) -> bool {
     let journal = journal::read(&keeper.journal.file, 0, keeper.journal.len);
-    matches!((replacement(keeper, path), journal), (Ok(lines), Ok(octets)) if journal::last_records(&octets) == lines)
+    journal.map_or(false, |octets| journal::last_records(&octets) == lines)
 }
 
 /// Applies the lines of a replacement. Where one is refused, those before it are forgotten.
@@ -89,9 +65,8 @@ fn apply(worker: &mut Worker, lines: &[u8]) -> Done {
     said
 }
 
-/// Replaces the zone's records by those of a master file, all of them or none, while nobody answers.
-pub fn in_turn(keeper: &mut Keeper, worker: &mut Worker, turn: &mut Changing<'_>, path: &Path) -> Done {
-    let mut lines = replacement(keeper, path)?;
+/// Replaces the zone's records by those of these lines, all of them or none, while nobody answers.
+pub fn in_turn(keeper: &mut Keeper, worker: &mut Worker, turn: &mut Changing<'_>, mut lines: Vec<u8>) -> Done {
     let moment = keeper.shared.moments.of_replacement();
     lines.extend_from_slice(format!("replace {moment}\n").as_bytes());
     let said = apply(worker, &lines)?;
@@ -103,8 +78,7 @@ pub fn in_turn(keeper: &mut Keeper, worker: &mut Worker, turn: &mut Changing<'_>
 }
 
 /// The same while the other threads answer, with the zone before, at the moment before. Then this thread answers for all.
-pub fn beside(keeper: &mut Keeper, worker: &mut Worker, path: &Path) -> Done {
-    let lines = replacement(keeper, path)?;
+pub fn beside(keeper: &mut Keeper, worker: &mut Worker, lines: Vec<u8>) -> Done {
     let moment = {
         let _turn = keeper.shared.turns.change(&worker.file);
         keeper.shared.moments.freeze(&worker.file)
