@@ -98,33 +98,42 @@ impl Reader {
 
     fn read(&mut self, octet: u8) -> Result<(), ZoneFileError> {
         if octet == b'\n' {
-            return self.end_line();
-        }
-        if self.place == Place::Comment {
-            return Ok(());
-        }
-        if self.is_escaped {
+            self.end_line()
+        } else if self.place == Place::Comment {
+            Ok(())
+        } else if self.is_escaped {
             self.is_escaped = false;
-            self.field.push(octet).map_err(AllocError::from)?;
-            return Ok(());
+            self.keep(octet)
+        } else {
+            self.read_in_line(octet)
         }
-        match (octet, self.place) {
-            (b'"', Place::Quoted) => self.end_field(true),
-            (b'\\', _) => {
-                self.is_escaped = true;
-                self.read_plain(octet)
-            }
-            (_, Place::Quoted) => self.read_plain(octet),
-            (b' ' | b'\t' | b'\r', place) => {
-                if place == Place::Start {
-                    self.entry.is_indented = true;
-                }
-                self.end_field(false)?;
-                self.place = Place::Between;
-                Ok(())
-            }
-            _ => self.read_special(octet),
+    }
+
+    /// Reads what stands in a line, outside comments and not behind a backslash.
+    fn read_in_line(&mut self, octet: u8) -> Result<(), ZoneFileError> {
+        let is_quoted = self.place == Place::Quoted;
+        if octet == b'\\' {
+            self.is_escaped = true;
+            self.read_plain(octet)
+        } else if is_quoted && octet == b'"' {
+            self.end_field(true)
+        } else if is_quoted {
+            self.read_plain(octet)
+        } else if matches!(octet, b' ' | b'\t' | b'\r') {
+            self.read_blank()
+        } else {
+            self.read_special(octet)
         }
+    }
+
+    /// Reads a blank outside quotes.
+    fn read_blank(&mut self) -> Result<(), ZoneFileError> {
+        if self.place == Place::Start {
+            self.entry.is_indented = true;
+        }
+        let ended = self.end_field(false);
+        self.place = Place::Between;
+        ended
     }
 
     /// Reads what stands outside quotes and is no blank.
@@ -159,8 +168,14 @@ impl Reader {
         if self.place != Place::Quoted {
             self.place = Place::InField;
         }
-        self.field.push(octet).map_err(AllocError::from)?;
-        Ok(())
+        self.keep(octet)
+    }
+
+    fn keep(&mut self, octet: u8) -> Result<(), ZoneFileError> {
+        match self.field.push(octet) {
+            Ok(()) => Ok(()),
+            Err(_) => Err(ZoneFileError::Memory),
+        }
     }
 }
 

@@ -22,7 +22,7 @@ returns c =
     (string_bytes c.new-lines.result)
     c.in_ok-chain.chain.now
     (string_bytes c.push_head.new.lines)
-    c.deref.result.now
+    c.deref-2.result.now
     (string_bytes c.push_str.new.self)
     c.loop-entry.invariant.1
     c.in-Some.is
@@ -30,5 +30,5 @@ returns c =
     c.new-lines.ensures.bytes
     c.in_ok-chain.ensures.same
     c.in_ok-push_head.ensures
-    c.deref.ensures
+    c.deref-2.ensures
     c.in_ok-push_str.ensures.bytes
