@@ -13,6 +13,7 @@ use test_lines::{Form, Line};
 
 /// What stands before the type of data: three lines, two records, and the owner.
 const HEAD: &str = "$ORIGIN example.\n@ 3600 IN SOA . . 1 2 3 4 5\n@ 3600 IN NS .\na 3600 IN ";
+
 const SOA_HEAD: &str = "$ORIGIN example.\na 3600 IN A 192.0.2.1\n@ 3600 IN NS .\n@ 3600 IN ";
 
 /// What is read of a master file, or why nothing is.
@@ -31,7 +32,11 @@ fn read(alloc: Global, text: &str) -> Result<String, AllocError> {
 fn data(line: &mut Line<'_>) {
     let alloc = line.alloc();
     let text = line.rest(1);
-    let head = if line.word(1) == "SOA" { SOA_HEAD } else { HEAD };
+    let head = if line.word(1) == "SOA" {
+        SOA_HEAD
+    } else {
+        HEAD
+    };
     let said = format!(in alloc; "{head}{text}\n").and_then(|file| read(alloc, file.as_str()));
     let Ok(said) = said else {
         line.lose();

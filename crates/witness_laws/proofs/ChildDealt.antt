@@ -108,10 +108,17 @@ answer_dealt : Dealt child_answer
 unfolding pointer_limit most_heads owner_at octet_of window_size window_count
 answer_dealt = (
   no_signature s keys signings child_answer (item child_answer 0) refl,
-  (no_signature s keys signings child_answer (item child_answer 1) refl,
-  (of_key s keys signings 16 (signed old_key child_keys) child_answer (item child_answer 2) (fields old_key child_keys) by_old refl old_signed_keys,
-  (of_key s keys signings 32 (signed new_key child_keys) child_answer (item child_answer 3) (fields new_key child_keys) by_new refl new_signed_keys,
-  (no_signature s keys signings child_answer (item child_answer 4) refl, tt)))))
+  (
+    no_signature s keys signings child_answer (item child_answer 1) refl,
+    (
+      of_key s keys signings 16 (signed old_key child_keys) child_answer (item child_answer 2) (fields old_key child_keys) by_old refl old_signed_keys,
+      (
+        of_key s keys signings 32 (signed new_key child_keys) child_answer (item child_answer 3) (fields new_key child_keys) by_new refl new_signed_keys,
+        (no_signature s keys signings child_answer (item child_answer 4) refl, tt),
+      ),
+    ),
+  ),
+)
 
 answer_read : message pointer_limit child_answer ≡ Ok (read_of child_answer)
 unfolding pointer_limit most_heads owner_at octet_of window_size window_count
@@ -125,15 +132,32 @@ alias_dealt : Dealt alias_answer
 unfolding pointer_limit most_heads owner_at octet_of window_size window_count
 alias_dealt = (
   no_signature s keys signings alias_answer (item alias_answer 0) refl,
-  (of_key s keys signings 16 (signed old_key alias) alias_answer (item alias_answer 1) (fields old_key alias) by_old refl alias_signed,
-  (no_signature s keys signings alias_answer (item alias_answer 2) refl,
-  (of_key s keys signings 16 (signed old_key (redirect early)) alias_answer (item alias_answer 3) (fields old_key (redirect early)) by_old refl old_redirect,
-  (no_signature s keys signings alias_answer (item alias_answer 4) refl,
-  (no_signature s keys signings alias_answer (item alias_answer 5) refl,
-  (of_key s keys signings 16 (signed old_key (wildcard early)) alias_answer (item alias_answer 6) (fields old_key (wildcard early)) by_old refl old_wildcard,
-  (no_signature s keys signings alias_answer (item alias_answer 7) refl,
-  (of_key s keys signings 16 (signed old_key (last_link early)) alias_answer (item alias_answer 8) (fields old_key (last_link early)) by_old refl old_link,
-  (no_signature s keys signings alias_answer (item alias_answer 9) refl, tt))))))))))
+  (
+    of_key s keys signings 16 (signed old_key alias) alias_answer (item alias_answer 1) (fields old_key alias) by_old refl alias_signed,
+    (
+      no_signature s keys signings alias_answer (item alias_answer 2) refl,
+      (
+        of_key s keys signings 16 (signed old_key (redirect early)) alias_answer (item alias_answer 3) (fields old_key (redirect early)) by_old refl old_redirect,
+        (
+          no_signature s keys signings alias_answer (item alias_answer 4) refl,
+          (
+            no_signature s keys signings alias_answer (item alias_answer 5) refl,
+            (
+              of_key s keys signings 16 (signed old_key (wildcard early)) alias_answer (item alias_answer 6) (fields old_key (wildcard early)) by_old refl old_wildcard,
+              (
+                no_signature s keys signings alias_answer (item alias_answer 7) refl,
+                (
+                  of_key s keys signings 16 (signed old_key (last_link early)) alias_answer (item alias_answer 8) (fields old_key (last_link early)) by_old refl old_link,
+                  (no_signature s keys signings alias_answer (item alias_answer 9) refl, tt),
+                ),
+              ),
+            ),
+          ),
+        ),
+      ),
+    ),
+  ),
+)
 
 alias_read : message pointer_limit alias_answer ≡ Ok (read_of alias_answer)
 unfolding pointer_limit most_heads owner_at octet_of window_size window_count
@@ -147,9 +171,14 @@ redirect_dealt : Dealt redirect_answer
 unfolding pointer_limit most_heads owner_at octet_of window_size window_count
 redirect_dealt = (
   no_signature s keys signings redirect_answer (item redirect_answer 0) refl,
-  (of_key s keys signings 32 (signed new_key (redirect late)) redirect_answer (item redirect_answer 1) (fields new_key (redirect late)) by_new refl new_redirect,
-  (no_signature s keys signings redirect_answer (item redirect_answer 2) refl,
-  (no_signature s keys signings redirect_answer (item redirect_answer 3) refl, tt))))
+  (
+    of_key s keys signings 32 (signed new_key (redirect late)) redirect_answer (item redirect_answer 1) (fields new_key (redirect late)) by_new refl new_redirect,
+    (
+      no_signature s keys signings redirect_answer (item redirect_answer 2) refl,
+      (no_signature s keys signings redirect_answer (item redirect_answer 3) refl, tt),
+    ),
+  ),
+)
 
 redirect_read : message pointer_limit redirect_answer ≡ Ok (read_of redirect_answer)
 unfolding pointer_limit most_heads owner_at octet_of window_size window_count
@@ -163,10 +192,17 @@ star_dealt : Dealt star_answer
 unfolding pointer_limit most_heads owner_at octet_of window_size window_count
 star_dealt = (
   no_signature s keys signings star_answer (item star_answer 0) refl,
-  (of_key s keys signings 32 (signed new_key (wildcard late)) star_answer (item star_answer 1) (fields new_key (wildcard late)) by_new refl new_wildcard,
-  (no_signature s keys signings star_answer (item star_answer 2) refl,
-  (of_key s keys signings 32 (signed new_key (last_link late)) star_answer (item star_answer 3) (fields new_key (last_link late)) by_new refl new_link,
-  (no_signature s keys signings star_answer (item star_answer 4) refl, tt)))))
+  (
+    of_key s keys signings 32 (signed new_key (wildcard late)) star_answer (item star_answer 1) (fields new_key (wildcard late)) by_new refl new_wildcard,
+    (
+      no_signature s keys signings star_answer (item star_answer 2) refl,
+      (
+        of_key s keys signings 32 (signed new_key (last_link late)) star_answer (item star_answer 3) (fields new_key (last_link late)) by_new refl new_link,
+        (no_signature s keys signings star_answer (item star_answer 4) refl, tt),
+      ),
+    ),
+  ),
+)
 
 star_read : message pointer_limit star_answer ≡ Ok (read_of star_answer)
 unfolding pointer_limit most_heads owner_at octet_of window_size window_count

@@ -159,11 +159,20 @@ open_dealt : Dealt open_referral
 unfolding pointer_limit most_heads owner_at octet_of window_size window_count
 open_dealt = (
   no_signature p keys signings open_referral (item open_referral 0) refl,
-  (no_signature p keys signings open_referral (item open_referral 1) refl,
-  (of_key p keys signings 48 (signed parent_key hashed_p) open_referral (item open_referral 2) (fields parent_key hashed_p) there refl hashed_p_signed,
-  (no_signature p keys signings open_referral (item open_referral 3) refl,
-  (of_key p keys signings 48 (signed parent_key hashed_s) open_referral (item open_referral 4) (fields parent_key hashed_s) there refl hashed_s_signed,
-  (no_signature p keys signings open_referral (item open_referral 5) refl, tt))))))
+  (
+    no_signature p keys signings open_referral (item open_referral 1) refl,
+    (
+      of_key p keys signings 48 (signed parent_key hashed_p) open_referral (item open_referral 2) (fields parent_key hashed_p) there refl hashed_p_signed,
+      (
+        no_signature p keys signings open_referral (item open_referral 3) refl,
+        (
+          of_key p keys signings 48 (signed parent_key hashed_s) open_referral (item open_referral 4) (fields parent_key hashed_s) there refl hashed_s_signed,
+          (no_signature p keys signings open_referral (item open_referral 5) refl, tt),
+        ),
+      ),
+    ),
+  ),
+)
 
 open_read : message pointer_limit open_referral ≡ Ok (read_of open_referral)
 unfolding pointer_limit most_heads owner_at octet_of window_size window_count
@@ -177,10 +186,17 @@ no_ds_dealt : Dealt no_ds
 unfolding pointer_limit most_heads owner_at octet_of window_size window_count
 no_ds_dealt = (
   no_signature p keys signings no_ds (item no_ds 0) refl,
-  (of_key p keys signings 48 (signed parent_key hashed_p) no_ds (item no_ds 1) (fields parent_key hashed_p) there refl hashed_p_signed,
-  (no_signature p keys signings no_ds (item no_ds 2) refl,
-  (of_key p keys signings 48 (signed parent_key hashed_s) no_ds (item no_ds 3) (fields parent_key hashed_s) there refl hashed_s_signed,
-  (no_signature p keys signings no_ds (item no_ds 4) refl, tt)))))
+  (
+    of_key p keys signings 48 (signed parent_key hashed_p) no_ds (item no_ds 1) (fields parent_key hashed_p) there refl hashed_p_signed,
+    (
+      no_signature p keys signings no_ds (item no_ds 2) refl,
+      (
+        of_key p keys signings 48 (signed parent_key hashed_s) no_ds (item no_ds 3) (fields parent_key hashed_s) there refl hashed_s_signed,
+        (no_signature p keys signings no_ds (item no_ds 4) refl, tt),
+      ),
+    ),
+  ),
+)
 
 no_ds_read : message pointer_limit no_ds ≡ Ok (read_of no_ds)
 unfolding pointer_limit most_heads owner_at octet_of window_size window_count

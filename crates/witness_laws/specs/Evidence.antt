@@ -49,13 +49,13 @@ child_answer = response 132 s 48 (rr s 48 (dnskey_data old_key) ∷ rr s 48 (dns
 -- with the record of the chain that covers the name. All signatures are of one moment.
 abbrev pub alias_answer : List ℕ
 alias_answer = response 132 c_s 1 (
-  rr c_s 5 (wire y_d) ∷ rrsig c_s old_key alias
-      ∷ rr d_s 39 (wire e_s) ∷ rrsig d_s old_key (redirect early)
-      ∷ rr y_d 5 (wire y_e)
-      ∷ rr y_e 1 address ∷ rrsig y_e old_key (wildcard early) ∷ []
-) (
-  rr star_e 47 (signing.last_data) ∷ rrsig star_e old_key (last_link early) ∷ []
-)
+    rr c_s 5 (wire y_d) ∷ rrsig c_s old_key alias
+    ∷ rr d_s 39 (wire e_s) ∷ rrsig d_s old_key (redirect early)
+    ∷ rr y_d 5 (wire y_e)
+    ∷ rr y_e 1 address ∷ rrsig y_e old_key (wildcard early) ∷ []
+    ) (
+    rr star_e 47 (signing.last_data) ∷ rrsig star_e old_key (last_link early) ∷ []
+    )
 
 -- the DNAME, and the CNAME that is made from it
 abbrev pub redirect_answer : List ℕ
