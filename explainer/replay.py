@@ -29,6 +29,7 @@ class Replay:
 
     def __init__(self, session: Session) -> None:
         self.session, self.apex, self.records = session, session.zone.apex, session.records
+        self.calls: list[str] = []
         self.zone = self._opened()
         # Whether a call or a replacement was accepted: before that the library takes no record for a replacement.
         self.has_begun = False
@@ -41,6 +42,7 @@ class Replay:
         said = self.zone.apply(event.line.text)
         if said.startswith("ok"):
             self.has_begun = True
+            self.calls.append(event.line.text)
             self.latest = max(self.latest, event.moment)
             if event.word.startswith("report"):
                 self.reports[event.values[0]] = event.moment, event.values[1]
@@ -58,9 +60,9 @@ class Replay:
         return self.zone.apply(event.line.text)
 
     def _opened(self) -> Zone:
-        """The zone of its records alone."""
-        lines = [self.session.zone.line, *(it.line for it in self.records)]
-        return Zone("".join(f"{it.text}\n" for it in lines))
+        """The zone of its records and calls, in which no second is closed by a replacement."""
+        lines = [it.text for it in (self.session.zone.line, *(it.line for it in self.records))]
+        return Zone("".join(f"{it}\n" for it in (*lines, *self.calls)))
 
     def rolls(self) -> Iterator[str]:
         """The rolls that run, each with its phase."""
@@ -74,8 +76,13 @@ class Replay:
         return "over" if end <= self.latest else f"ends at {end}"
 
     def message(self, name: Name, rtype: int, now: int) -> bytes | None:
-        """The zone's answer to a question, as its publisher makes it; None if the library gives none."""
+        """The zone's answer to a question, as its publisher makes it; None if the library gives none. Unlike the bench, the library
+        has none in the second of a replacement or before: there the records of now answer."""
         response = self.zone.respond(query(name, rtype), now)
+        if response is None:
+            zone = self._opened()
+            response = zone.respond(query(name, rtype), now)
+            zone.close()
         return published(read_message(response), self._soa_ttl()) if response is not None else None
 
     def _soa_ttl(self) -> int:
