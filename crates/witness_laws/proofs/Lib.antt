@@ -11,3 +11,6 @@ pub mod Tree
 pub mod Judging
 pub mod Judged
 pub mod Told
+pub mod Shown
+pub mod AreShown
+pub mod Looping

@@ -1,6 +1,6 @@
 -- The names of the zones are names; so is what is one up to case, or stands above one.
 use Rattle.std.proofs.Common.{◌≡◌, ℕ, Bool, true, List, [], ◌∷◌, length, nat_le, nat_lt, refl, sym, subst, inl, inr, arith}
-use Rattle.std.specs.Prelude.{◌<◌, ◌≤◌, ◌&&◌}
+use Rattle.std.specs.Prelude.{◌&&◌}
 use Rattle.std.specs.Char.{to_ascii_lowercase}
 use Rattle.std.specs.List.{AllByRecursion, list_all}
 use Rattle.std.specs.Str.{str_to_ascii_lowercase}

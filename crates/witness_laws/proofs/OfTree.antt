@@ -131,7 +131,7 @@ module _ (Apart : Name → Type 0) (z : SignedZone) (ds : List Ds) (signed : IsS
 
 -- ---- signatures that pass
 
-true_try : (t v : Tried) → is_same_try t v ≡ true → passes v ≡ true → passes t ≡ true
+pub true_try : (t v : Tried) → is_same_try t v ≡ true → passes v ≡ true → passes t ≡ true
 true_try t v alike h =
     let parts = and_parts (bytes_eq v.signature t.signature && bytes_eq v.octets t.octets) (same_key v.key t.key) alike in
     let first = and_parts (bytes_eq v.signature t.signature) (bytes_eq v.octets t.octets) parts.0 in

@@ -1,14 +1,13 @@
 -- Both zones are in order.
-use Rattle.std.proofs.Common.{◌≡◌, ◌⊎◌, ℕ, Bool, true, false, ◌&&◌, List, [], ◌∷◌, length, get_or, map, nat_lt, refl, sym, ap, subst, ◌∙◌, inl, inr}
+use Rattle.std.proofs.Common.{◌≡◌, ℕ, true, false, List, [], ◌∷◌, length, get_or, map, nat_lt, refl, sym, ap, subst, ◌∙◌, inl, inr}
 use Rattle.std.specs.Prelude.{◌==◌, Contains}
 use Rattle.std.specs.List.{AllByRecursion}
 use Rattle.std.proofs.lemmas.Bool.{and_parts, eq-eqb, eqb-true, false≢true, ltb-true}
 use Rattle.definitions.specs.Name.{IsName, Name, labels_eq, low, strictly_above, wire}
-use Rattle.definitions.specs.Zone.{Rr, Zone, has, is_delegation, is_live, is_of, owner_of, owners}
+use Rattle.definitions.specs.Zone.{Rr, Zone, has, is_delegation, is_of, owner_of, owners}
 use Rattle.definitions.proofs.Members.{In, any_of, in_contained}
 use Rattle.denial_laws.proofs.ChainBits.{all_at}
 use Rattle.messages.specs.Handed.{IsHanded}
-use Rattle.messages.specs.HandedRr.{HandedRr}
 use Rattle.messages.proofs.ZoneNames.{same_labels}
 use Rattle.answer_judge.specs.Versions.{zone_in}
 use Rattle.tree_laws.specs.Orderly.{IsOrderlyZone}

@@ -1,5 +1,5 @@
 -- The hashes and digests that the evidence needs, by computing; and answers that have them at hand.
-use Rattle.std.proofs.Common.{◌≡◌, ℕ, zero, suc, Bool, true, false, cond, List, [], ◌∷◌, ◌++◌, Option, Some, None, bytes_eq, nat_eq, refl, sym, ap, ◌∙◌}
+use Rattle.std.proofs.Common.{◌≡◌, ℕ, zero, suc, Bool, true, false, List, [], ◌∷◌, ◌++◌, Some, None, bytes_eq, nat_eq, refl, ap, ◌∙◌}
 use Rattle.std.specs.Prelude.{◌==◌, if◌then◌else◌}
 use Rattle.std.specs.List.{AllByRecursion}
 use lib.Pointwise.{bytes_decides}
@@ -9,10 +9,10 @@ use Rattle.sha2.specs.Sha256.{sha256}
 use Rattle.sha2.specs.Sha256 as two
 use Rattle.sha2.specs.Sha512.{sha384}
 use Rattle.definitions.specs.Dnskey.{digested}
-use Rattle.definitions.specs.Name.{Name, wire}
-use Rattle.denial_nsec3_sha1.specs.Iterated.{answered, iterated}
+use Rattle.definitions.specs.Name.{wire}
+use Rattle.denial_nsec3_sha1.specs.Iterated.{iterated}
 use Rattle.answer_scheme.specs.Answers.{Answers}
-use Rattle.answer_judge_table.specs.Table.{Tried, answers_with, digest_by, tried}
+use Rattle.answer_judge_table.specs.Table.{Tried, answers_with, tried}
 use Rattle.witness_laws.specs.Signed.{hash_p, hash_s}
 use Rattle.witness_laws.specs.Zones.{c_s, d_s, e_s, old_digest, old_key, p, parent_digest, parent_key, s, star_e, u, under, x_u, y_d, y_e}
 

@@ -47,10 +47,10 @@ ParentFine m = low m.zone ≡ low p → IsFine p above.keys above.signings Apart
 abbrev ChildFine : given.Message → Type 0
 ChildFine m = low m.zone ≡ low s → IsFine s below.keys below.signings (λ n. Unit {0}) m
 
-not_parent : {P : Type 0} → low s ≡ low p → P
+pub not_parent : {P : Type 0} → low s ≡ low p → P
 not_parent e = absurd cc
 
-not_child : {P : Type 0} → low p ≡ low s → P
+pub not_child : {P : Type 0} → low p ≡ low s → P
 not_child e = absurd cc
 
 parent_fine : AllByRecursion ParentFine evidence.messages

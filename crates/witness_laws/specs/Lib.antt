@@ -1,3 +1,4 @@
 pub mod Zones
 pub mod Signed
 pub mod Evidence
+pub mod Loops

@@ -10,7 +10,7 @@ use Rattle.definitions.specs.Name.{Name, wire}
 use Rattle.definitions.specs.Signing.{Fields, fields_data, label_count, signed_octets}
 use Rattle.answer_judge_facts.specs.Times.{Times}
 use Rattle.answer_judge_table.specs.Table.{Checked, Tried, checked, tried}
-use Rattle.witness_laws.specs.Zones.{c_s, d_s, e_s, new_key, old_key, p, parent_key, s, star_e, y_d, y_e, address, ds_data}
+use Rattle.witness_laws.specs.Zones.{c_s, d_s, e_s, new_key, old_key, p, parent_key, s, star_e, y_d, address, ds_data}
 
 -- ---- signatures
 

@@ -1,5 +1,5 @@
 -- A parent that opts out, with two delegations, and a child with a CNAME, a DNAME and a wildcard.
-use Rattle.std.specs.Prelude.{ℕ, true, false, List, [], ◌∷◌, ◌++◌}
+use Rattle.std.specs.Prelude.{ℕ, true, false, List, [], ◌∷◌}
 use Rattle.definitions.specs.Dnskey.{Dnskey, Ds}
 use Rattle.definitions.specs.Name.{Name, wire}
 use Rattle.definitions.specs.ZoneChain.{Nsec, Nsec3}
