@@ -21,3 +21,4 @@ pub mod GivenAliased
 pub mod ShownCase
 pub mod HeldRecords
 pub mod Held
+pub mod HonestShown

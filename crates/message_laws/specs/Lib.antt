@@ -3,4 +3,5 @@ pub mod InPlace
 pub mod Shown
 pub mod Given
 pub mod Held
+pub mod Honest
 pub mod Laws

@@ -1,5 +1,6 @@
 //! Laws of messages that show what a zone answers.
 ghost use Rattle.message_laws.specs.Held.{HeldIsIncluded};
+ghost use Rattle.message_laws.specs.Honest.{HonestIsShown, HonestIsTruthful};
 ghost use Rattle.message_laws.specs.Laws.{AlikeShowsAlike, GivenIsShown};
 ghost use Rattle.message_laws.specs.Laws.{GivenWithAliasesIsShown, ShownInAnyCase, ShownIsSaid};
 
@@ -24,6 +25,14 @@ pub fn what_is_shown_is_said()
 /// zone's answer has no RRset of the question's name and type, none is verified in the message.
 pub fn what_is_held_is_shown()
     ensures { HeldIsIncluded }
+{}
+
+/// Where nothing is forged in messages of a zone that never changed, and whose signer makes no
+/// records of denial for questions, what is verified in them is true of the zone, and of its chain.
+/// So such a message that holds what an accepted zone answers shows that, whoever signed and sent it.
+pub fn what_is_honest_is_shown()
+    ensures truthful { HonestIsTruthful }
+    ensures shown { HonestIsShown }
 {}
 
 /// What a zone has given shows what it answers: a zone without aliases, and one with aliases, also
