@@ -19,8 +19,3 @@ pub mod Aliased
 pub mod Verdict
 pub mod ShownTrees
 pub mod ServedAliases
-pub mod EvidenceNames
-pub mod EvidenceZone
-pub mod EvidenceUnforged
-pub mod EvidenceOfTree
-pub mod EvidenceTold

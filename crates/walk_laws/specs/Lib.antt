@@ -10,4 +10,3 @@ pub mod Served
 pub mod Aliased
 pub mod Verdict
 pub mod Shown
-pub mod Evidence

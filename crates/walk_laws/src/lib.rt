@@ -1,5 +1,4 @@
 //! Laws about a caller that repeats a walk, each time with what the last call wanted.
 #![tactic(auto)]
 
-pub mod evidence;
 pub mod laws;

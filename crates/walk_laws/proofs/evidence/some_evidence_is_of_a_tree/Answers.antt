@@ -1,5 +1,0 @@
-use Rattle.walk_laws.proofs.EvidenceOfTree.{of_tree}
-use Rattle.walk_laws.proofs.evidence.some_evidence_is_of_a_tree.Goals as goal
-
-pub returns : goal.returns
-returns c = of_tree
