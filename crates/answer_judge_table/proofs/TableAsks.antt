@@ -1,7 +1,6 @@
 -- What comes of a judgement that goes on at signatures which a table lacks, as if they passed.
 use Rattle.std.proofs.Common.{◌≡◌, ◌==◌, ℕ, ◌<◌, ◌≤◌, length, arith, Bool, true, false, ◌&&◌, List, [], ◌∷◌, zero, suc, ap, refl, subst, sym, ◌∙◌, inl, inr, ⊎_elim}
-use Rattle.std.specs.Prelude.{Result, IsOk, unwrap_or}
-use Rattle.std.specs.List.{AllByRecursion}
+use Rattle.std.specs.Prelude.{Result, Ok, IfOk, IsOk, unwrap_or}
 use Rattle.std.proofs.lemmas.Bool.{false≢true}
 use Rattle.definitions.specs.Limits.{pointer_limit}
 use Rattle.answer_scheme.specs.Answers.{Answers, SignatureTest, with_test}
@@ -17,6 +16,10 @@ use Rattle.answer_judge_table.specs.Asking.{AgreesAsking, AreAll, AreAsked, AreW
 use Rattle.answer_judge_table.specs.Outcomes.{IsJudgedBy}
 use Rattle.answer_judge_table.specs.Table.{AgreesWith, Checked, Tried, answers_with, may_pass_in, passes_in, tried}
 use Rattle.answer_judge_table.proofs.HonestTable.{stays_honest}
+
+-- what holds of a value, if there is one
+pub in_ok : {A E : Type 0} (r : Result A E) (x : A) → r ≡ Ok x → (P : A → Type 0) → IfOk r P → P x
+in_ok r x is P holds = subst (λ r. IfOk r P) is holds
 
 -- where nothing is asked for, whatever is asked for passes
 pub none_each : (asks : List Tried) (test : SignatureTest) → length asks ≡ 0 → PassesEach asks test

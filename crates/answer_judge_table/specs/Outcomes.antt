@@ -1,5 +1,5 @@
 -- What an outcome is.
-use Rattle.std.specs.Prelude.{◌≡◌, ◌≤◌, ◌+◌, ℕ, Bool, List, Result}
+use Rattle.std.specs.Prelude.{ℕ, Bool, List, Result}
 use Rattle.definitions.specs.Limits.{pointer_limit}
 use Rattle.answer_judge.specs.Judging.{JudgeInput, answer_of, hashes_of}
 use Rattle.answer_judge.specs.declared.verdict.Judgement.{Judgement}
@@ -25,8 +25,7 @@ abbrev pub IsOutcome : List Checked → JudgeInput → Outcome → Type 0
 IsOutcome table h (o.Judged said) = IsJudgedBy table h said
 IsOutcome table h (o.Asks asks) = AreAsked table h asks.items
 
--- How many names have been hashed by then: those before, and where something is said at most those that it counts. While signatures
--- are missing none is hashed.
-abbrev pub CountsHashes : Outcome → ℕ → ℕ → Type 0
-CountsHashes (o.Judged said) before after = after ≤ before + hashes_of said
-CountsHashes (o.Asks asks) before after = after ≡ before
+-- how many names are hashed for it: as many as what is said counts, and while signatures are missing none
+abbrev pub hashes_of_outcome : Outcome → ℕ
+hashes_of_outcome (o.Judged said) = hashes_of said
+hashes_of_outcome (o.Asks asks) = 0

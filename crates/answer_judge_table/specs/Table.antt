@@ -6,7 +6,7 @@ use Rattle.std.specs.Str.{bytes_eq}
 use Rattle.sha2.specs.Sha256.{sha256}
 use Rattle.sha2.specs.Sha512.{sha384}
 use Rattle.definitions.specs.Dnskey.{Dnskey, same_key}
-use Rattle.denial_nsec3_sha1.specs.Iterated.{answered}
+use Rattle.answer_hasher.specs.Iterated.{answered}
 use Rattle.answer_scheme.specs.Answers.{Answers, SignatureTest}
 
 -- a signature, and the key and the octets that it is checked with

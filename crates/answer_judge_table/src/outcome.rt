@@ -7,12 +7,10 @@ ghost use Rattle.answer_judge_table.specs.Table.{is_same_try, tried};
 
 use crate::checked::is_same_key;
 use answer_judge::{Judgement, Refused};
-use answer_scheme::steps::Steps;
 use answer_terms::dnskey::ZoneKey;
 use denial_data::Dnskey;
 use std::alloc::{AllocError, Global};
 use std::marker::Model;
-use std::sync::ledger::Ledger;
 
 /// A signature that is to be checked: whether it passes under the key over the octets.
 #[derive(Debug, Drop)]
@@ -84,6 +82,7 @@ pub(crate) fn note(
     ensures passes { OnOk result ((test : SignatureTest) → PassesEach asks.new.items test
         → PassesEach asks.old.items test × (test key.now octets.now signature.now ≡ true)) }
     ensures one { length asks.new.items ≤ length asks.old.items + 1 }
+    ensures more { length asks.old.items ≤ length asks.new.items }
 {
     if is_among(asks, key, octets, signature) {
         return Ok(());
@@ -100,12 +99,4 @@ pub enum Outcome {
     Judged(Result<Judgement, Refused>),
     /// The table does not have these signatures: with them in it the judgement goes on.
     Asks(Vec<Ask>),
-}
-
-/// What comes of a judgement by a table, and how many names have been hashed.
-#[derive(Drop)]
-pub struct Counted<N: Ledger> {
-    pub outcome: Outcome,
-    /// The names that were counted before, and those of this judgement. It has no bytes.
-    pub hashed: Steps<N>,
 }

@@ -4,85 +4,91 @@ ghost use Rattle.answer_judge_table.specs.Asking.{are_new};
 
 use crate::checked::{CheckedSignature, entry_of};
 use crate::digests::digest;
+use crate::loan::Loan;
 use crate::outcome::{Ask, note};
+use answer_hasher::NameHasher;
 use answer_scheme::steps::Steps;
 use answer_scheme::{Checks, SchemeError};
 use denial_data::Dnskey;
-use denial_nsec3_hash::hasher::{HashError, Nsec3Hasher};
-use denial_nsec3_sha1::hasher::Sha1Hasher;
+use denial_nsec3_hash::hasher::HashError;
 use numbers::algorithm::DigestAlgorithm;
 use std::alloc::{AllocError, Global};
 use std::marker::{Brand, PhantomData};
 use std::sync::ledger::{Blank, Ledger};
 
-/// What a table says, how many names were hashed before, and whether any may be: names for proofs
-/// alone.
+/// What a table says, which hasher is lent beside it, and how many names that had hashed before:
+/// names for proofs alone.
 pub(crate) trait GhostTable {
-    ghost use Rattle.std.specs.Prelude.{Bool, List, ℕ};
+    ghost use Rattle.std.specs.Prelude.{List, ℕ};
     ghost use Rattle.answer_judge_table.specs.Table.{Checked};
 
     ghost table: { List Checked };
 
-    ghost before: { ℕ };
+    ghost hasher: { ℕ };
 
-    ghost may_hash: { Bool };
+    ghost before: { ℕ };
 }
 
 impl GhostTable for Brand {
-    ghost use Rattle.std.specs.Prelude.{[], true};
+    ghost use Rattle.std.specs.Prelude.{[]};
 
     ghost table = { [] };
 
-    ghost before = { 0 };
+    ghost hasher = { 0 };
 
-    ghost may_hash = { true };
+    ghost before = { 0 };
 }
 
 /// The checks of a judge that knows the signatures of a table, makes digests by SHA-2, and hashes
-/// names by SHA-1. A signature that the table does not have passes, and is kept: whatever agrees
-/// with the table and passes what was kept agrees with all that was answered.
+/// names by SHA-1 with what it is lent. A signature that the table does not have passes, and is
+/// kept: whatever agrees with the table and passes what was kept agrees with all that was answered.
 ///
 /// While something is kept no name is hashed: a message's NSEC3 records cost hashes only once their
-/// signatures have passed (CVE-2023-50868). Checks that may not hash hash none at all.
+/// signatures have passed (CVE-2023-50868).
 #[derive(Drop)]
-pub(crate) struct TableChecks<'t, 's, T: GhostTable, L: Ledger, M: Ledger, N: Ledger> {
+pub(crate) struct TableChecks<'t, 's, 'h, T: GhostTable, L: Ledger, M: Ledger, H: NameHasher> {
     alloc: Global,
     table: &'t [CheckedSignature<'s>],
     asks: Vec<Ask>,
     /// Whether there was memory to keep all.
     kept: Result<(), AllocError>,
     verified: Steps<L>,
+    /// The names that were to be hashed. The hasher counts those that it hashed.
     hashed: Steps<M>,
-    /// The names that were hashed. Beside them `hashed` counts those that were to be.
-    made: Steps<N>,
-    /// Whether names may be hashed where nothing is kept.
-    may_hash: bool,
+    hasher: &'h mut H,
     /// Whether a name was hashed.
     has_hashed: bool,
     told: PhantomData<T>,
     ghost is_table: { table.now ≡ T.table },
     ghost are_new: { are_new T.table asks.items ≡ true },
     ghost counted: { length asks.items ≤ verified },
-    ghost none_yet: { has_hashed ≡ false → made ≡ T.before },
-    ghost unhashed: { 0 < length asks.items → made ≡ T.before },
-    ghost few: { made ≤ T.before + hashed },
-    ghost may: { may_hash ≡ T.may_hash },
-    ghost never: { T.may_hash ≡ false → made ≡ T.before },
+    ghost is_hasher: { hasher.ghost_name ≡ T.hasher },
+    ghost none_yet: { has_hashed ≡ false → H.hashed hasher.now ≡ T.before },
+    ghost unhashed: { 0 < length asks.items → H.hashed hasher.now ≡ T.before },
+    ghost all: { length asks.items ≡ 0 → H.hashed hasher.now ≡ T.before + hashed },
+    ghost few: { H.hashed hasher.now ≤ T.before + hashed },
 }
 
-impl<'t, 's, T: GhostTable, L: Ledger, M: Ledger, N: Ledger> TableChecks<'t, 's, T, L, M, N> {
+impl<'t, 's, 'h, T: GhostTable, L: Ledger, M: Ledger, H: NameHasher> TableChecks<
+    't,
+    's,
+    'h,
+    T,
+    L,
+    M,
+    H,
+> {
     /// The checks of a table, of which nothing was asked yet. The counts of calls begin at 0.
     pub(crate) fn new(
         alloc: Global,
         table: &'t [CheckedSignature<'s>],
-        made: Steps<N>,
-        may_hash: bool,
+        loan: Loan<'h, H>,
         first: Blank,
         second: Blank,
     ) -> Self
         requires table { table.now ≡ T.table }
-        requires before { made ≡ T.before }
-        requires may { may_hash ≡ T.may_hash }
+        requires lent { loan.hasher.ghost_name ≡ T.hasher }
+        requires before { H.hashed loan.hasher.now ≡ T.before }
         requires name { first.name ≡ L.name }
         requires parts { first.parts ≡ L.parts }
         requires some { 0 < L.parts }
@@ -93,6 +99,7 @@ impl<'t, 's, T: GhostTable, L: Ledger, M: Ledger, N: Ledger> TableChecks<'t, 's,
         ensures verified { result.verified ≡ 0 }
         ensures hashed { result.hashed ≡ 0 }
     {
+        let Loan { hasher } = loan;
         TableChecks {
             alloc,
             table,
@@ -100,46 +107,58 @@ impl<'t, 's, T: GhostTable, L: Ledger, M: Ledger, N: Ledger> TableChecks<'t, 's,
             kept: Ok(()),
             verified: Steps::<L>::new(first),
             hashed: Steps::<M>::new(second),
-            made,
-            may_hash,
+            hasher,
             has_hashed: false,
             told: PhantomData,
         }
     }
 
-    /// What the table lacked, if there was memory to keep all. Where it lacked anything, no name
-    /// was hashed.
-    pub(crate) fn into_lacking(self) -> Result<Lacking<N>, AllocError>
-        ensures new { IfOk result (λ v. are_new T.table v.asks.items ≡ true) }
-        ensures counted { IfOk result (λ v. length v.asks.items ≤ self.entry.verified) }
-        ensures asks { IfOk result (λ v. v.asks.items ≡ self.entry.asks.items) }
-        ensures kept { IfOk result (λ _. IsOk self.entry.kept) }
-        ensures unhashed { IfOk result (λ v. 0 < length v.asks.items → v.hashed ≡ T.before) }
-        ensures few { IfOk result (λ v. v.hashed ≤ T.before + self.entry.hashed) }
-        ensures never { IfOk result (λ v. T.may_hash ≡ false → v.hashed ≡ T.before) }
+    /// What the table lacked, if there was memory to keep all, and what was lent. Where it lacked
+    /// anything, no name was hashed; else as many as were to be.
+    pub(crate) fn into_lacking(self) -> Lacking<'h, H>
+        ensures new { IfOk result.asks (λ v. are_new T.table v.items ≡ true) }
+        ensures counted { IfOk result.asks (λ v. length v.items ≤ self.entry.verified) }
+        ensures asks { IfOk result.asks (λ v. v.items ≡ self.entry.asks.items) }
+        ensures kept { IfOk result.asks (λ _. IsOk self.entry.kept) }
+        ensures same { result.loan.hasher.ghost_name ≡ T.hasher }
+        ensures unhashed { IfOk result.asks
+            (λ v. 0 < length v.items → H.hashed result.loan.hasher.now ≡ T.before) }
+        ensures all { IfOk result.asks (λ v. length v.items ≡ 0
+            → H.hashed result.loan.hasher.now ≡ T.before + self.entry.hashed) }
+        ensures few { H.hashed result.loan.hasher.now ≤ T.before + self.entry.hashed }
     {
         let TableChecks {
             asks,
             kept,
-            made,
+            hasher,
             ..
         } = self;
-        kept?;
-        Ok(Lacking { asks, hashed: made })
+        Lacking {
+            asks: kept_asks(asks, kept),
+            loan: Loan { hasher },
+        }
     }
 }
 
-/// The signatures that a table lacks, and how many names have been hashed.
-#[derive(Drop)]
-pub struct Lacking<N: Ledger> {
-    /// The signatures that are to be checked.
-    pub asks: Vec<Ask>,
-    /// The count of the names that were hashed.
-    pub hashed: Steps<N>,
+/// What was kept, if all was.
+fn kept_asks(asks: Vec<Ask>, kept: Result<(), AllocError>) -> Result<Vec<Ask>, AllocError>
+    ensures asks { IfOk result (λ v. v.items ≡ asks.items) }
+    ensures kept { IfOk result (λ _. IsOk kept) }
+{
+    kept?;
+    Ok(asks)
 }
 
-impl<'t, 's, T: GhostTable, L: Ledger, M: Ledger, N: Ledger> Checks
-    for TableChecks<'t, 's, T, L, M, N> {
+/// The signatures that a table lacks, if there was memory to keep all, and what was lent.
+#[derive(Drop)]
+pub(crate) struct Lacking<'h, H: NameHasher> {
+    /// The signatures that are to be checked.
+    pub(crate) asks: Result<Vec<Ask>, AllocError>,
+    pub(crate) loan: Loan<'h, H>,
+}
+
+impl<'t, 's, 'h, T: GhostTable, L: Ledger, M: Ledger, H: NameHasher> Checks
+    for TableChecks<'t, 's, 'h, T, L, M, H> {
     ghost use Rattle.answer_judge_table.specs.Asking.{AgreesAsking, PassesEach};
     ghost use Rattle.answer_judge_table.specs.Table.{answers_with, may_pass_in};
 
@@ -190,11 +209,10 @@ impl<'t, 's, T: GhostTable, L: Ledger, M: Ledger, N: Ledger> Checks
         salt: &[u8],
     ) -> Result<Vec<u8>, HashError> {
         self.hashed.tick();
-        if !self.may_hash || !self.asks.is_empty() {
+        if !self.asks.is_empty() {
             return Err(HashError::Memory);
         }
         self.has_hashed = true;
-        self.made.tick();
-        Sha1Hasher.hash(alloc, name, algorithm, iterations, salt)
+        self.hasher.hash(alloc, name, algorithm, iterations, salt)
     }
 }

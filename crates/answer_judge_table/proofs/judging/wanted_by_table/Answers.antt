@@ -6,11 +6,11 @@ use Rattle.answer_judge.specs.Judging.{answer_of, hashes_of, verifications_of}
 use Rattle.answer_judge.specs.Meeting.{IsJudgement}
 use Rattle.answer_judge_table.specs.Asking.{PassesEach, is_cut_short}
 use Rattle.answer_judge_table.specs.Table.{answers_with, may_pass_in}
-use Rattle.answer_judge_table.proofs.TableAsks.{are_wanted, whole}
+use Rattle.answer_judge_table.proofs.TableAsks.{are_wanted, in_ok, whole}
 use Rattle.answer_judge_table.proofs.judging.wanted_by_table.Goals as goal
 
-pub returns-clause-asks : goal.returns-clause-asks
-returns-clause-asks g c =
+pub returns-in-Ok : goal.returns-in-Ok
+returns-in-Ok g c =
     let table = g.T.GhostTable.table in
     let h = c.args.case.now in
     let e = c.judge-said.ensures in
@@ -20,17 +20,17 @@ returns-clause-asks g c =
     let answer = answer_of c.judge-said.result in
     let count = verifications_of c.judge-said.result in
     let hashes = hashes_of c.judge-said.result in
-    let asks = c.in_ok-lacking.lacking.asks.items in
+    let asks = c.in-Ok.asks.items in
+    let all_kept = in_ok _ _ c.in-Ok.is _ c.into_lacking-asks.ensures.kept in
+    let same = in_ok _ _ c.in-Ok.is _ c.into_lacking-asks.ensures.asks in
+    let new = in_ok _ _ c.in-Ok.is _ c.into_lacking-asks.ensures.new in
+    let counted = in_ok _ _ c.in-Ok.is _ c.into_lacking-asks.ensures.counted in
     let is_tried : SignatureTest = is_tried_signature own pointer_limit h in
     let each = e.asked is_tried (λ key octets signature t. t) (subst (λ xs. PassesEach xs is_tried) (sym c.new-checks.ensures.asks) tt) in
     let on : is_cut_short answer hashes ≡ false = sym c.is_cut_short.ensures ∙ c.if-is_cut_short.false in
     let mine : IsJudgement pointer_limit own h answer count hashes = record { keeps = e.judges; exact = e.exact; counts = e.counts; hash_counts = e.hash_counts; given = e.given; honest = e.honest; timely = e.timely } in
     let is = whole table h held kept answer count hashes mine (λ test agrees. (e.agreeing test agrees).1) on e.decided in
-    are_wanted table h held kept count is c.in_ok-lacking.ensures.kept asks c.in_ok-lacking.ensures.asks c.judge-said.new.checks.verified c.in_ok-lacking.ensures.new c.in_ok-lacking.ensures.counted
+    are_wanted table h held kept count is all_kept asks same c.judge-said.new.checks.verified new counted
     (omega (arith, e.verified, c.new-checks.ensures.verified))
     e.judges.verifications_bound
-    (subst (λ xs. PassesEach xs is_tried) (sym c.in_ok-lacking.ensures.asks) each)
-
--- nothing was hashed
-pub returns-clause-unhashed : goal.returns-clause-unhashed
-returns-clause-unhashed g c = c.in_ok-lacking.ensures.never c.requires.may ∙ sym c.requires.before
+    (subst (λ xs. PassesEach xs is_tried) (sym same) each)

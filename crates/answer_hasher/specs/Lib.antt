@@ -1,0 +1,1 @@
+pub use Rattle.denial_nsec3_sha1.specs.Iterated
