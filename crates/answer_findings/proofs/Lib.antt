@@ -5,4 +5,6 @@ pub mod Beside
 pub mod Truly
 pub mod Within
 pub mod Searched
+mod Hashed
+pub mod CutNames
 pub use Rattle.answer_judge_table.proofs.AsksGrow

@@ -1,10 +1,10 @@
 -- The bounds of a search.
-use Rattle.std.proofs.Common.{◌≡◌, ◌≤◌, ◌+◌, ◌*◌, ℕ, Bool, true, false, ◌&&◌, ◌||◌, not, length, List, Option, Some, None, Result, refl, ap, subst, sym, arith, inl, inr}
+use Rattle.std.proofs.Common.{◌≡◌, ◌≤◌, ◌+◌, ◌*◌, ℕ, Bool, true, false, ◌&&◌, ◌||◌, not, length, List, Option, Some, None, Result, refl, ap, subst, sym, ◌∙◌, arith, inl, inr}
 use Rattle.std.specs.Prelude.{◌==◌, if◌then◌else◌, unwrap_or}
 use Rattle.std.specs.Option.{is_some}
 use Rattle.std.proofs.lemmas.Bool.{and_parts}
 use Rattle.definitions.specs.Limits.{pointer_limit}
-use Rattle.definitions.specs.Name.{at_or_above, strictly_above}
+use Rattle.definitions.specs.Name.{strictly_above}
 use Rattle.definitions.proofs.ZoneNames.{above_longer}
 use Rattle.messages.specs.Message.{Asked}
 use Rattle.answer_judge.specs.Judging.{Answer, JudgeInput, answer_of, hash_bound, hashes_of, verification_bound, verifications_of}
@@ -16,7 +16,7 @@ use Rattle.answer_findings.specs.declared.meaning.AnswerOutcome.{AnswerOutcome}
 use Rattle.answer_findings.specs.declared.meaning.AnswerOutcome.TheVariants as f
 use Rattle.answer_findings.specs.declared.side_judgements.Judgements.{Judgements}
 use Rattle.answer_findings.specs.declared.side_judgements.SideJudgement.{SideJudgement}
-use Rattle.answer_findings.specs.Found.{AreAskedLater, AreJudgements, IsBeside, IsFound, IsFoundWithin, IsSoughtAtCut, IsSoughtBehind, IsWithinBounds}
+use Rattle.answer_findings.specs.Found.{AreJudgements, IsBeside, IsFound, IsFoundWithin, IsSoughtAtCut, IsSoughtBehind, IsWithinBounds, hash_bound_aside}
 use Rattle.answer_findings.specs.Judgements.{IsMadeOf, alias_hint, alias_question, aside, asking, cut_question, ds_question, is_unproven, ns_question, question_of, says_delegated, says_no_type, seeks_delegation}
 use Rattle.answer_findings.specs.Seen.{hashed_by, hashed_in, lead_found, verified_by, verified_in}
 use Rattle.answer_findings.proofs.Beside.{SeeksCut, cname_beside, cut_ds_beside, cut_ns_beside, dname_beside, name_ns_beside, seeks_alias, seeks_cut}
@@ -34,7 +34,7 @@ module _ (h : JudgeInput) (asked : Asked) where
         | inr c ↦ subst (IsBeside h) c.is (cname_beside h c.inside)
       ]
 
-  ns_beside : (own : Answer) → ns_question pointer_limit h own ≡ Some asked → IsBeside h asked
+  pub ns_beside : (own : Answer) → ns_question pointer_limit h own ≡ Some asked → IsBeside h asked
   ns_beside own e = go (says_delegated own) (seeks_delegation h own) refl e
     where
       go : (b c : Bool) → seeks_delegation h own ≡ c
@@ -78,6 +78,30 @@ made_within table h wanted (Some m) is beside =
 none_within : (h : JudgeInput) (made : Option SideJudgement) → made ≡ None → InBounds h (verified_in made) (hashed_in made)
 none_within h None e = (omega arith, omega arith)
 none_within h (Some m) e = absurd cc
+
+-- ---- the names that are hashed for a question beside
+
+-- no more than for the case's own
+beside_bound : (h : JudgeInput) (wanted : Option Asked) → ((asked : Asked) → wanted ≡ Some asked → IsBeside h asked) → hash_bound_aside h wanted ≤ hash_bound h
+beside_bound h None beside = omega arith
+beside_bound h (Some asked) beside =
+    let shorter : length asked.name ≤ length h.asked.name = above_longer asked.name h.asked.name (beside asked refl).above in
+    omega (arith, shorter)
+
+module _ (h : JudgeInput) (question : Option Asked) (old new : ℕ) (few : new ≤ old + hash_bound_aside h question) where
+  within_own : (wanted : Option Asked) → question ≡ wanted → ((asked : Asked) → wanted ≡ Some asked → IsBeside h asked) → new ≤ old + hash_bound h
+  within_own wanted e beside =
+      let most : hash_bound_aside h question ≤ hash_bound h = beside_bound h question (λ asked is. beside asked (sym e ∙ is)) in
+      omega (arith, few, most)
+
+  pub alias_bound : (own : Answer) → question ≡ alias_question pointer_limit h own → new ≤ old + hash_bound h
+  alias_bound own e = within_own (alias_question pointer_limit h own) e (λ asked is. alias_beside h asked own is)
+
+  pub ns_bound : (own : Answer) → question ≡ ns_question pointer_limit h own → new ≤ old + hash_bound h
+  ns_bound own e = within_own (ns_question pointer_limit h own) e (λ asked is. ns_beside h asked own is)
+
+  pub ds_bound : (own : Answer) (leads : Bool) → question ≡ ds_question pointer_limit h own leads → new ≤ old + hash_bound h
+  ds_bound own leads e = within_own (ds_question pointer_limit h own leads) e (λ asked is. ds_beside h asked own leads is)
 
 -- ---- all of them
 

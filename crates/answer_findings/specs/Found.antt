@@ -1,22 +1,19 @@
 -- What a search comes to.
-use Rattle.std.specs.Prelude.{◌≡◌, ◌⊎◌, ℕ, ◌*◌, ◌≤◌, Bool, true, List, [], Option, None, Result, Ok, Err}
+use Rattle.std.specs.Prelude.{◌≡◌, ◌⊎◌, ℕ, ◌*◌, ◌≤◌, true, List, [], Option, None, Some, Result, Ok, Err}
 use Rattle.std.specs.Option.{is_some}
 use Rattle.definitions.specs.Limits.{pointer_limit}
 use Rattle.definitions.specs.Name.{at_or_above}
 use Rattle.messages.specs.Message.{Asked}
 use Rattle.answer_judge.specs.Judging.{JudgeInput, answer_of, hash_bound, verification_bound}
-use Rattle.answer_judge.specs.declared.verdict.Judgement.{Judgement}
 use Rattle.answer_judge_facts.specs.declared.validity.Validity.{Validity}
 use Rattle.answer_judge.specs.declared.verdict.Refusal.{Refusal}
-use Rattle.answer_judge.specs.declared.verdict.Refused.{Refused}
 use Rattle.answer_judge_table.specs.Asking.{AreAsked}
 use Rattle.answer_judge_table.specs.Outcomes.{IsJudgedBy}
 use Rattle.answer_judge_table.specs.Table.{Checked, Tried}
 use Rattle.answer_findings.specs.declared.meaning.AnswerOutcome.{AnswerOutcome}
 use Rattle.answer_findings.specs.declared.meaning.AnswerOutcome.TheVariants as f
 use Rattle.answer_findings.specs.declared.side_judgements.Judgements.{Judgements}
-use Rattle.answer_findings.specs.declared.side_judgements.SideJudgement.{SideJudgement}
-use Rattle.answer_findings.specs.Judgements.{AreAskedAside, AreWantedAside, IsMadeOf, alias_question, ds_question, first_question, ns_question}
+use Rattle.answer_findings.specs.Judgements.{aside, AreAskedAside, AreWantedAside, IsMadeOf, alias_question, ds_question, first_question, ns_question}
 use Rattle.answer_findings.specs.Lasts.{validity_by, validity_found, validities_of}
 use Rattle.answer_findings.specs.Seen.{Seen, found_by, hashed_by, lead_found, seen, verified_by}
 
@@ -107,7 +104,18 @@ IsFound table h (f.Means meaning validity verifications hashes) = IsFoundBy tabl
 IsFound table h (f.Refused refusal verifications hashes) = IsFoundBy table h (Err refusal) None verifications hashes
 IsFound table h (f.Asks asks verifications hashes) = AreAskedFor table h asks.items verifications hashes
 
+-- how many names are hashed for it
+abbrev pub hashes_found : AnswerOutcome → ℕ
+hashes_found (f.Means meaning validity verifications hashes) = hashes
+hashes_found (f.Refused refusal verifications hashes) = hashes
+hashes_found (f.Asks asks verifications hashes) = hashes
+
 -- ---- bounds of a call
+
+-- no more names are hashed for the judgement of a question, if one is wanted
+abbrev pub hash_bound_aside : JudgeInput → Option Asked → ℕ
+hash_bound_aside h None = 0
+hash_bound_aside h (Some asked) = hash_bound (aside h asked)
 
 -- At most four judgements are made, each in the bounds of one: no more signatures than both messages have, no more names than the
 -- question's has labels, the root's counted, and one.

@@ -151,6 +151,11 @@ abbrev pub hashed_in : Option SideJudgement → ℕ
 hashed_in None = 0
 hashed_in (Some m) = hashes_of m.said
 
+-- for a judgement that is made; for signatures that it wants none
+abbrev pub hashed_aside : {E : Type 0} → Result (Option SideJudgement) E → ℕ
+hashed_aside (Ok made) = hashed_in made
+hashed_aside (Err asks) = 0
+
 -- those that are made before that of DS
 abbrev pub judgements_up_to : Result Judgement Refused → Option SideJudgement → Option SideJudgement → Judgements
 judgements_up_to own alias ns = record { own = own; alias = alias; ns = ns; ds = None }

@@ -1,14 +1,16 @@
 //! Judgements of the same messages for other questions.
-ghost use Rattle.std.specs.Prelude.{◌≡◌, IfOk, MatchResult};
+ghost use Rattle.std.specs.Prelude.{◌≡◌, ◌+◌, ◌≤◌, IfOk, MatchResult};
 ghost use Rattle.std.specs.Option.{option_map};
 ghost use Rattle.messages.specs.Questions.{asked_of};
-ghost use Rattle.answer_judge.specs.Judging.{answer_of};
+ghost use Rattle.answer_judge.specs.Judging.{answer_of, hash_bound};
 ghost use Rattle.answer_judge_table.specs.Asking.{AreWanted};
 ghost use Rattle.answer_judge_table.specs.Decided.{is_out_of_memory};
-ghost use Rattle.answer_judge_table.specs.Outcomes.{IsOutcome};
+ghost use Rattle.answer_judge_table.specs.Outcomes.{IsOutcome, hashes_of_outcome};
+ghost use Rattle.answer_findings.specs.Found.{hash_bound_aside};
 ghost use Rattle.answer_findings.specs.Judgements.{AreAskedAside, AreWantedAside, IsMadeOf, aside};
-ghost use Rattle.answer_findings.specs.Seen.{judgements_up_to};
+ghost use Rattle.answer_findings.specs.Seen.{hashed_aside, judgements_up_to};
 
+use answer_hasher::NameHasher;
 use answer_judge_table::{
     Ask, Case, CheckedSignature, Judgement, Outcome, Refusal, Refused, asks_by_table,
     judge_by_table,
@@ -53,20 +55,25 @@ impl Judgements {
 
 /// Judges a case's messages for another question, if there is one; or says which signatures that
 /// wants.
-pub(crate) fn judge_other_question(
+pub(crate) fn judge_other_question<H: NameHasher>(
     alloc: Global,
     case: &Case,
     table: &[CheckedSignature],
     question: Option<Question>,
+    hasher: &mut H,
 ) -> Result<Result<Option<SideJudgement>, Vec<Ask>>, AllocError>
-    ensures { let wanted = option_map asked_of question in
+    ensures made { let wanted = option_map asked_of question in
         IfOk result (λ r. MatchResult r (IsMadeOf table.now case.now wanted)
         (λ asks. AreAskedAside table.now case.now wanted asks.items)) }
+    ensures hashed { IfOk result
+        (λ r. H.hashed hasher.new ≡ H.hashed hasher.old + hashed_aside r) }
+    ensures bound { let most = hash_bound_aside case.now (option_map asked_of question) in
+        H.hashed hasher.new ≤ H.hashed hasher.old + most }
 {
     let Some(question) = question else {
         return Ok(Ok(None));
     };
-    match outcome_aside(alloc, case, table, &question)? {
+    match outcome_aside(alloc, case, table, &question, hasher)? {
         Outcome::Judged(said) if ran_out(&said) => Err(AllocError),
         Outcome::Judged(said) => Ok(Ok(Some(SideJudgement { question, said }))),
         Outcome::Asks(asks) => Ok(Err(asks)),
@@ -115,16 +122,21 @@ fn wanted_aside(
 }
 
 /// What comes of a judgement of a case's messages for another question.
-fn outcome_aside(
+fn outcome_aside<H: NameHasher>(
     alloc: Global,
     case: &Case,
     table: &[CheckedSignature],
     question: &Question,
+    hasher: &mut H,
 ) -> Result<Outcome, AllocError>
-    ensures { let h = aside case.now (asked_of question.now) in
+    ensures outcome { let h = aside case.now (asked_of question.now) in
         IfOk result (λ o. IsOutcome table.now h o) }
+    ensures hashed { IfOk result
+        (λ o. H.hashed hasher.new ≡ H.hashed hasher.old + hashes_of_outcome o) }
+    ensures bound { let h = aside case.now (asked_of question.now) in
+        H.hashed hasher.new ≤ H.hashed hasher.old + hash_bound h }
 {
-    judge_by_table(alloc, &case_for(case, question), table)
+    judge_by_table(alloc, &case_for(case, question), table, hasher)
 }
 
 /// A case of the same messages for another question, which need not be the one that was asked.
