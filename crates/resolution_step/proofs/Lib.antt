@@ -2,3 +2,4 @@ pub mod Bound
 pub mod Truly
 pub mod Staying
 pub mod Downward
+pub mod Hashed

@@ -2,6 +2,7 @@ pub mod KnownDs
 pub mod Counted
 pub mod Work
 pub mod Told
+pub mod Hashed
 pub mod Truth
 pub mod Proved
 pub use Rattle.answer_findings.specs.Table

@@ -1,6 +1,7 @@
 //! What a message tells of a delegation at a name.
-ghost use Rattle.std.specs.Prelude.{◌≡◌, [], IfOk};
+ghost use Rattle.std.specs.Prelude.{◌≡◌, ◌+◌, ◌*◌, ◌≤◌, [], IfOk};
 ghost use Rattle.definitions.specs.Name.{low};
+ghost use Rattle.answer_judge.specs.Judging.{hash_bound};
 ghost use Rattle.answer_judge_rules.specs.Rules.{verdict_of};
 ghost use Rattle.answer_findings.specs.Seen.{seen};
 ghost use Rattle.resolution_step.specs.Told.{IsCutFound, IsJudgedCut, TellsUnsigned};
@@ -14,12 +15,13 @@ use crate::work::work_of;
 use answer_findings::{
     AnswerOutcome, Case, CheckedSignature, DataList, Meaning, Verdict, judge_answer,
 };
+use answer_hasher::NameHasher;
 use messages::names::Name;
 use std::alloc::{AllocError, Global};
 
 /// Says what a message tells of a delegation at a name, which a case asks DS for. It is the way
 /// down, or unsigned, or there is none at the name or above it. With it comes how long that lasts,
-/// and how often was verified and hashed for it.
+/// and how often was verified and hashed for it, by the hasher that is lent.
 ///
 /// A name without DS is a delegation only where NS records show it: an empty set alone is not
 /// insecure. An alias at the name means that no delegation is there (RFC 4035, 3.1.4.1). Where the
@@ -28,17 +30,21 @@ use std::alloc::{AllocError, Global};
 ///
 /// Where nothing in the messages is forged this is so of the zone, if it is in order, has DS
 /// records at delegations alone and does not change.
-pub fn cut_step(
+pub fn cut_step<H: NameHasher>(
     alloc: Global,
     case: &Case,
     table: &[CheckedSignature],
     algorithms: &[u8],
+    hasher: &mut H,
 ) -> Result<JudgedStep, AllocError>
     ensures told { IfOk result (IsJudgedCut algorithms.now table.now case.now) }
     ensures honest { let h = case.now in
         IfOk result (λ t. TellsCutTruly algorithms.now table.now h (told t.step)) }
+    ensures hashed { IfOk result
+        (λ t. H.hashed hasher.new ≡ H.hashed hasher.old + t.counts.hashes) }
+    ensures bound { H.hashed hasher.new ≤ H.hashed hasher.old + 4 * hash_bound case.now }
 {
-    let found = judge_answer(alloc, case, table)?;
+    let found = judge_answer(alloc, case, table, hasher)?;
     let work = work_of(case);
     cut_of_outcome(alloc, algorithms, &case.question.name, work, found)
 }
