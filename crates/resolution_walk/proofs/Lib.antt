@@ -7,3 +7,4 @@ pub mod Truly
 pub mod Staying
 pub mod Bounded
 pub mod Once
+pub mod Hashed

@@ -16,7 +16,7 @@ use Rattle.evidence_laws.specs.Lasts.{least_of}
 use Rattle.evidence_laws.specs.Told.{StepSeen, TellsDown, IsJudgedCut, IsJudgedStep, at_cut, told}
 use Rattle.evidence_laws.specs.Walking.{IsNameStep, IsOwnStep, ds_at, is_asked_of, renamed}
 use Rattle.resolution_walk.specs.Ended.{said_of, validity_said}
-use Rattle.resolution_walk.specs.Between.{AreAllUncut, DownToName, DownToMissing, AreUncut, AreUncutBelow, AtZone, Itself, Next, IsAnswerUntold, IsBetween, IsNothing, IsReached, IsToldFor, IsUnanswered, LiesBetween, are_keys_refused, is_itself, lacked_memory}
+use Rattle.resolution_walk.specs.Between.{AreAllUncut, DownToName, DownToMissing, AreUncut, AtZone, Itself, Next, IsAnswerUntold, IsBetween, IsNothing, IsReached, IsToldFor, IsUnanswered, LiesBetween, are_keys_refused, is_itself, lacked_memory}
 use Rattle.resolution_walk.specs.Judged.{AreJudged, NotJudged, ByAnswer, OfKeys, Between, AreJudgedBetween, Throughout, UpTo, AndNext, IsCountedBehind, IsCountedBetween, IsHeardThere, IsJudgedAt, IsJudgedFor, IsLast, IsToldCut, IsToldWay, IsUncut, IsUncutTold, asks_more, asks_of, counts_in, counts_of, is_asking, is_nothing, is_uncut}
 use Rattle.resolution_walk.specs.Stopping.{EndsAt, EndsHere, IsAliasOf, IsCounted, IsLed, IsNoAlias, IsStop, IsStopped, IsHopUntold, IsHopTo, Stops, Here, Below, TooDeep, StopsBehind, AtOnce, TooMany, Led, StopsBelow, NoneLeft, OneLess, StopsBelowIn, StopsIn, StopsWithin, HopStops, WantsLacking, ending_within}
 use Rattle.resolution_walk.specs.Query.{Query}

@@ -1,5 +1,5 @@
 -- What a walk ends in is what the tree says.
-use Rattle.std.proofs.Common.{◌≡◌, ℕ, length, Bool, true, false, List, [], Option, Some, None, inl, refl, sym, subst}
+use Rattle.std.proofs.Common.{◌≡◌, ℕ, length, Bool, true, false, List, Option, Some, None, inl, refl, sym, subst}
 use Rattle.std.specs.Prelude.{nat_lt, if◌then◌else◌, IfSome}
 use Rattle.definitions.specs.Dnskey.{Ds}
 use Rattle.definitions.specs.Name.{Name}
@@ -17,7 +17,7 @@ use Rattle.evidence_laws.proofs.Truly.{IsDown, down_so, follows_so, named_so, ow
 use Rattle.resolution_walk.specs.Ended.{IsWalked, said_of}
 use Rattle.resolution_walk.specs.Judged.{IsHeard, OfAnswer, OfName}
 use Rattle.resolution_walk.specs.Stopping.{EndsAt, Stops, Here, Below, TooDeep, StopsBehind, AtOnce, Elsewhere, TooMany, Led, StopsWithin, ending_within}
-use Rattle.resolution_walk.specs.Truth.{AreOfCut, HasDsTruly, LeadsDown, There, Further, WalksTruly, last_of}
+use Rattle.resolution_walk.specs.Truth.{AreOfCut, HasDsTruly, There, Further, WalksTruly, last_of}
 use Rattle.resolution_walk.specs.declared.ending.Ending.{Ending}
 use Rattle.resolution_walk.specs.declared.ending.Ending.TheVariants as ends
 use Rattle.resolution_walk.specs.declared.ending.Walk.{Walk}

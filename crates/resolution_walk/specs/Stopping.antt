@@ -1,5 +1,5 @@
 -- Where a walk stops, which messages it wants there or which answer tells nothing, and how often was verified and hashed on the way.
-use Rattle.std.specs.Prelude.{◌≡◌, ℕ, suc, true, false, List, [], ◌∷◌, ◌++◌, length, nat_lt, if◌then◌else◌, Option, Some, None}
+use Rattle.std.specs.Prelude.{◌≡◌, ℕ, suc, true, false, List, [], ◌∷◌, ◌++◌, length, nat_lt, if◌then◌else◌, Option, Some, None, Result, Ok, Err}
 use Rattle.definitions.specs.Dnskey.{Ds}
 use Rattle.definitions.specs.Name.{Name}
 use Rattle.denial_laws.specs.Leading.{To}
@@ -129,6 +129,11 @@ pub record IsAliasOf (end : End) (t : Target) : Type 0 where
   pub says : said_of end.ending ≡ Some (Leads (To t.name))
   pub lasts : t.validity ≡ end.validity
   pub counts_are : t.counts ≡ end.counts
+
+-- the counts there
+abbrev pub counts_at : Result Target End → Counts
+counts_at (Ok t) = t.counts
+counts_at (Err end) = end.counts
 
 abbrev pub IsNoAlias : End → End → Type 0
 IsNoAlias end x = (x ≡ end) × (leads_to (said_of x.ending) ≡ None)

@@ -1,10 +1,11 @@
 //! Where the messages of a zone lead.
 ghost use Rattle.std.specs.Prelude.{◌≡◌, IfErr, IfOk, MatchResult};
+ghost use Rattle.evidence_laws.specs.Counted.{CountsHashes, plus};
 ghost use Rattle.evidence_laws.specs.Given.{IsOf};
 ghost use Rattle.evidence_laws.specs.Told.{told};
 ghost use Rattle.resolution_walk.specs.Between.{IsAnswerUntold, IsNothing};
 ghost use Rattle.resolution_walk.specs.Between.{are_keys_refused, is_of_keys};
-ghost use Rattle.resolution_walk.specs.Judged.{IsCountedBehind, IsLast, IsToldWay};
+ghost use Rattle.resolution_walk.specs.Judged.{IsCountedBehind, IsLast, IsToldWay, counts_in};
 ghost use Rattle.resolution_walk.specs.Stopping.{IsCounted, IsStop, IsHopUntold};
 
 use crate::ending::{JudgedHop, Uncut};
@@ -12,6 +13,7 @@ use crate::evidence::Evidence;
 use crate::names_between::search_down_to;
 use crate::place::{case_of, judged_hop, own_step, untold, wanting};
 use crate::query::ZoneQuery;
+use answer_hasher::NameHasher;
 use evidence_laws::{Case, Counts, JudgedStep, Refusal, Step};
 use std::alloc::{AllocError, Global};
 
@@ -27,34 +29,40 @@ struct Unanswered {
 /// Where the messages of a zone lead with a question: by the answer to it, and where that tells
 /// nothing of the way, by answers for DS at the names between. What is counted so far comes with
 /// it.
-pub(crate) fn in_zone(
+pub(crate) fn in_zone<H: NameHasher>(
     alloc: Global,
     evidence: &Evidence,
     query: &ZoneQuery,
     counts: Counts,
+    hasher: &mut H,
 ) -> Result<JudgedHop, AllocError>
     ensures stops { IfOk result (IsStop evidence.now query.now) }
     ensures counted { IfOk result (IsCounted evidence.now query.now counts) }
+    ensures hashed { let hashes = CountsHashes (H.hashed hasher.old) (H.hashed hasher.new) in
+        IfOk result (λ t. hashes counts.hashes t.counts.hashes) }
 {
     match case_of(evidence, query.zone, query.ds, query.question) {
-        Some(case) => by_answer(alloc, evidence, query, &case, counts),
+        Some(case) => by_answer(alloc, evidence, query, &case, counts, hasher),
         None => wanting(alloc, evidence, query.zone, query.question, counts),
     }
 }
 
 /// Where the answer to the question leads, or answers for DS where that tells nothing of the way.
-fn by_answer(
+fn by_answer<H: NameHasher>(
     alloc: Global,
     evidence: &Evidence,
     query: &ZoneQuery,
     case: &Case,
     counts: Counts,
+    hasher: &mut H,
 ) -> Result<JudgedHop, AllocError>
     requires { let q = query.now in IsOf evidence.now q.zone q.ds q.asked case.now }
     ensures stops { IfOk result (IsStop evidence.now query.now) }
     ensures counted { IfOk result (IsCounted evidence.now query.now counts) }
+    ensures hashed { let hashes = CountsHashes (H.hashed hasher.old) (H.hashed hasher.new) in
+        IfOk result (λ t. hashes counts.hashes t.counts.hashes) }
 {
-    let judged_step = own_step(alloc, evidence, case)?;
+    let judged_step = own_step(alloc, evidence, case, hasher)?;
     let (validity, own) = (judged_step.validity, judged_step.counts);
     let sums = counts.plus(own);
     match told_way(judged_step.step) {
@@ -71,7 +79,7 @@ fn by_answer(
                 refusal,
                 counts: own,
             };
-            search_between(alloc, evidence, query, untold, counts)
+            search_between(alloc, evidence, query, untold, counts, hasher)
         }
     }
 }
@@ -90,20 +98,23 @@ fn told_way(step: Step) -> Result<Step, Option<Refusal>>
 
 /// Where answers for DS lead at the names between; or nowhere, if no delegation is there. The
 /// answer to the question tells nothing.
-fn search_between(
+fn search_between<H: NameHasher>(
     alloc: Global,
     evidence: &Evidence,
     query: &ZoneQuery,
     untold: Unanswered,
     counts: Counts,
+    hasher: &mut H,
 ) -> Result<JudgedHop, AllocError>
     requires { let q = query.now in
         IsAnswerUntold evidence.now q.asked q.zone q.ds untold.refusal untold.counts }
     ensures stops { IfOk result (IsStop evidence.now query.now) }
     ensures counted { IfOk result (IsCounted evidence.now query.now counts) }
+    ensures hashed { let hashes = CountsHashes (H.hashed hasher.old) (H.hashed hasher.new) in
+        IfOk result (λ t. hashes (plus counts untold.counts).hashes t.counts.hashes) }
 {
     let sums = counts.plus(untold.counts);
-    let way = down_between(alloc, evidence, query, untold, sums)?;
+    let way = down_between(alloc, evidence, query, untold, sums, hasher)?;
     match way {
         Ok(judged_hop) => Ok(judged_hop),
         Err(uncut) => {
@@ -133,12 +144,13 @@ fn untold_there(
 
 /// Where answers for DS lead at the names between. None is looked at if the zone's keys are
 /// refused, since no answer of the zone tells anything then.
-fn down_between(
+fn down_between<H: NameHasher>(
     alloc: Global,
     evidence: &Evidence,
     query: &ZoneQuery,
     untold: Unanswered,
     counts: Counts,
+    hasher: &mut H,
 ) -> Result<Result<JudgedHop, Uncut>, AllocError>
     requires { let q = query.now in
         IsAnswerUntold evidence.now q.asked q.zone q.ds untold.refusal untold.counts }
@@ -147,11 +159,13 @@ fn down_between(
         IfOk result (IsCountedBehind evidence.now query.now refusal counts) }
     ensures last { let q = query.now in let last = IsLast evidence.now q.asked q.zone q.ds in
         IfOk result (λ r. IfErr r (λ u. last untold.refusal)) }
+    ensures hashed { let hashes = CountsHashes (H.hashed hasher.old) (H.hashed hasher.new) in
+        IfOk result (λ r. hashes counts.hashes (counts_in r).hashes) }
 {
     if are_keys_refused(&untold.refusal) {
         Ok(Err(Uncut::SoFar(counts)))
     } else {
-        search_down_to(alloc, evidence, query, &query.question.name, counts)
+        search_down_to(alloc, evidence, query, &query.question.name, counts, hasher)
     }
 }
 

@@ -2,6 +2,7 @@
 ghost use Rattle.std.specs.Prelude.{◌≡◌, [], IfErr, IfOk, MatchOption, MatchResult, false, true};
 ghost use Rattle.definitions.specs.Name.{at_or_above};
 ghost use Rattle.messages.specs.Questions.{asked_of};
+ghost use Rattle.evidence_laws.specs.Counted.{CountsHashes};
 ghost use Rattle.evidence_laws.specs.Told.{told};
 ghost use Rattle.evidence_laws.specs.Given.{IsOf};
 ghost use Rattle.evidence_laws.specs.Walking.{ds_at};
@@ -15,6 +16,7 @@ use crate::ending::{JudgedHop, Uncut};
 use crate::evidence::Evidence;
 use crate::place::{case_of, judged_hop, name_step, wanting};
 use crate::query::ZoneQuery;
+use answer_hasher::NameHasher;
 use evidence_laws::{Case, Counts, JudgedStep, Step};
 use messages::names::{Name, ToName, copy_name, is_above};
 use messages::question::Question;
@@ -27,12 +29,13 @@ use std::alloc::{AllocError, Global};
 ///
 /// A server that holds parent and child answers from the child and sends no referral: so these
 /// questions alone show a delegation, and that an unsigned child is insecure.
-pub(crate) fn search_down_to(
+pub(crate) fn search_down_to<H: NameHasher>(
     alloc: Global,
     evidence: &Evidence,
     query: &ZoneQuery,
     name: &Name<Vec<u8>>,
     counts: Counts,
+    hasher: &mut H,
 ) -> Result<Result<JudgedHop, Uncut>, AllocError>
     requires above { at_or_above name.now query.now.asked.name ≡ true }
     requires untold { let q = query.now in IsUnanswered evidence.now q.asked q.zone q.ds }
@@ -41,6 +44,8 @@ pub(crate) fn search_down_to(
         IfOk result (λ r. IfOk r counted) }
     ensures uncut { let uncut = IsUncut evidence.now query.now counts name.now in
         IfOk result (λ r. IfErr r uncut) }
+    ensures hashed { let hashes = CountsHashes (H.hashed hasher.old) (H.hashed hasher.new) in
+        IfOk result (λ r. hashes counts.hashes (counts_in r).hashes) }
 {
     if !is_above(query.zone, name) {
         return Ok(Err(Uncut::SoFar(counts)));
@@ -50,14 +55,14 @@ pub(crate) fn search_down_to(
         Some(parent) => parent,
         None => return Ok(Err(Uncut::SoFar(counts))),
     };
-    let way = search_down_to(alloc, evidence, query, &parent, counts)?;
+    let way = search_down_to(alloc, evidence, query, &parent, counts, hasher)?;
     let uncut = match way {
         Ok(judged_hop) => return Ok(Ok(judged_hop)),
         Err(uncut) => uncut,
     };
     match uncut {
         Uncut::Throughout(sums) => Ok(Err(Uncut::Throughout(sums))),
-        Uncut::SoFar(sums) => at_name(alloc, evidence, query, name, sums),
+        Uncut::SoFar(sums) => at_name(alloc, evidence, query, name, sums, hasher),
     }
 }
 
@@ -80,21 +85,24 @@ fn some_copy(alloc: Global, name: &Name<&[u8]>) -> Result<Option<Name<Vec<u8>>>,
 }
 
 /// Where the answer for DS at a name leads; the counts so far alone where no delegation is there.
-fn at_name(
+fn at_name<H: NameHasher>(
     alloc: Global,
     evidence: &Evidence,
     query: &ZoneQuery,
     name: &Name<Vec<u8>>,
     counts: Counts,
+    hasher: &mut H,
 ) -> Result<Result<JudgedHop, Uncut>, AllocError>
     requires { let q = query.now in IsReached evidence.now q.asked q.zone q.ds name.now }
     ensures stops { IfOk result (λ r. IfOk r (IsStop evidence.now query.now)) }
     ensures judged { IfOk result (IsJudgedAt evidence.now query.now name.now counts) }
+    ensures hashed { let hashes = CountsHashes (H.hashed hasher.old) (H.hashed hasher.new) in
+        IfOk result (λ r. hashes counts.hashes (counts_in r).hashes) }
 {
     if is_itself(query.question, name) {
         Ok(Err(Uncut::SoFar(counts)))
     } else {
-        at_other(alloc, evidence, query, name, counts)
+        at_other(alloc, evidence, query, name, counts, hasher)
     }
 }
 
@@ -106,21 +114,24 @@ fn is_itself(question: &Question, name: &Name<Vec<u8>>) -> bool
 }
 
 /// Where the answer for DS at a name leads, if the question is another one.
-fn at_other(
+fn at_other<H: NameHasher>(
     alloc: Global,
     evidence: &Evidence,
     query: &ZoneQuery,
     name: &Name<Vec<u8>>,
     counts: Counts,
+    hasher: &mut H,
 ) -> Result<Result<JudgedHop, Uncut>, AllocError>
     requires reached { let q = query.now in IsReached evidence.now q.asked q.zone q.ds name.now }
     requires other { is_itself query.now.asked name.now ≡ false }
     ensures stops { IfOk result (λ r. IfOk r (IsStop evidence.now query.now)) }
     ensures judged { let sought = ds_at query.now.asked name.now in
         IfOk result (IsJudgedFor evidence.now query.now sought counts) }
+    ensures hashed { let hashes = CountsHashes (H.hashed hasher.old) (H.hashed hasher.new) in
+        IfOk result (λ r. hashes counts.hashes (counts_in r).hashes) }
 {
     let asked = ds_question(alloc, query.question, name)?;
-    at_asked(alloc, evidence, query, &asked, counts)
+    at_asked(alloc, evidence, query, &asked, counts, hasher)
 }
 
 /// The question for DS at a name.
@@ -141,21 +152,24 @@ fn ds_question(
 }
 
 /// Where the answer to a question for DS leads.
-fn at_asked(
+fn at_asked<H: NameHasher>(
     alloc: Global,
     evidence: &Evidence,
     query: &ZoneQuery,
     asked: &Question,
     counts: Counts,
+    hasher: &mut H,
 ) -> Result<Result<JudgedHop, Uncut>, AllocError>
     requires { let q = query.now in let sought = asked_of asked.now in
         IsBetween evidence.now q.asked q.zone q.ds sought }
     ensures stops { IfOk result (λ r. IfOk r (IsStop evidence.now query.now)) }
     ensures judged { let sought = asked_of asked.now in
         IfOk result (IsJudgedFor evidence.now query.now sought counts) }
+    ensures hashed { let hashes = CountsHashes (H.hashed hasher.old) (H.hashed hasher.new) in
+        IfOk result (λ r. hashes counts.hashes (counts_in r).hashes) }
 {
     match case_of(evidence, query.zone, query.ds, asked) {
-        Some(case) => by_cut(alloc, evidence, query, &case, counts),
+        Some(case) => by_cut(alloc, evidence, query, &case, counts, hasher),
         None => wanting_there(alloc, evidence, query.zone, asked, counts),
     }
 }
@@ -178,20 +192,23 @@ fn wanting_there(
 
 /// Where a message that is judged for DS leads; the counts so far alone where it tells that no
 /// delegation is there.
-fn by_cut(
+fn by_cut<H: NameHasher>(
     alloc: Global,
     evidence: &Evidence,
     query: &ZoneQuery,
     case: &Case,
     counts: Counts,
+    hasher: &mut H,
 ) -> Result<Result<JudgedHop, Uncut>, AllocError>
     requires between { let q = query.now in
         IsBetween evidence.now q.asked q.zone q.ds case.now.asked }
     requires of { let q = query.now in IsOf evidence.now q.zone q.ds case.now.asked case.now }
     ensures stops { IfOk result (λ r. IfOk r (IsStop evidence.now query.now)) }
     ensures judged { IfOk result (IsJudgedFor evidence.now query.now case.now.asked counts) }
+    ensures hashed { let hashes = CountsHashes (H.hashed hasher.old) (H.hashed hasher.new) in
+        IfOk result (λ r. hashes counts.hashes (counts_in r).hashes) }
 {
-    let judged_step = name_step(alloc, evidence, case)?;
+    let judged_step = name_step(alloc, evidence, case, hasher)?;
     let validity = judged_step.validity;
     let sums = counts.plus(judged_step.counts);
     match told_cut(judged_step.step, sums) {

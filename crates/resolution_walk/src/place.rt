@@ -1,6 +1,7 @@
 //! What the messages of a zone on the way tell.
-ghost use Rattle.std.specs.Prelude.{◌≡◌, IfNone, IfOk, IfSome, Some, false, true};
+ghost use Rattle.std.specs.Prelude.{◌≡◌, ◌+◌, IfNone, IfOk, IfSome, Some, false, true};
 ghost use Rattle.messages.specs.Questions.{asked_of};
+ghost use Rattle.evidence_laws.specs.Counted.{CountsHashes};
 ghost use Rattle.evidence_laws.specs.Told.{IsJudgedCut, IsJudgedStep, told};
 ghost use Rattle.evidence_laws.specs.Given.{IsOf, message_of};
 ghost use Rattle.resolution_walk.specs.Between.{is_of_memory, lacked_memory};
@@ -10,6 +11,7 @@ ghost use Rattle.resolution_walk.specs.Wanted.{is_for_keys, is_lacking, lacking,
 use crate::ending::{Ending, Hop, JudgedHop, Wanted};
 use crate::evidence::Evidence;
 use crate::query::ZoneQuery;
+use answer_hasher::NameHasher;
 use denial_data::Ds;
 use evidence_laws::{Case, Counts, JudgedStep, Refusal, Step, cut_step, step};
 use messages::names::{Name, ToName, copy_name};
@@ -18,30 +20,36 @@ use names_rdata::rtype::Rtype;
 use std::alloc::{AllocError, Global};
 
 /// What the zone's answer to a question tells of it.
-pub(crate) fn own_step(
+pub(crate) fn own_step<H: NameHasher>(
     alloc: Global,
     evidence: &Evidence,
     case: &Case,
+    hasher: &mut H,
 ) -> Result<JudgedStep, AllocError>
     ensures told { let e = evidence.now in
         IfOk result (IsJudgedStep e.algorithms e.table case.now) }
     ensures in_memory { IfOk result (λ t. lacked_memory (told t.step) ≡ false) }
+    ensures hashed { let hashes = CountsHashes (H.hashed hasher.old) (H.hashed hasher.new) in
+        IfOk result (λ t. hashes 0 t.counts.hashes) }
 {
-    let judged_step = step(alloc, case, evidence.table, evidence.algorithms)?;
+    let judged_step = step(alloc, case, evidence.table, evidence.algorithms, hasher)?;
     unless_memory_lacked(judged_step)
 }
 
 /// What the zone's answer to a question for DS tells of a delegation there.
-pub(crate) fn name_step(
+pub(crate) fn name_step<H: NameHasher>(
     alloc: Global,
     evidence: &Evidence,
     case: &Case,
+    hasher: &mut H,
 ) -> Result<JudgedStep, AllocError>
     ensures told { let e = evidence.now in
         IfOk result (IsJudgedCut e.algorithms e.table case.now) }
     ensures in_memory { IfOk result (λ t. lacked_memory (told t.step) ≡ false) }
+    ensures hashed { IfOk result
+        (λ t. H.hashed hasher.new ≡ H.hashed hasher.old + t.counts.hashes) }
 {
-    let judged_step = cut_step(alloc, case, evidence.table, evidence.algorithms)?;
+    let judged_step = cut_step(alloc, case, evidence.table, evidence.algorithms, hasher)?;
     unless_memory_lacked(judged_step)
 }
 

@@ -3,18 +3,20 @@ ghost use Rattle.std.specs.Prelude.{◌≡◌, ◌++◌, [], ◌∷◌, length, 
 ghost use Rattle.std.specs.Prelude.{None, Some, true};
 ghost use Rattle.std.specs.Option.{is_some};
 ghost use Rattle.messages.specs.Questions.{asked_of};
+ghost use Rattle.evidence_laws.specs.Counted.{CountsHashes};
 ghost use Rattle.evidence_laws.specs.Lasts.{least_of};
 ghost use Rattle.evidence_laws.specs.Walking.{is_asked_of};
 ghost use Rattle.resolution_walk.specs.Ended.{IsWalked, LastsIfSaid, said_of, validity_said};
 ghost use Rattle.resolution_walk.specs.Stopping.{EndsHere, IsAliasOf, IsLed, IsNoAlias};
 ghost use Rattle.resolution_walk.specs.Stopping.{StopsBelowIn, StopsIn, StopsWithin, WalkStops};
-ghost use Rattle.resolution_walk.specs.Stopping.{ending_within};
+ghost use Rattle.resolution_walk.specs.Stopping.{counts_at, ending_within};
 ghost use Rattle.resolution_walk.specs.Truth.{WalksTruly};
 
 use crate::ending::{End, Ending, Hop, JudgedHop, Target, Walk};
 use crate::evidence::Evidence;
 use crate::hops::in_zone;
 use crate::query::ZoneQuery;
+use answer_hasher::NameHasher;
 use evidence_laws::{Counts, Lead, Validity, least_of};
 use messages::names::{Name, ToName, copy_name, is_at_or_above};
 use messages::question::Question;
@@ -60,17 +62,19 @@ pub(crate) struct Trail {
 /// What is said lasts as long as each step of the way that is taken, through all zones and aliases,
 /// not as long as another way to the same end; what says neither secure nor insecure lasts no time.
 /// The counts are those of all judgements that are made: in each zone on the way of the answer to
-/// the question, and of those for DS at the names between that are looked at.
+/// the question, and of those for DS at the names between that are looked at. As many names are
+/// hashed by the hasher that is lent.
 ///
 /// Where nothing in the evidence is forged, zone by zone, beside an anchor of the tree, this is
 /// what the tree says: secure with the verdict of the zone that has the name, insecure below a
 /// delegation that the tree leaves unsigned or where opt-out leaves the name open, through the
 /// aliases that the tree has. The tree's zones are in order and do not change.
-pub fn resolve(
+pub fn resolve<H: NameHasher>(
     alloc: Global,
     evidence: &Evidence,
     question: &Question,
     limits: Limits,
+    hasher: &mut H,
 ) -> Result<Walk, AllocError>
     ensures walked { let asked = asked_of question.now in
         IfOk result (IsWalked evidence.now asked) }
@@ -79,13 +83,15 @@ pub fn resolve(
     ensures lasts { IfOk result LastsIfSaid }
     ensures honest { let asked = asked_of question.now in
         IfOk result (WalksTruly evidence.now asked) }
+    ensures hashed { let hashes = CountsHashes (H.hashed hasher.old) (H.hashed hasher.new) in
+        IfOk result (λ w. hashes 0 w.counts.hashes) }
 {
     let asked = copied(alloc, question)?;
     let trail = Trail {
         through: Vec::new(alloc),
         counts: Counts::none(),
     };
-    let walk = follow(alloc, evidence, asked, trail, limits)?;
+    let walk = follow(alloc, evidence, asked, trail, limits, hasher)?;
     Ok(validity_if_said(within(evidence, limits.messages, walk)))
 }
 
@@ -177,17 +183,20 @@ fn copied(alloc: Global, question: &Question) -> Result<Question, AllocError>
 
 /// Says what evidence tells of a question, behind the aliases and the counts so far: also what it
 /// tells of a name that an alias leads to, if the limit allows one more.
-fn follow(
+fn follow<H: NameHasher>(
     alloc: Global,
     evidence: &Evidence,
     question: Question,
     trail: Trail,
     left: Limits,
+    hasher: &mut H,
 ) -> Result<Walk, AllocError>
-    ensures { let asked = asked_of question in
+    ensures stops { let asked = asked_of question in
         IfOk result (WalkStops evidence.now asked left trail) }
+    ensures hashed { let hashes = CountsHashes (H.hashed hasher.old) (H.hashed hasher.new) in
+        IfOk result (λ w. hashes trail.counts.hashes w.counts.hashes) }
 {
-    let end = walk_one_name(alloc, evidence, &question, left.cuts, trail.counts)?;
+    let end = walk_one_name(alloc, evidence, &question, left.cuts, trail.counts, hasher)?;
     let through = trail.through;
     let target = match end {
         Ok(target) => target,
@@ -210,7 +219,7 @@ fn follow(
         aliases: left.aliases - 1,
         ..left
     };
-    let walk = follow(alloc, evidence, next, longer, fewer)?;
+    let walk = follow(alloc, evidence, next, longer, fewer, hasher)?;
     Ok(walk_after_alias(validity, walk))
 }
 
@@ -256,19 +265,22 @@ fn walk_after_alias(validity: Option<Validity>, walk: Walk) -> Walk
 }
 
 /// The name that an alias leads to, where one ends the way; or the end.
-fn walk_one_name(
+fn walk_one_name<H: NameHasher>(
     alloc: Global,
     evidence: &Evidence,
     question: &Question,
     cuts: u16,
     counts: Counts,
+    hasher: &mut H,
 ) -> Result<Result<Target, End>, AllocError>
-    ensures { let e = evidence.now in let asked = asked_of question.now in
+    ensures stops { let e = evidence.now in let asked = asked_of question.now in
         let ends = EndsHere e asked cuts counts in
         IfOk result (λ r. MatchResult r (IsLed e asked cuts counts) ends) }
+    ensures hashed { let hashes = CountsHashes (H.hashed hasher.old) (H.hashed hasher.new) in
+        IfOk result (λ r. hashes counts.hashes (counts_at r).hashes) }
 {
     if is_asked_of(evidence.anchor, question) {
-        from_anchor(alloc, evidence, question, cuts, counts)
+        from_anchor(alloc, evidence, question, cuts, counts, hasher)
     } else {
         Ok(Err(End {
             ending: Ending::Outside,
@@ -279,24 +291,27 @@ fn walk_one_name(
 }
 
 /// The name that an alias leads to, where one ends the way from the anchor; or the end.
-fn from_anchor(
+fn from_anchor<H: NameHasher>(
     alloc: Global,
     evidence: &Evidence,
     question: &Question,
     cuts: u16,
     counts: Counts,
+    hasher: &mut H,
 ) -> Result<Result<Target, End>, AllocError>
     requires { is_asked_of evidence.now.anchor (asked_of question.now) ≡ true }
-    ensures { let e = evidence.now in let asked = asked_of question.now in
+    ensures stops { let e = evidence.now in let asked = asked_of question.now in
         let ends = EndsHere e asked cuts counts in
         IfOk result (λ r. MatchResult r (IsLed e asked cuts counts) ends) }
+    ensures hashed { let hashes = CountsHashes (H.hashed hasher.old) (H.hashed hasher.new) in
+        IfOk result (λ r. hashes counts.hashes (counts_at r).hashes) }
 {
     let query = ZoneQuery {
         zone: evidence.anchor,
         ds: evidence.ds,
         question,
     };
-    let end = descend(alloc, evidence, &query, cuts, counts)?;
+    let end = descend(alloc, evidence, &query, cuts, counts, hasher)?;
     Ok(alias_of(end))
 }
 
@@ -335,16 +350,19 @@ fn alias_of(end: End) -> Result<Target, End>
 
 /// What evidence tells of a question, from a zone with a DS set on down, behind the counts so far.
 #[cycle(down)]
-fn descend(
+fn descend<H: NameHasher>(
     alloc: Global,
     evidence: &Evidence,
     query: &ZoneQuery,
     cuts: u16,
     counts: Counts,
+    hasher: &mut H,
 ) -> Result<End, AllocError>
-    ensures { IfOk result (StopsIn evidence.now query.now cuts counts) }
+    ensures stops { IfOk result (StopsIn evidence.now query.now cuts counts) }
+    ensures hashed { let hashes = CountsHashes (H.hashed hasher.old) (H.hashed hasher.new) in
+        IfOk result (λ end. hashes counts.hashes end.counts.hashes) }
 {
-    let judged_hop = in_zone(alloc, evidence, query, counts)?;
+    let judged_hop = in_zone(alloc, evidence, query, counts, hasher)?;
     let (validity, sums) = (judged_hop.validity, judged_hop.counts);
     let hop = judged_hop.hop;
     match hop {
@@ -359,7 +377,7 @@ fn descend(
                 ds: ds.as_slice(),
                 question: query.question,
             };
-            let end = descend_below(alloc, evidence, &next, cuts, sums)?;
+            let end = descend_below(alloc, evidence, &next, cuts, sums, hasher)?;
             Ok(validity_with(validity, end))
         }
     }
@@ -378,14 +396,17 @@ fn validity_with(validity: Option<Validity>, end: End) -> End
 
 /// What evidence tells from the zone below on, if the limit allows one more.
 #[cycle(down)]
-fn descend_below(
+fn descend_below<H: NameHasher>(
     alloc: Global,
     evidence: &Evidence,
     query: &ZoneQuery,
     cuts: u16,
     counts: Counts,
+    hasher: &mut H,
 ) -> Result<End, AllocError>
-    ensures { IfOk result (StopsBelowIn evidence.now query.now cuts counts) }
+    ensures stops { IfOk result (StopsBelowIn evidence.now query.now cuts counts) }
+    ensures hashed { let hashes = CountsHashes (H.hashed hasher.old) (H.hashed hasher.new) in
+        IfOk result (λ end. hashes counts.hashes end.counts.hashes) }
 {
     if cuts == 0 {
         Ok(End {
@@ -394,7 +415,7 @@ fn descend_below(
             counts,
         })
     } else {
-        descend(alloc, evidence, query, cuts - 1, counts)
+        descend(alloc, evidence, query, cuts - 1, counts, hasher)
     }
 }
 

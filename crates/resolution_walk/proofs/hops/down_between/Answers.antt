@@ -7,11 +7,12 @@ use Rattle.resolution_walk.specs.Judged.{IsUncut}
 use Rattle.resolution_walk.specs.Query.{Query}
 use Rattle.resolution_walk.specs.declared.ending.JudgedHop.{JudgedHop}
 use Rattle.resolution_walk.specs.declared.ending.Uncut.{Uncut}
+use Rattle.resolution_walk.proofs.Hashed.{no_more}
 use Rattle.resolution_walk.proofs.Stopping.{all_counted, all_last, unanswered}
 use Rattle.resolution_walk.proofs.hops.down_between.Goals as goal
 
 pub search_down_to-requires : goal.search_down_to-requires
-search_down_to-requires c =
+search_down_to-requires g c =
     let name = c.query.inside.question.now.name in
     let keys : are_keys_refused c.args.untold.refusal ≡ false = sym c.are_keys_refused.ensures ∙ c.if-are_keys_refused.false in
     record {
@@ -20,12 +21,12 @@ search_down_to-requires c =
     }
 
 pub returns-then-are_keys_refused : goal.returns-then-are_keys_refused
-returns-then-are_keys_refused c =
+returns-then-are_keys_refused g c =
     let keys : are_keys_refused c.args.untold.refusal ≡ true = sym c.are_keys_refused.ensures ∙ c.if-are_keys_refused.true in
-    record { stops = tt; counted = inl (keys, refl); last = inl keys }
+    record { stops = tt; counted = inl (keys, refl); last = inl keys; hashed = no_more _ c.args.counts }
 
 pub returns-else-are_keys_refused : goal.returns-else-are_keys_refused
-returns-else-are_keys_refused c =
+returns-else-are_keys_refused g c =
     let e = c.args.evidence.now in
     let q = c.args.query.now in
     let refusal = c.args.untold.refusal in
@@ -35,4 +36,4 @@ returns-else-are_keys_refused c =
     let is = ap (λ (x : Query). x.asked.name) c.query.view_is in
     let uncut = subst (λ (n : Name). IfOk r (λ (y : Result JudgedHop Uncut). IfErr y (IsUncut e q before n))) is kept.uncut in
     let keys : are_keys_refused refusal ≡ false = sym c.are_keys_refused.ensures ∙ c.if-are_keys_refused.false in
-    record { stops = kept.stops; counted = all_counted e q refusal before r keys kept.counted uncut; last = all_last e q refusal before r uncut }
+    record { stops = kept.stops; counted = all_counted e q refusal before r keys kept.counted uncut; last = all_last e q refusal before r uncut; hashed = kept.hashed }

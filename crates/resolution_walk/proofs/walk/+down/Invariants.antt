@@ -3,7 +3,7 @@ use Rattle.resolution_walk.proofs.walk.+down.Given as goal
 
 -- each delegation takes two steps
 abbrev pub decreases-descend : goal.decreases-descend
-decreases-descend l = 2 * l.cuts + 1
+decreases-descend g l = 2 * l.cuts + 1
 
 abbrev pub decreases-descend_below : goal.decreases-descend_below
-decreases-descend_below l = 2 * l.cuts
+decreases-descend_below g l = 2 * l.cuts

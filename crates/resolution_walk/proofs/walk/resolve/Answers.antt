@@ -8,13 +8,14 @@ use Rattle.evidence_laws.specs.Counts.{Counts}
 use Rattle.resolution_walk.specs.Ended.{said_of, validity_said}
 use Rattle.resolution_walk.specs.Stopping.{IsStopped, StopsWithin}
 use Rattle.resolution_walk.specs.declared.ending.Ending.{Ending}
+use Rattle.resolution_walk.proofs.Hashed.{from_same, same_counts}
 use Rattle.resolution_walk.proofs.Stopping.{stops_within}
 use Rattle.resolution_walk.proofs.Truly.{walked_so}
 use Rattle.resolution_walk.proofs.Walked.{lasts_if_said, walked}
 use Rattle.resolution_walk.proofs.walk.resolve.Goals as goal
 
 pub returns : goal.returns
-returns c =
+returns g c =
     let e = c.args.evidence.now in
     let asked = asked_of c.args.question.now in
     let limits = c.args.limits in
@@ -29,7 +30,7 @@ returns c =
     let kept = c.validity_if_said.ensures in
     let through = ap (λ (v : Vec Name). v.items) kept.through ∙ ap (λ (v : Vec Name). v.items) fewer.through in
     let by_names : IsStopped e copy cuts aliases [] names c.none.result walk.ending walk.counts walk.validity =
-    subst (λ (ns : List Name). IsStopped e copy cuts aliases ns names c.none.result walk.ending walk.counts walk.validity) c.new.ensures.items c.in_ok-walk.ensures in
+    subst (λ (ns : List Name). IsStopped e copy cuts aliases ns names c.none.result walk.ending walk.counts walk.validity) c.new.ensures.items c.in_ok-walk.ensures.stops in
     let by_counts : IsStopped e copy cuts aliases [] names no_counts walk.ending walk.counts walk.validity =
     subst (λ (n : Counts). IsStopped e copy cuts aliases [] names n walk.ending walk.counts walk.validity) c.none.ensures by_names in
     let stops : IsStopped e asked cuts aliases [] names no_counts walk.ending walk.counts walk.validity =
@@ -38,4 +39,10 @@ returns c =
     kept.lasts ∙ ap (λ (g : Ending). validity_said (said_of g) less.validity) (sym kept.ending) ∙ ap (validity_said (said_of w.ending)) fewer.lasts in
     let within : StopsWithin e asked limits w = stops_within e asked limits walk w stops (kept.ending ∙ fewer.ending) through (kept.counts ∙ fewer.counts) lasts in
     let follows = walked e asked limits w within in
-    record { walked = follows; stops = within; lasts = lasts_if_said e asked limits w within; honest = walked_so e asked limits w follows within }
+    record {
+      walked = follows;
+      stops = within;
+      lasts = lasts_if_said e asked limits w within;
+      honest = walked_so e asked limits w follows within;
+      hashed = same_counts _ _ no_counts walk.counts w.counts (kept.counts ∙ fewer.counts) (from_same _ _ no_counts c.none.result walk.counts c.none.ensures c.in_ok-walk.ensures.hashed);
+    }
