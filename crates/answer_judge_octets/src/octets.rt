@@ -1,10 +1,12 @@
 //! A judgement from octets to octets, for callers in other languages.
-ghost use Rattle.std.specs.Prelude.{◌≡◌, ◌⊎◌, Some, None, false, IfOk, IfErr};
+ghost use Rattle.std.specs.Prelude.{◌≡◌, ◌⊎◌, ◌+◌, ◌*◌, ◌≤◌, Some, None, false, IfOk, IfErr};
 ghost use Rattle.std.specs.Cow.{cow_slice_items};
 ghost use Rattle.messages.specs.NameOctets.{name_of_octets};
+ghost use Rattle.answer_judge.specs.Judging.{hash_bound as hash_bound_of};
 ghost use Rattle.messages_canonical.specs.InForm.{GrowsTooLong};
 ghost use Rattle.answer_judge_octets.specs.Replying.{Answers, IsHandedOut, IsJudged, Replies, Says};
-ghost use Rattle.answer_judge_octets.specs.Replying.{SaysFound};
+ghost use Rattle.answer_judge_octets.specs.Replying.{SaysFound, only};
+ghost use Rattle.answer_judge_octets.specs.Hashed.{CountsReply, CountsReport, hash_bound};
 ghost use Rattle.answer_judge_octets.specs.Replying.{Unread};
 ghost use Rattle.answer_judge_octets.specs.Replying.{flag_in, reply_seen, report_of};
 ghost use Rattle.answer_judge_octets.specs.ReadCases.{ReadsAs, judge_input_of};
@@ -17,6 +19,7 @@ use crate::list::read_list;
 use crate::places::octets_in_front;
 use crate::reply::{Reply, ReplyCode, reply_of_asks, reply_of_meaning, reply_of_refusal};
 use answer_findings::{AnswerOutcome, Case, CheckedSignature, judge_answer};
+use answer_hasher::NameHasher;
 use denial_data::Ds;
 use denial_fields::unix_time::UnixTime;
 use messages::names::{Name, name_from_octets};
@@ -149,19 +152,26 @@ struct ReadCase<'a> {
 /// A refusal brings its extended error, for which the signatures of the answer may be looked up
 /// once more.
 ///
+/// Names are hashed by the hasher that is lent: as many as the report says, and where memory runs
+/// out, which it does not count, no more than four judgements may.
+///
 /// [`is_crowded`]: crate::crowded::is_crowded
-pub fn judge_octets(
+pub fn judge_octets<H: NameHasher>(
     alloc: Global,
     case: &OctetCase,
     out: &mut [u8],
     report: &mut Report,
+    hasher: &mut H,
 ) -> ReplyCode
-    ensures { Answers case.now out.old out.new report.old report.new result }
+    ensures answers { Answers case.now out.old out.new report.old report.new result }
+    ensures hashed { let ran_out = result ≡ ReplyCode.OutOfMemory in let most = hash_bound case.now in
+        let hashes = CountsReport most ran_out report.old report.new in
+        hashes (H.hashed hasher.old) (H.hashed hasher.new) }
 {
     if report.size != REPORT_SIZE {
         return ReplyCode::BadCase;
     }
-    let reply = reply(alloc, case);
+    let reply = reply(alloc, case, hasher);
     hand_out(&reply, out, report)
 }
 
@@ -195,30 +205,42 @@ fn report_of(reply: &Reply) -> Report
 }
 
 /// The reply to a case.
-fn reply(alloc: Global, case: &OctetCase) -> Reply
-    ensures { Replies case.now (reply_seen result) }
+fn reply<H: NameHasher>(alloc: Global, case: &OctetCase, hasher: &mut H) -> Reply
+    ensures replies { Replies case.now (reply_seen result) }
+    ensures hashed { let ran_out = reply_seen result ≡ only ReplyCode.OutOfMemory in
+        let most = hash_bound case.now in
+        CountsReply most ran_out result.hashes (H.hashed hasher.old) (H.hashed hasher.new) }
 {
     let read = match read_case(alloc, case) {
         Ok(read) => read,
         Err(code) => return Reply::only(alloc, code),
     };
-    match reply_of(alloc, case, &read) {
+    match reply_of(alloc, case, &read, hasher) {
         Ok(reply) => reply,
         Err(_) => Reply::only(alloc, ReplyCode::OutOfMemory),
     }
 }
 
 /// The reply to what a case spells.
-fn reply_of(alloc: Global, case: &OctetCase, read: &ReadCase) -> Result<Reply, AllocError>
-    ensures { let h = judge_input_of case.now read.now in let table = read.now.table.items in
+fn reply_of<H: NameHasher>(
+    alloc: Global,
+    case: &OctetCase,
+    read: &ReadCase,
+    hasher: &mut H,
+) -> Result<Reply, AllocError>
+    ensures says { let h = judge_input_of case.now read.now in let table = read.now.table.items in
         let places = read.now.places in
         IfOk result (λ r. Says case.now read.now.error places h table (reply_seen r)) }
+    ensures hashed { IfOk result
+        (λ r. H.hashed hasher.new ≡ H.hashed hasher.old + r.hashes) }
+    ensures bound { let h = judge_input_of case.now read.now in
+        H.hashed hasher.new ≤ H.hashed hasher.old + 4 * hash_bound_of h }
 {
     let judge_case = judge_case(case, read);
     if are_crowded(&judge_case) {
         return Ok(Reply::only(alloc, ReplyCode::MessageTooLong));
     }
-    judged_reply(alloc, case, read, &judge_case)
+    judged_reply(alloc, case, read, &judge_case, hasher)
 }
 
 /// What a case spells, as a search is handed it.
@@ -239,17 +261,22 @@ fn judge_case<'a>(case: &OctetCase, read: &'a ReadCase) -> Case<'a>
 }
 
 /// The reply to what is found in a case's messages.
-fn judged_reply(
+fn judged_reply<H: NameHasher>(
     alloc: Global,
     case: &OctetCase,
     read: &ReadCase,
     judge_case: &Case,
+    hasher: &mut H,
 ) -> Result<Reply, AllocError>
-    ensures { let h = judge_case.now in let table = read.now.table.items in
+    ensures says { let h = judge_case.now in let table = read.now.table.items in
         let places = read.now.places in
         IfOk result (λ r. SaysFound case.now read.now.error places h table (reply_seen r)) }
+    ensures hashed { IfOk result
+        (λ r. H.hashed hasher.new ≡ H.hashed hasher.old + r.hashes) }
+    ensures bound { let h = judge_case.now in
+        H.hashed hasher.new ≤ H.hashed hasher.old + 4 * hash_bound_of h }
 {
-    match judge_answer(alloc, judge_case, &read.table)? {
+    match judge_answer(alloc, judge_case, &read.table, hasher)? {
         AnswerOutcome::Means {
             meaning,
             validity,

@@ -5,14 +5,13 @@ use answer_findings::{CheckedSignature, digest, entry_of};
 use answer_scheme::steps::Steps;
 use answer_scheme::{Checks, SchemeError};
 use denial_data::Dnskey;
-use denial_nsec3_hash::hasher::{HashError, Nsec3Hasher};
-use denial_nsec3_sha1::hasher::Sha1Hasher;
+use denial_nsec3_hash::hasher::HashError;
 use numbers::algorithm::DigestAlgorithm;
 use std::alloc::Global;
 use std::sync::ledger::{Blank, Ledger};
 
 /// The checks of a judge that knows the signatures of a table and no others, makes digests by
-/// SHA-2, and hashes names by SHA-1.
+/// SHA-2, and hashes no name: to look signatures up none has to be.
 #[derive(Drop)]
 pub(crate) struct TableAlone<'t, 's, L: Ledger, M: Ledger> {
     table: &'t [CheckedSignature<'s>],
@@ -64,13 +63,13 @@ impl<'t, 's, L: Ledger, M: Ledger> Checks for TableAlone<'t, 's, L, M> {
 
     fn hash(
         &mut self,
-        alloc: Global,
-        name: &[u8],
-        algorithm: u8,
-        iterations: u16,
-        salt: &[u8],
+        _alloc: Global,
+        _name: &[u8],
+        _algorithm: u8,
+        _iterations: u16,
+        _salt: &[u8],
     ) -> Result<Vec<u8>, HashError> {
         self.hashed.tick();
-        Sha1Hasher.hash(alloc, name, algorithm, iterations, salt)
+        Err(HashError::Memory)
     }
 }

@@ -10,7 +10,7 @@ use Rattle.answer_judge_octets.proofs.PlacesInFront.{says_asks, says_places}
 use Rattle.answer_judge_octets.proofs.octets.judged_reply.Goals as goal
 
 pub octets_in_front-requires : goal.octets_in_front-requires
-octets_in_front-requires c =
+octets_in_front-requires g c =
     let h = c.args.judge_case.now in
     let table = c.args.read.now.table.items in
     let finds = c.in-Means in
@@ -18,8 +18,8 @@ octets_in_front-requires c =
     subst (λ (t : List Checked). SaysOwn t h (seen finds.meaning)) (sym c.deref-in-Means.ensures.value)
     (found_says table h finds.meaning c.in_ok-meaning.field-0 finds.validity finds.verifications finds.hashes finds.is found)
 
-pub returns-in_ok-octets_in_front-in-Means : goal.returns-in_ok-octets_in_front-in-Means
-returns-in_ok-octets_in_front-in-Means c =
+pub returns-in_ok-octets_in_front-in-Means-clause-says : goal.returns-in_ok-octets_in_front-in-Means-clause-says
+returns-in_ok-octets_in_front-in-Means-clause-says g c =
     let case = c.args.case.now in
     let read = c.args.read.now in
     let h = c.args.judge_case.now in
@@ -34,8 +34,8 @@ returns-in_ok-octets_in_front-in-Means c =
     c.in_ok-octets_in_front-in-Means.field-0.items (reply_seen c.counted-reply.result) c.behind.result c.in_ok-meaning.field-0
     c.if-not-read.false finds.is found honest within front said c.behind.ensures
 
-pub returns-in_ok-reply_of_asks-in-Asks : goal.returns-in_ok-reply_of_asks-in-Asks
-returns-in_ok-reply_of_asks-in-Asks c =
+pub returns-in_ok-reply_of_asks-in-Asks-clause-says : goal.returns-in_ok-reply_of_asks-in-Asks-clause-says
+returns-in_ok-reply_of_asks-in-Asks-clause-says g c =
     let case = c.args.case.now in
     let read = c.args.read.now in
     let h = c.args.judge_case.now in
