@@ -6,3 +6,4 @@ pub mod Refused
 pub mod Staying
 pub mod Asking
 pub mod TooFar
+pub mod Hashed

@@ -8,4 +8,5 @@ pub mod Cuts
 pub mod Working
 pub mod Saying
 pub mod Replying
+pub mod Hashed
 pub mod Laws

@@ -1,7 +1,9 @@
 //! A walk from octets to octets, for callers in other languages.
 ghost use Rattle.std.specs.Prelude.{◌≡◌, ◌⊎◌, IfErr, IfOk, Some, None, length};
 ghost use Rattle.messages.specs.NameOctets.{name_of_octets};
-ghost use Rattle.answer_judge_octets.specs.Replying.{reply_seen};
+ghost use Rattle.answer_judge_octets.specs.Replying.{only, reply_seen};
+ghost use Rattle.evidence_laws.specs.Counted.{CountsHashes};
+ghost use Rattle.resolution_octets.specs.Hashed.{CountsReply, CountsReport};
 ghost use Rattle.resolution_octets.specs.Limiting.{limit_of, limits_of, reply_limits_of, work_in};
 ghost use Rattle.resolution_octets.specs.Saying.{IsSaid};
 ghost use Rattle.resolution_octets.specs.Replying.{Answers, Replies, Says, SaysWalked};
@@ -11,6 +13,7 @@ ghost use Rattle.resolution_octets.specs.ReadEvidence.{ReadsAs, asked_in, given_
 
 use crate::received::{IN, ReadMessage, are_crowded, read_messages, walk_messages};
 use crate::walk_reply::{ReplyLimits, reply_of_walk};
+use answer_hasher::NameHasher;
 use answer_judge_octets::ds::judged_ds;
 use answer_judge_octets::list::read_list;
 use answer_judge_octets::octets::{REPORT_SIZE, hand_out, read_name};
@@ -130,59 +133,74 @@ struct ReadEvidence<'a> {
 /// every validator does: put in canonical form where it has to be. Evidence with one that would
 /// cost too much work ([`is_crowded`]) is refused as too long.
 ///
+/// Names are hashed by the hasher that is lent: as many as the report says, unless memory runs out,
+/// which it does not count.
+///
 /// [`is_crowded`]: answer_judge_octets::crowded::is_crowded
-pub fn resolve_octets(
+pub fn resolve_octets<H: NameHasher>(
     alloc: Global,
     evidence: &OctetEvidence,
     out: &mut [u8],
     report: &mut Report,
+    hasher: &mut H,
 ) -> ReplyCode
-    ensures { Answers evidence.now out.old out.new report.old report.new result }
+    ensures answers { Answers evidence.now out.old out.new report.old report.new result }
+    ensures hashed { let ran_out = result ≡ ReplyCode.OutOfMemory in
+        let hashes = CountsReport ran_out report.old report.new in
+        hashes (H.hashed hasher.old) (H.hashed hasher.new) }
 {
     if report.size != REPORT_SIZE {
         return ReplyCode::BadCase;
     }
-    let reply = reply(alloc, evidence);
+    let reply = reply(alloc, evidence, hasher);
     hand_out(&reply, out, report)
 }
 
 /// The reply to evidence.
-fn reply(alloc: Global, evidence: &OctetEvidence) -> Reply
-    ensures { Replies evidence.now (reply_seen result) }
+fn reply<H: NameHasher>(alloc: Global, evidence: &OctetEvidence, hasher: &mut H) -> Reply
+    ensures replies { Replies evidence.now (reply_seen result) }
+    ensures hashed { let ran_out = reply_seen result ≡ only ReplyCode.OutOfMemory in
+        CountsReply ran_out result.hashes (H.hashed hasher.old) (H.hashed hasher.new) }
 {
     let read = match read_evidence(alloc, evidence) {
         Ok(read) => read,
         Err(code) => return Reply::only(alloc, code),
     };
-    match walked(alloc, evidence, &read) {
+    match walked(alloc, evidence, &read, hasher) {
         Ok(reply) => reply,
         Err(_) => Reply::only(alloc, ReplyCode::OutOfMemory),
     }
 }
 
 /// The reply to what evidence spells.
-fn walked(
+fn walked<H: NameHasher>(
     alloc: Global,
     handed_in: &OctetEvidence,
     read: &ReadEvidence,
+    hasher: &mut H,
 ) -> Result<Reply, AllocError>
-    ensures { let e = given_of handed_in.now read.now in let asked = asked_in read.now in
+    ensures says { let e = given_of handed_in.now read.now in let asked = asked_in read.now in
         IfOk result (λ r. Says handed_in.now e asked (reply_seen r)) }
+    ensures hashed { let hashes = CountsHashes (H.hashed hasher.old) (H.hashed hasher.new) in
+        IfOk result (λ r. hashes 0 r.hashes) }
 {
     if are_crowded(&read.messages) {
         return Ok(Reply::only(alloc, ReplyCode::MessageTooLong));
     }
-    resolved(alloc, handed_in, read)
+    resolved(alloc, handed_in, read, hasher)
 }
 
 /// The reply to what evidence tells.
-fn resolved(
+fn resolved<H: NameHasher>(
     alloc: Global,
     handed_in: &OctetEvidence,
     read: &ReadEvidence,
+    hasher: &mut H,
 ) -> Result<Reply, AllocError>
-    ensures { let e = given_of handed_in.now read.now in let asked = asked_in read.now in
+    ensures says { let e = given_of handed_in.now read.now in let asked = asked_in read.now in
         IfOk result (λ r. SaysWalked handed_in.now e asked (reply_seen r)) }
+    ensures hashed { let hashes = CountsHashes (H.hashed hasher.old) (H.hashed hasher.new) in
+        IfOk result (λ r. hashes 0 r.hashes) }
 {
     let messages = walk_messages(alloc, &read.messages)?;
     let evidence = Evidence {
@@ -195,21 +213,30 @@ fn resolved(
         limit: handed_in.limit,
         one_moment: read.one_moment,
     };
-    walked_reply(alloc, handed_in, read, &evidence)
+    walked_reply(alloc, handed_in, read, &evidence, hasher)
 }
 
 /// The reply to a walk over evidence that was read.
-fn walked_reply(
+fn walked_reply<H: NameHasher>(
     alloc: Global,
     handed_in: &OctetEvidence,
     read: &ReadEvidence,
     evidence: &Evidence,
+    hasher: &mut H,
 ) -> Result<Reply, AllocError>
     requires { evidence.now ≡ given_of handed_in.now read.now }
-    ensures { let e = given_of handed_in.now read.now in let asked = asked_in read.now in
+    ensures says { let e = given_of handed_in.now read.now in let asked = asked_in read.now in
         IfOk result (λ r. SaysWalked handed_in.now e asked (reply_seen r)) }
+    ensures hashed { let hashes = CountsHashes (H.hashed hasher.old) (H.hashed hasher.new) in
+        IfOk result (λ r. hashes 0 r.hashes) }
 {
-    let walk = resolve(alloc, evidence, &read.question, limits_of(handed_in))?;
+    let walk = resolve(
+        alloc,
+        evidence,
+        &read.question,
+        limits_of(handed_in),
+        hasher,
+    )?;
     reply_within(alloc, handed_in, read, evidence, &walk)
 }
 
