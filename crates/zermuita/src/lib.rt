@@ -3,6 +3,8 @@
 //! it.
 #![tactic(auto)]
 
+pub mod calls;
+pub mod hasher;
 mod texts;
 
 ghost use Rattle.std.specs.Prelude.{◌≡◌, ◌*◌, ◌+◌};
@@ -10,9 +12,12 @@ ghost use Rattle.answer_judge_octets.specs.Replying.{AnswersNumber, is_refusal, 
 ghost use Rattle.resolution_octets.specs.Replying.{AnswersWalk};
 ghost use Rattle.zermuita.specs.Texts.{IsTextOf, TellsKind};
 
-use answer_judge_octets::{OctetCase, ReplyCode, Report, judge_octets};
-use resolution_octets::{OctetEvidence, resolve_octets};
+use answer_judge_octets::{OctetCase, ReplyCode, Report};
+use calls::{judge_counted, resolve_counted};
+use resolution_octets::OctetEvidence;
 use std::alloc::Global;
+use std::marker::Brand;
+use std::sync::ledger::Blank;
 use texts::text_of;
 
 /// The version of the library: major, minor and patch, as the header and docs/use/CHANGES.md have
@@ -26,8 +31,8 @@ pub struct Text {
     pub octets: &'static [u8],
 }
 
-/// Judges as [`judge_octets`] does, and gives the number of its code. It takes memory by the
-/// caller's `malloc`, and keeps none.
+/// Judges as [`judge_case`](crate::calls::judge_case) does, with a hasher that is let go by a report
+/// which says how many names it hashed. It takes memory by the caller's `malloc`, and keeps none.
 #[unsafe(no_mangle)]
 pub extern "C" fn zermuita_judge_case(
     alloc: Global,
@@ -37,11 +42,13 @@ pub extern "C" fn zermuita_judge_case(
 ) -> u32
     ensures { AnswersNumber case.now out.old out.new report.old report.new result }
 {
-    judge_octets(alloc, case, out, report).number()
+    let blank = Blank::new(1);
+    judge_counted::<Brand>(alloc, case, out, report, blank)
 }
 
-/// Walks as [`resolve_octets`] does, and gives the number of its code. It takes memory by the
-/// caller's `malloc`, and keeps none.
+/// Walks as [`resolve_evidence`](crate::calls::resolve_evidence) does, with a hasher that is let go
+/// by a report which says how many names it hashed. It takes memory by the caller's `malloc`, and
+/// keeps none.
 #[unsafe(no_mangle)]
 pub extern "C" fn zermuita_resolve_evidence(
     alloc: Global,
@@ -51,7 +58,8 @@ pub extern "C" fn zermuita_resolve_evidence(
 ) -> u32
     ensures { AnswersWalk evidence.now out.old out.new report.old report.new result }
 {
-    resolve_octets(alloc, evidence, out, report).number()
+    let blank = Blank::new(1);
+    resolve_counted::<Brand>(alloc, evidence, out, report, blank)
 }
 
 /// Whether a reply is a verdict, as 1 or 0.
