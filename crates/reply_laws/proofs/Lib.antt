@@ -1,0 +1,4 @@
+pub mod Messages
+pub mod Outcomes
+pub mod Served
+pub mod Told
