@@ -1,5 +1,5 @@
 -- Both zones are in order.
-use Rattle.std.proofs.Common.{◌≡◌, ℕ, true, false, List, [], ◌∷◌, length, get_or, map, nat_lt, refl, sym, ap, subst, ◌∙◌, inl, inr}
+use Rattle.std.proofs.Common.{◌≡◌, ℕ, true, false, List, [], ◌∷◌, length, get_or, map, nat_lt, refl, sym, ap, subst, ◌∙◌, inl, inr, arith}
 use Rattle.std.specs.Prelude.{◌==◌, Contains}
 use Rattle.std.specs.List.{AllByRecursion}
 use Rattle.std.proofs.lemmas.Bool.{and_parts, eq-eqb, eqb-true, false≢true, ltb-true}
@@ -113,6 +113,7 @@ pub parent_orderly : IsOrderlyZone (zone_of parent)
 parent_orderly = record {
   servable = record {
     apex = at_place (map owner_of parent_zone.records) p 0 refl refl;
+    typed = (omega arith, (omega arith, (omega arith, (omega arith, tt))));
     ordinary = (refl, (refl, (refl, (refl, tt))));
     real = (refl, (refl, (refl, (refl, tt))));
     stars = (refl, (refl, (refl, (refl, tt))));
@@ -149,6 +150,7 @@ pub child_orderly : IsOrderlyZone (zone_of child)
 child_orderly = record {
   servable = record {
     apex = at_place (map owner_of child_zone.records) s 0 refl refl;
+    typed = (omega arith, (omega arith, (omega arith, (omega arith, tt))));
     ordinary = (refl, (refl, (refl, (refl, tt))));
     real = (refl, (refl, (refl, (refl, tt))));
     stars = (refl, (refl, (refl, (refl, tt))));
